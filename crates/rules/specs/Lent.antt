@@ -1,0 +1,138 @@
+-- What Run and Path answer, and what they leave in every lent place (document 01, "Run and Path", "When the desk says no").
+use mathlib.Core.Bool.{Bool, true, false, cond, _&&_}
+use mathlib.Core.List.{List, [], _∷_, _++_}
+use Prim.Native.Nat.{ℕ, zero, suc, _+_, _*_, _-_, _/_, _%_, _^_}
+use lib.Dec.{eqb, leb}
+use lib.ListN.{length, drop, replicate}
+use Rattle.rules.specs.declared.Entry.{Entry}
+use Rattle.rules.specs.declared.RunAnswer.{RunAnswer}
+use Rattle.rules.specs.declared.RunAnswer.the-variants as ran
+use Rattle.rules.specs.declared.PathAnswer.{PathAnswer}
+use Rattle.rules.specs.declared.PathAnswer.the-variants as path
+use Rattle.rules.specs.Limits.{fileLimit, partyLimit, termLimit, commandLimit, rowWidth, stateBytes, pathPlaces}
+use Rattle.rules.specs.Refusals.{bufferShort, notIssued}
+use Rattle.rules.specs.File.{File}
+use Rattle.rules.specs.Load.{Load, loaded, refused, load}
+use Rattle.rules.specs.State.{State, listed, depthOf, parentOf}
+use Rattle.rules.specs.Run.{reached, outcomesOf, accepted, refusals, issued}
+
+-- The number of an answer (0: none, a run) and its values: of a run accepted, refused, issued; of a path its steps; of a refusal its place.
+unfoldable pub runNumber : RunAnswer → ℕ
+runNumber (ran.Ran a r i) = 0
+runNumber (ran.Refused number place) = number
+
+unfoldable pub runValues : RunAnswer → List ℕ
+runValues (ran.Ran a r i) = a ∷ r ∷ i ∷ []
+runValues (ran.Refused number place) = place ∷ []
+
+unfoldable pub pathNumber : PathAnswer → ℕ
+pathNumber (path.Steps n) = 0
+pathNumber (path.Refused number place) = number
+
+unfoldable pub pathValues : PathAnswer → List ℕ
+pathValues (path.Steps n) = n ∷ []
+pathValues (path.Refused number place) = place ∷ []
+
+-- The buffers lent to a run.
+pub record Lent : Type 0 where
+  pub state : List ℕ
+  pub ledger : List Entry
+  pub outcomes : List ℕ
+
+-- a byte of bits, bit p for party p, of the first n parties
+unfoldable pub bits : ℕ → (ℕ → Bool) → ℕ
+bits zero test = 0
+bits (suc p) test = bits p test + cond (test p) (2 ^ p) 0
+
+-- two bytes, high byte first
+unfoldable pub high : ℕ → ℕ
+high x = x / 256 % 256
+
+unfoldable pub low : ℕ → ℕ
+low x = x % 256
+
+-- the state bytes of a term: known by, TPM table, mark, desk, request (two bytes), the place of its record (two bytes)
+unfoldable pub row : State → ℕ → ℕ → List ℕ
+row s t place =
+    bits partyLimit (λ p. s .knows p t)
+    ∷ bits partyLimit (λ p. s .table p t)
+    ∷ s .mark t
+    ∷ s .desk t
+    ∷ high (s .request t)
+    ∷ low (s .request t)
+    ∷ high place
+    ∷ low place
+    ∷ []
+
+-- the rows of the terms from t on, by their places
+unfoldable pub rows : State → ℕ → List ℕ → List ℕ
+rows s t [] = []
+rows s t (place ∷ places) = row s t place ++ rows s (suc t) places
+
+-- a first part of n places, zero where nothing applies, and what lies beyond it
+unfoldable pub firstPart {ℓ} : {A : Type ℓ} → ℕ → A → List A → List A → List A
+firstPart n none new old = new ++ (replicate (n - length new) none ++ drop n old)
+
+abbrev pub noEntry : Entry
+noEntry = record { certificate = 0; parent = 0; depth = 0 }
+
+unfoldable pub written : List ℕ → List Entry → List ℕ → Lent → Lent
+written state ledger outcomes lent = record {
+  state = firstPart stateBytes 0 state (lent .state);
+  ledger = firstPart termLimit noEntry ledger (lent .ledger);
+  outcomes = firstPart commandLimit 0 outcomes (lent .outcomes);
+}
+
+-- 1: "buffer short"
+unfoldable pub longEnough : Lent → Bool
+longEnough lent = leb stateBytes (length (lent .state)) && leb termLimit (length (lent .ledger)) && leb commandLimit (length (lent .outcomes))
+
+unfoldable pub answered : ℕ → Load → RunAnswer
+answered n (loaded f) = ran.Ran (accepted f n) (refusals f n) (issued f n)
+answered n (refused number place) = ran.Refused number place
+
+-- Run's answer for a file, a count and buffers
+unfoldable pub runAnswer : List ℕ → ℕ → Lent → RunAnswer
+runAnswer bs n lent = cond (longEnough lent) (answered n (load bs)) (ran.Refused bufferShort 0)
+
+unfoldable pub leaves : ℕ → Lent → Load → Lent
+leaves n lent (loaded f) = written (rows (reached f n) 0 (f .places)) (reached f n .ledger) (outcomesOf f n) lent
+leaves n lent (refused number place) = written [] [] [] lent
+
+-- the buffers after Run: 1 and 2 leave all untouched, 3 to 12 the first parts zero
+unfoldable pub runLeaves : List ℕ → ℕ → Lent → Lent
+runLeaves bs n lent = cond (longEnough lent && leb (length bs) fileLimit) (leaves n lent (load bs)) lent
+
+-- a certificate and its parents, so many steps
+unfoldable pub steps : List Entry → ℕ → ℕ → List ℕ
+steps ledger zero c = c ∷ []
+steps ledger (suc n) c = c ∷ steps ledger n (parentOf ledger c)
+
+unfoldable pub found : File → ℕ → ℕ → PathAnswer
+found f n t = cond (listed (reached f n .ledger) t) (path.Steps (depthOf (reached f n .ledger) t)) (path.Refused notIssued t)
+
+unfoldable pub pathAnswered : ℕ → ℕ → Load → PathAnswer
+pathAnswered n t (loaded f) = found f n t
+pathAnswered n t (refused number place) = path.Refused number place
+
+-- Path's answer for a file, a count, buffers, a term and a list of places
+unfoldable pub pathAnswer : List ℕ → ℕ → Lent → ℕ → List ℕ → PathAnswer
+pathAnswer bs n lent t list = cond (longEnough lent && leb pathPlaces (length list)) (pathAnswered n t (load bs)) (path.Refused bufferShort 0)
+
+-- the buffers after Path are those after Run, but for a list that is too short
+unfoldable pub pathBuffers : List ℕ → ℕ → Lent → ℕ → List ℕ → Lent
+pathBuffers bs n lent t list = cond (leb pathPlaces (length list)) (runLeaves bs n lent) lent
+
+unfoldable pub pathWritten : File → ℕ → ℕ → List ℕ → List ℕ
+pathWritten f n t list =
+    cond (listed (reached f n .ledger) t)
+    (steps (reached f n .ledger) (depthOf (reached f n .ledger) t) t ++ drop (depthOf (reached f n .ledger) t + 1) list)
+    list
+
+unfoldable pub pathListed : ℕ → ℕ → List ℕ → Load → List ℕ
+pathListed n t list (loaded f) = pathWritten f n t list
+pathListed n t list (refused number place) = list
+
+-- the list after Path: untouched unless a path is found
+unfoldable pub pathLeaves : List ℕ → ℕ → Lent → ℕ → List ℕ → List ℕ
+pathLeaves bs n lent t list = cond (longEnough lent && leb pathPlaces (length list)) (pathListed n t list (load bs)) list

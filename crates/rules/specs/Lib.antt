@@ -1,0 +1,14 @@
+pub mod Limits
+pub mod Refusals
+pub mod Attributes
+pub mod Term
+pub mod Record
+pub mod File
+pub mod Load
+pub mod Learning
+pub mod State
+pub mod Device
+pub mod Desk
+pub mod Run
+pub mod Lent
+pub mod Listing

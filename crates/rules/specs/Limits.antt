@@ -1,0 +1,46 @@
+-- The numbers of document 01, each once.
+use Prim.Native.Nat.{ℕ, _+_, _*_}
+
+abbrev pub fileLimit : ℕ
+fileLimit = 32768
+
+abbrev pub partyLimit : ℕ
+partyLimit = 8
+
+abbrev pub termLimit : ℕ
+termLimit = 1024
+
+-- commands of a file of 32,768 bytes, 4 bytes at least each
+abbrev pub commandLimit : ℕ
+commandLimit = 8192
+
+-- steps from a certificate to an endorsement certificate
+abbrev pub depthLimit : ℕ
+depthLimit = 8
+
+-- state bytes of a term
+abbrev pub rowWidth : ℕ
+rowWidth = 8
+
+abbrev pub stateBytes : ℕ
+stateBytes = termLimit * rowWidth
+
+-- places of a path: a certificate and depthLimit parents
+abbrev pub pathPlaces : ℕ
+pathPlaces = depthLimit + 1
+
+-- roles of parties
+abbrev pub device : ℕ
+device = 0
+
+abbrev pub tpmMaker : ℕ
+tpmMaker = 1
+
+abbrev pub oemDesk : ℕ
+oemDesk = 2
+
+abbrev pub ownerDesk : ℕ
+ownerDesk = 3
+
+abbrev pub roleCount : ℕ
+roleCount = 4

@@ -1,0 +1,82 @@
+-- The state between commands (document 01, "Run and Path"), and what the set-up leaves.
+use mathlib.Core.Bool.{Bool, false, cond, _||_}
+use mathlib.Core.List.{List, [], _∷_, _++_}
+use Prim.Native.Nat.{ℕ}
+use lib.Dec.{eqb}
+use Rattle.rules.specs.declared.Entry.{Entry}
+use Rattle.rules.specs.File.{File, Setup, learns, holds, signsWith, holdsKey}
+use Rattle.rules.specs.Learning.{Knowledge, grant, learn}
+
+-- marks of numbers and credentials
+abbrev pub numberUsed : ℕ
+numberUsed = 1
+
+abbrev pub credentialOpen : ℕ
+credentialOpen = 2
+
+abbrev pub credentialClosed : ℕ
+credentialClosed = 3
+
+-- Known by, TPM table (of a private key: held), mark, desk that opened a credential, request that it was opened with; the ledger.
+pub record State : Type 0 where
+  pub knows : Knowledge
+  pub table : Knowledge
+  pub mark : ℕ → ℕ
+  pub desk : ℕ → ℕ
+  pub request : ℕ → ℕ
+  pub ledger : List Entry
+
+unfoldable pub nothing : Knowledge
+nothing p t = false
+
+-- what the 20 records taught
+unfoldable pub taught : File → List Setup → Knowledge
+taught f [] = nothing
+taught f (learns q u ∷ xs) = learn f q u (taught f xs)
+taught f (holds q k ∷ xs) = taught f xs
+taught f (signsWith q k ∷ xs) = taught f xs
+
+-- what the set-up leaves
+unfoldable pub start : File → State
+start f = record { knows = taught f (f .setup); table = holdsKey f; mark = λ t. 0; desk = λ t. 0; request = λ t. 0; ledger = [] }
+
+-- a column with x at t
+unfoldable pub put : (ℕ → ℕ) → ℕ → ℕ → ℕ → ℕ
+put column t x u = cond (eqb u t) x (column u)
+
+-- the ledger has an entry for a certificate; the depth of that entry, 0 where there is none; its parent
+unfoldable pub listed : List Entry → ℕ → Bool
+listed [] c = false
+listed (e ∷ es) c = eqb (e .certificate) c || listed es c
+
+unfoldable pub depthOf : List Entry → ℕ → ℕ
+depthOf [] c = 0
+depthOf (e ∷ es) c = cond (eqb (e .certificate) c) (e .depth) (depthOf es c)
+
+unfoldable pub parentOf : List Entry → ℕ → ℕ
+parentOf [] c = 0
+parentOf (e ∷ es) c = cond (eqb (e .certificate) c) (e .parent) (parentOf es c)
+
+-- What commands do to the state.
+unfoldable pub learnt : File → State → ℕ → ℕ → State
+learnt f s p t = record { knows = learn f p t (s .knows); table = s .table; mark = s .mark; desk = s .desk; request = s .request; ledger = s .ledger }
+
+unfoldable pub ticketed : State → ℕ → ℕ → State
+ticketed s p h = record { knows = s .knows; table = grant (s .table) p h; mark = s .mark; desk = s .desk; request = s .request; ledger = s .ledger }
+
+-- the number is used; the credential is open, with the request and the desk
+unfoldable pub opening : State → ℕ → ℕ → ℕ → ℕ → State
+opening s number credential request desk = record {
+  knows = s .knows;
+  table = s .table;
+  mark = put (put (s .mark) number numberUsed) credential credentialOpen;
+  desk = put (s .desk) credential desk;
+  request = put (s .request) credential request;
+  ledger = s .ledger;
+}
+
+unfoldable pub closing : State → ℕ → State
+closing s credential = record { knows = s .knows; table = s .table; mark = put (s .mark) credential credentialClosed; desk = s .desk; request = s .request; ledger = s .ledger }
+
+unfoldable pub entered : State → Entry → State
+entered s e = record { knows = s .knows; table = s .table; mark = s .mark; desk = s .desk; request = s .request; ledger = s .ledger ++ (e ∷ []) }

@@ -1,0 +1,123 @@
+// The values that the rules and the code both speak of (document 01, "Terms", "Run and Path").
+ghost use mathlib.Core.Path.{_≡_};
+ghost use Rattle.rules.specs.Term.{kindOf, sameSubject};
+ghost use Rattle.rules.specs.Attributes.{has, iakAttributes, ekAttributes, deskKeyAttributes, sameAttributes};
+
+// What a key may do: a sum of the four constants.
+pub struct Attributes {
+    pub bits: u8,
+}
+
+impl Attributes {
+    pub const RESTRICTED: u8 = 1;
+
+    pub const SIGN: u8 = 2;
+
+    pub const DECRYPT: u8 = 4;
+
+    pub const FIXED_TPM: u8 = 8;
+
+    // The attributes of an attestation key (IAK or LAK).
+    pub fn iak() -> Attributes
+        ensures { λ r. ⌜ r ≡ iakAttributes ⌝ }
+    {
+        Attributes {
+            bits: Attributes::RESTRICTED + Attributes::SIGN + Attributes::FIXED_TPM,
+        }
+    }
+
+    // The attributes of an endorsement key.
+    pub fn ek() -> Attributes
+        ensures { λ r. ⌜ r ≡ ekAttributes ⌝ }
+    {
+        Attributes {
+            bits: Attributes::RESTRICTED + Attributes::DECRYPT + Attributes::FIXED_TPM,
+        }
+    }
+
+    // The attributes of the signing key of a desk or a TPM maker.
+    pub fn desk_key() -> Attributes
+        ensures { λ r. ⌜ r ≡ deskKeyAttributes ⌝ }
+    {
+        Attributes {
+            bits: Attributes::SIGN + Attributes::FIXED_TPM,
+        }
+    }
+
+    pub fn same(self, other: Attributes) -> bool
+        ensures { λ r. ⌜ r ≡ sameAttributes self other ⌝ }
+    {
+        self.bits == other.bits
+    }
+}
+
+pub enum Subject {
+    Tpm(u16),
+    Device(u16),
+}
+
+pub enum Term {
+    PublicKey(u16, Attributes),
+    PrivateKey(u16, Attributes),
+    Hash(u16),
+    Signature(u16, u16),
+    Attest(u16),
+    Credential(u16, u16, u16),
+    Number(u16),
+    IdevidRequest(Subject, u16, u16),
+    LdevidRequest(u16, u16),
+    Certificate(u16, Subject, u16),
+    Pair(u16, u16),
+}
+
+pub fn kind_of(t: Term) -> u8
+    ensures { λ r. ⌜ r ≡ kindOf t ⌝ }
+{
+    match t {
+        Term::PublicKey(_, _) => 0x10,
+        Term::PrivateKey(_, _) => 0x11,
+        Term::Hash(_) => 0x12,
+        Term::Signature(_, _) => 0x13,
+        Term::Attest(_) => 0x14,
+        Term::Credential(_, _, _) => 0x15,
+        Term::Number(_) => 0x16,
+        Term::IdevidRequest(_, _, _) => 0x17,
+        Term::LdevidRequest(_, _) => 0x18,
+        Term::Certificate(_, _, _) => 0x19,
+        Term::Pair(_, _) => 0x1A,
+    }
+}
+
+pub fn same_subject(a: Subject, b: Subject) -> bool
+    ensures { λ r. ⌜ r ≡ sameSubject a b ⌝ }
+{
+    match a {
+        Subject::Tpm(m) => match b {
+            Subject::Tpm(n) => m == n,
+            Subject::Device(_) => false,
+        },
+        Subject::Device(m) => match b {
+            Subject::Tpm(_) => false,
+            Subject::Device(n) => m == n,
+        },
+    }
+}
+
+// A line of the ledger: an issued certificate, its parent and how many steps lead to an endorsement certificate.
+pub struct Entry {
+    pub certificate: u16,
+    pub parent: u16,
+    pub depth: u16,
+}
+
+// What Run answers: the commands accepted and refused and the certificates issued, or a refusal with its place.
+pub enum RunAnswer {
+    Ran(u32, u32, u32),
+    Refused(u32, u32),
+}
+
+// What Path answers: the steps of the path, or a refusal with its place.
+pub enum PathAnswer {
+    Steps(u32),
+    Refused(u32, u32),
+}

@@ -1,0 +1,181 @@
+-- Demand 3, proved: of every file that loads and every n.
+-- Assumes nothing.
+use mathlib.Core.Path.{_≡_, refl, sym, ap, subst, subst⁻¹, _∙_}
+use mathlib.Core.Logic.{_⊎_, inl, inr, ⊎-elim, _↔_}
+use mathlib.Core.Bool.{Bool, true}
+use mathlib.Core.List.{List, [], _∷_, List·Memᴰ, List·Memᴰ·cases-cons, List·Memᴰ·not-nil}
+use mathlib.Core.Option.{some}
+use Prim.Native.Nat.{ℕ, zero, suc, _<_, _≤_}
+use native.Mathlib.Omega.{arith}
+use native.Mathlib.Nat.{le-refl}
+use lib.ListN.{length, getElem?}
+use Rattle.rules.specs.declared.Attributes.{Attributes}
+use Rattle.rules.specs.declared.Entry.{Entry}
+use Rattle.rules.specs.declared.Subject.{Subject}
+use Rattle.rules.specs.declared.Subject.the-variants.{Device}
+use Rattle.rules.specs.Limits.{device, tpmMaker}
+use Rattle.rules.specs.Attributes.{has, fixedTpm}
+use Rattle.rules.specs.Term.{privateKeyKind, certificateKind}
+use Rattle.rules.specs.File.{File, Setup, holds, signsWith, roleOf, kind, term, subject, attributes, paired, certifiedKey, signer}
+use Rattle.rules.specs.Load.{load, loaded}
+use Rattle.rules.specs.State.{listed}
+use Rattle.rules.specs.Run.{reached}
+use Rattle.theorems.specs.Residency.{Known, Held, Family, families, SignedBy, DeskSigned, EntryAt, Listed, Parent, Endorsement, Path, ends, step, All, AllButLast, Sound, Resident, Demand3}
+use Rattle.theorems.proofs.Loading.{Checked, checked}
+use Rattle.theorems.proofs.Terms.{pair-kinds, pair-attributes, pair-term, private-declared}
+use Rattle.theorems.proofs.Ledgers.{at-listed, listed-found}
+use Rattle.theorems.proofs.Invariant.{DeviceHolds, EntryGood, Invariant}
+use Rattle.theorems.proofs.Reaching.{reached-invariant}
+use Rattle.theorems.proofs.History.{bits-known, known-bits, entry-parent}
+
+module _ (f : File) (ck : Checked f) (n : ℕ) where
+  inv : Invariant f (reached f n)
+  inv = reached-invariant f ck n
+
+  -- the private half of a FixedTPM key is held by one TPM
+  pub held-once : (p q k : ℕ) → has (attributes f k) fixedTpm ≡ true → Held f p k → Held f q k → p ≡ q
+  held-once p q k h a b =
+      ck .holdsOnce p q (a .half) (a .given) (subst⁻¹ (λ (j : ℕ). List·Memᴰ (holds q j) (f .setup)) same (b .given))
+      (subst (λ (x : Attributes). has x fixedTpm ≡ true) (pair-attributes f k (a .half) (a .pairs)) h)
+    where
+      same : a .half ≡ b .half
+      same =
+          ck .distinct (a .half) (b .half) (private-declared f (a .half) (pair-kinds f k (a .half) (a .pairs) .1))
+          (private-declared f (b .half) (pair-kinds f k (b .half) (b .pairs) .1)) (pair-term f k (a .half) (b .half) (a .pairs) (b .pairs))
+
+  good : (i : ℕ) (e : Entry) → EntryAt f n i e → EntryGood f (reached f n) i e
+  good i e h = inv .entries i e h
+
+  is-listed : (i : ℕ) (e : Entry) → EntryAt f n i e → Listed f n (e .certificate)
+  is-listed i e h = record { place = i; entry = e; here = h; same = refl }
+
+  -- the path of an entry: its certificate, its parent and those above
+  record Chain (e : Entry) : Type 0 where
+    more : List ℕ
+    isPath : Path f n (e .certificate) (e .certificate ∷ e .parent ∷ more)
+    steps : suc (length more) ≡ e .depth
+    tpm : ℕ
+    isDevice : roleOf f tpm ≡ device
+    held : Held f tpm (certifiedKey f (e .certificate))
+    heldMore : All (λ c. Held f tpm (certifiedKey f c)) (e .parent ∷ more)
+    serial : ℕ
+    subjectIs : subject f (e .certificate) ≡ Device serial
+    subjectMore : AllButLast (λ c. subject f c ≡ Device serial) (e .parent ∷ more)
+
+  -- one step to an endorsement certificate
+  chain-ends : (i : ℕ) (e : Entry) → EntryAt f n i e → e .depth ≡ 1 → Endorsement f (e .parent) → (m : ℕ) → subject f (e .certificate) ≡ Device m → Chain e
+  chain-ends i e h d x m u =
+      let g = good i e h .held in
+      record {
+        more = [];
+        isPath = step (is-listed i e h) (entry-parent f ck n i e h) (ends x);
+        steps = sym d;
+        tpm = g .tpm;
+        isDevice = g .isDevice;
+        held = g .first;
+        heldMore = (g .second, tt);
+        serial = m;
+        subjectIs = u;
+        subjectMore = tt;
+      }
+
+  -- one step to a certificate that is listed earlier
+  chain-more : (i j : ℕ) (e g : Entry) → EntryAt f n i e → EntryAt f n j g → g .certificate ≡ e .parent → e .depth ≡ suc (g .depth) → subject f (e .certificate) ≡ subject f (e .parent) → Chain g → Chain e
+  chain-more i j e g h k c d u r = record {
+    more = g .parent ∷ r .more;
+    isPath = step (is-listed i e h) (entry-parent f ck n i e h) (subst (λ (x : ℕ). Path f n x (x ∷ g .parent ∷ r .more)) c (r .isPath));
+    steps = let q = r .steps in omega arith;
+    tpm = r .tpm;
+    isDevice = r .isDevice;
+    held = subst (λ (p : ℕ). Held f p (certifiedKey f (e .certificate))) one (x .first);
+    heldMore = (parentHeld, r .heldMore);
+    serial = r .serial;
+    subjectIs = u ∙ parentSubject;
+    subjectMore = (parentSubject, r .subjectMore);
+  }
+    where
+      x : DeviceHolds f (certifiedKey f (e .certificate)) (certifiedKey f (e .parent))
+      x = good i e h .held
+
+      parentHeld : Held f (r .tpm) (certifiedKey f (e .parent))
+      parentHeld = subst (λ (t : ℕ). Held f (r .tpm) (certifiedKey f t)) c (r .held)
+
+      parentSubject : subject f (e .parent) ≡ Device (r .serial)
+      parentSubject = ap (subject f) (sym c) ∙ r .subjectIs
+
+      one : x .tpm ≡ r .tpm
+      one =
+          held-once (x .tpm) (r .tpm) (certifiedKey f (e .parent))
+          (subst (λ (t : ℕ). has (attributes f (certifiedKey f t)) fixedTpm ≡ true) c (good j g k .fixed)) (x .second) parentHeld
+
+  chain : (k i : ℕ) → i < k → (e : Entry) → EntryAt f n i e → Chain e
+  chain zero i l e h = absurd (omega arith)
+  chain (suc k) i l e h = go (good i e h .earlier) (chain k)
+    where
+      go : ((e .depth ≡ 1) × Endorsement f (e .parent) × ((m : ℕ) × (subject f (e .certificate) ≡ Device m)))
+          ⊎ ((j : ℕ) × (g : Entry) × (j < i) × (getElem? (reached f n .ledger) j ≡ some g) × (g .certificate ≡ e .parent) × (e .depth ≡ suc (g .depth)) × (subject f (e .certificate) ≡ subject f (e .parent)))
+          → ((j : ℕ) → j < k → (g : Entry) → EntryAt f n j g → Chain g) → Chain e
+      go (inl w) below = chain-ends i e h (w .0) (w .1) (w .2 .0) (w .2 .1)
+      go (inr w) below =
+          let l′ = w .2 in
+          chain-more i (w .0) e (w .1) h (w .3) (w .4) (w .5) (w .6) (below (w .0) (omega arith) (w .1) (w .3))
+
+  sound : (i : ℕ) (e : Entry) → EntryAt f n i e → Sound f n i e
+  sound i e h =
+      let g = good i e h in
+      let c = chain (suc i) i (le-refl (suc i)) e h in
+      record {
+        family = g .family;
+        familyKnown = g .familyKnown;
+        signed = g .signed;
+        keyAttributes = g .keyAttributes;
+        parent = entry-parent f ck n i e h;
+        earlier = ⊎-elim (λ w. inl (w .0, w .1)) (λ w. inr (w .0, w .1, w .2, w .3, w .4, w .5)) (g .earlier);
+        path = e .certificate ∷ e .parent ∷ c .more;
+        isPath = c .isPath;
+        steps = ap suc (c .steps);
+        least = g .least;
+        most = g .most;
+        tpm = c .tpm;
+        isDevice = c .isDevice;
+        held = (c .held, c .heldMore);
+        serial = c .serial;
+        subjects = (c .subjectIs, c .subjectMore);
+      }
+
+  listed-known : (t : ℕ) → Listed f n t → DeskSigned f t × ((p : ℕ) × (p < length (f .roles)) × Known f n p t)
+  listed-known t l =
+      subst (λ (x : ℕ). DeskSigned f x × ((p : ℕ) × (p < length (f .roles)) × Known f n p x)) (l .same) (
+        record { family = g .family; known = g .familyKnown; signed = g .signed },
+        (g .signed .desk, inv .party (g .signed .desk) (l .entry .certificate) (g .known), bits-known f n (g .signed .desk) (l .entry .certificate) (g .known)),
+      )
+    where
+      g : EntryGood f (reached f n) (l .place) (l .entry)
+      g = good (l .place) (l .entry) (l .here)
+
+  -- the signing role of a family is no TPM maker's
+  family-role : (x : Family) → List·Memᴰ x families → x .signerRole ≡ tpmMaker → ⊥
+  family-role x m e =
+      ⊎-elim (λ q. let z = sym (ap (λ (y : Family). y .signerRole) q) ∙ e in omega arith)
+      (λ m. ⊎-elim (λ q. let z = sym (ap (λ (y : Family). y .signerRole) q) ∙ e in omega arith) (λ m. List·Memᴰ·not-nil m) (List·Memᴰ·cases-cons m))
+      (List·Memᴰ·cases-cons m)
+
+  known-listed : (p t : ℕ) → Known f n p t → DeskSigned f t → Listed f n t
+  known-listed p t k d =
+      let x = d .signed in
+      let r = inv .good p t (known-bits f ck n p t k) .issued (x .isCertificate) (x .desk) (x .deskKey) (λ e. family-role (d .family) (d .known) (sym (x .deskRole) ∙ e)) in
+      let w = listed-found (reached f n .ledger) t r in
+      record { place = w .place; entry = w .entry; here = w .here; same = w .same }
+
+  resident : Resident f n
+  resident = record {
+    bits = λ p t. (bits-known f n p t, known-bits f ck n p t);
+    listedKnown = listed-known;
+    knownListed = known-listed;
+    once = inv .once;
+    sound = sound;
+    noPrivateKey = λ p t k. inv .good p t (known-bits f ck n p t k) .notPrivate;
+  }
+
+pub demand3 : Demand3
+demand3 bytes f e n = resident f (checked bytes f e) n

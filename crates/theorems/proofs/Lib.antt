@@ -1,0 +1,17 @@
+pub mod Learning
+pub mod LoadingTerms
+pub mod LoadingFields
+pub mod LoadingSetup
+pub mod Loading
+pub mod Terms
+pub mod Passing
+pub mod Running
+pub mod Ledgers
+pub mod Invariant
+pub mod Inside
+pub mod DeviceSteps
+pub mod Knowers
+pub mod DeskSteps
+pub mod Reaching
+pub mod History
+pub mod Demand3

@@ -1,0 +1,198 @@
+-- The fields of a record that loads: what loading checked of them, and so of the term or the set-up record that they make.
+-- Assumes nothing.
+use mathlib.Core.Path.{_≡_, refl, subst}
+use mathlib.Core.Bool.{Bool, true, false, cond, _&&_, false≢true}
+use mathlib.Core.List.{List, [], _∷_}
+use Prim.Native.Nat.{ℕ, zero, suc, _+_, _<_, _≤_}
+use native.Mathlib.Omega.{arith}
+use lib.Dec.{eqb, ltb, leb}
+use borrow.Author.Tests.{ltb-true, leb-true, eqb-true, eqb-false}
+use lib.ListN.{getD, length}
+use Rattle.rules.specs.Term.{privateKeyKind, signatureKind, attestKind}
+use Rattle.rules.specs.Refusals.{outOfRange, wrongKind}
+use Rattle.rules.specs.Record.{Field, roleField, identifierField, attributesField, subjectField, partyField, anyTerm, termOf, signedAttest, width, fieldsOf, sectionOf, termSection, setupSection, word}
+use Rattle.rules.specs.File.{File, Setup, learns, holds, signsWith, kind, isKind, term, message}
+use Rattle.rules.specs.Load.{first, refuseUnless, declaredFault, fieldFault, fieldsFault, termAt, setupAt}
+use Rattle.theorems.proofs.LoadingTerms.{Names}
+
+-- what loading checked of a set-up record's fields
+abbrev pub SetupFields : File → Setup → Type 0
+SetupFields f (learns p t) = p < length (f .roles)
+SetupFields f (holds p k) = kind f k ≡ privateKeyKind
+SetupFields f (signsWith p k) = Unit {0}
+
+-- the first of two refusals is none
+pub first-zero : (m n : ℕ) → first m n ≡ 0 → (m ≡ 0) × (n ≡ 0)
+unfolding first
+first-zero zero n e = (refl, e)
+first-zero (suc m) n e = absurd (omega arith)
+
+-- a test that refused nothing passed
+pub refuse-zero : (n : ℕ) (t : Bool) → 0 < n → refuseUnless n t ≡ 0 → t ≡ true
+unfolding refuseUnless
+refuse-zero n true h e = refl
+refuse-zero n false h e = absurd (omega arith)
+
+pub both-true : (p q : Bool) → (p && q) ≡ true → (p ≡ true) × (q ≡ true)
+both-true true q e = (refl, e)
+both-true false q e = absurd (false≢true e)
+
+-- what a field that passed tells
+abbrev pub Passed : File → Field → ℕ → List ℕ → Type 0
+Passed f roleField i bs = Unit {0}
+Passed f identifierField i bs = Unit {0}
+Passed f attributesField i bs = Unit {0}
+Passed f subjectField i bs = Unit {0}
+Passed f partyField i bs = getD bs i 0 < length (f .roles)
+Passed f anyTerm i bs = word bs i < length (f .terms)
+Passed f (termOf k) i bs = (word bs i < length (f .terms)) × (kind f (word bs i) ≡ k)
+Passed f signedAttest i bs = (kind f (word bs i) ≡ signatureKind) × (kind f (message f (word bs i)) ≡ attestKind)
+
+abbrev pub size : Field → ℕ
+size roleField = 1
+size identifierField = 2
+size attributesField = 1
+size subjectField = 3
+size partyField = 1
+size anyTerm = 2
+size (termOf k) = 2
+size signedAttest = 2
+
+abbrev pub AllPassed : File → List Field → ℕ → List ℕ → Type 0
+AllPassed f [] i bs = Unit {0}
+AllPassed f (x ∷ xs) i bs = Passed f x i bs × AllPassed f xs (i + size x) bs
+
+declared-below : (f : File) (t : ℕ) → declaredFault f t ≡ 0 → t < length (f .terms)
+unfolding declaredFault
+declared-below f t e = ltb-true t (length (f .terms)) (refuse-zero outOfRange (ltb t (length (f .terms))) (omega arith) e)
+
+is-kind : (f : File) (k t : ℕ) → refuseUnless wrongKind (isKind f k t) ≡ 0 → kind f t ≡ k
+unfolding isKind
+is-kind f k t e = eqb-true (kind f t) k (refuse-zero wrongKind (isKind f k t) (omega arith) e)
+
+field-passed : (f : File) (x : Field) (i : ℕ) (bs : List ℕ) → fieldFault f x i bs ≡ 0 → Passed f x i bs
+unfolding fieldFault
+field-passed f roleField i bs e = tt
+field-passed f identifierField i bs e = tt
+field-passed f attributesField i bs e = tt
+field-passed f subjectField i bs e = tt
+field-passed f partyField i bs e = ltb-true (getD bs i 0) (length (f .roles)) (refuse-zero outOfRange (ltb (getD bs i 0) (length (f .roles))) (omega arith) e)
+field-passed f anyTerm i bs e = declared-below f (word bs i) e
+field-passed f (termOf k) i bs e =
+    (declared-below f (word bs i) (first-zero _ _ e .0), is-kind f k (word bs i) (first-zero _ _ e .1))
+field-passed f signedAttest i bs e =
+    (is-kind f signatureKind (word bs i) (first-zero _ _ (first-zero _ _ e .1) .0), is-kind f attestKind (message f (word bs i)) (first-zero _ _ (first-zero _ _ e .1) .1))
+
+sized : (x : Field) → width x ≡ size x
+unfolding width
+sized roleField = refl
+sized identifierField = refl
+sized attributesField = refl
+sized subjectField = refl
+sized partyField = refl
+sized anyTerm = refl
+sized (termOf k) = refl
+sized signedAttest = refl
+
+pub passed : (f : File) (bs : List ℕ) (xs : List Field) (i : ℕ) → fieldsFault f xs i bs ≡ 0 → AllPassed f xs i bs
+unfolding fieldsFault
+passed f bs [] i e = tt
+passed f bs (x ∷ xs) i e =
+    let h = first-zero _ _ e in
+    (field-passed f x i bs (h .0), passed f bs xs (i + size x) (subst (λ (n : ℕ). fieldsFault f xs (i + n) bs ≡ 0) (sized x) (h .1)))
+
+-- P holds of the n numbers from i on
+abbrev pub Each : (ℕ → Type 0) → ℕ → ℕ → Type 0
+Each P zero i = Unit {0}
+Each P (suc n) i = P i × Each P n (i + 1)
+
+each-go : (P : ℕ → Type 0) (n i : ℕ) → P i × Each P n (i + 1) → (k : ℕ) → i ≤ k → k < i + suc n → (t : Bool) → eqb i k ≡ t → ((i + 1 ≤ k) → (k < i + 1 + n) → P k) → P k
+each-go P n i ps k lo hi true e r = subst P (eqb-true i k e) (ps .0)
+each-go P n i ps k lo hi false e r =
+    let ne : i ≡ k → ⊥ = eqb-false i k e in
+    r (omega arith) (omega arith)
+
+pub each : (P : ℕ → Type 0) (n i : ℕ) → Each P n i → (k : ℕ) → i ≤ k → k < i + n → P k
+each P zero i ps k lo hi = absurd (omega arith)
+each P (suc n) i ps k lo hi = each-go P n i ps k lo hi (eqb i k) refl (each P n (i + 1) (ps .1) k)
+
+-- the tests of sectionOf
+abbrev Range : ℕ → Bool → Bool → Bool → Bool → Type 0
+Range s a b c d = _≡_ {A = ℕ} (cond a 1 (cond b 2 (cond c 3 (cond d 4 0)))) s
+
+second : (a b c d : Bool) → Range 2 a b c d → b ≡ true
+second true b c d e = absurd (omega arith)
+second false true c d e = refl
+second false false true d e = absurd (omega arith)
+second false false false true e = absurd (omega arith)
+second false false false false e = absurd (omega arith)
+
+third : (a b c d : Bool) → Range 3 a b c d → c ≡ true
+third true b c d e = absurd (omega arith)
+third false true c d e = absurd (omega arith)
+third false false true d e = refl
+third false false false true e = absurd (omega arith)
+third false false false false e = absurd (omega arith)
+
+pub fourth : (a b c d : Bool) → Range 4 a b c d → d ≡ true
+fourth true b c d e = absurd (omega arith)
+fourth false true c d e = absurd (omega arith)
+fourth false false true d e = absurd (omega arith)
+fourth false false false true e = refl
+fourth false false false false e = absurd (omega arith)
+
+pub within : (lo k hi : ℕ) → (leb lo k && leb k hi) ≡ true → (lo ≤ k) × (k < suc hi)
+within lo k hi e =
+    let h = both-true (leb lo k) (leb k hi) e in
+    (leb-true lo k (h .0), (omega (arith, leb-true k hi (h .1))))
+
+abbrev TermNames : File → List ℕ → ℕ → Type 0
+TermNames f bs k = AllPassed f (fieldsOf k) 0 bs → Names (f .terms) (length (f .terms)) (termAt k bs)
+
+abbrev SetupPassed : File → List ℕ → ℕ → Type 0
+SetupPassed f bs k = AllPassed f (fieldsOf k) 0 bs → SetupFields f (setupAt k bs)
+
+module _ (f : File) (bs : List ℕ) where
+  each-term : Each (TermNames f bs) 11 0x10
+  unfolding fieldsOf sectionOf termAt kind term
+  each-term = (
+    (λ h. tt),
+    (
+      (λ h. tt),
+      (
+        (λ h. tt),
+        (
+          (λ h. h .0),
+          (
+            (λ h. h .0),
+            (
+              (λ h. h .1 .0 .1),
+              (
+                (λ h. tt),
+                (
+                  (λ h. (h .1 .0 .0, h .1 .1 .0 .0, h .1 .0 .1)),
+                  ((λ h. (h .0, h .1 .0 .0)), ((λ h. h .0), ((λ h. (h .0, h .1 .0)), tt))),
+                ),
+              ),
+            ),
+          ),
+        ),
+      ),
+    ),
+  )
+
+  each-setup : Each (SetupPassed f bs) 3 0x20
+  unfolding fieldsOf sectionOf setupAt
+  each-setup = ((λ h. h .0), ((λ h. h .1 .0 .1), ((λ h. tt), tt)))
+
+  pub term-names : (k : ℕ) → sectionOf k ≡ termSection → fieldsFault f (fieldsOf k) 0 bs ≡ 0 → Names (f .terms) (length (f .terms)) (termAt k bs)
+  unfolding sectionOf
+  term-names k s e =
+      let r = within 0x10 k 0x1A (second (eqb k 1) _ (leb 0x20 k && leb k 0x22) (leb 0x30 k && leb k 0x40) s) in
+      each (TermNames f bs) 11 0x10 each-term k (r .0) (omega arith) (passed f bs (fieldsOf k) 0 e)
+
+  pub setup-passed : (k : ℕ) → sectionOf k ≡ setupSection → fieldsFault f (fieldsOf k) 0 bs ≡ 0 → SetupFields f (setupAt k bs)
+  unfolding sectionOf
+  setup-passed k s e =
+      let r = within 0x20 k 0x22 (third (eqb k 1) (leb 0x10 k && leb k 0x1A) _ (leb 0x30 k && leb k 0x40) s) in
+      each (SetupPassed f bs) 3 0x20 each-setup k (r .0) (omega arith) (passed f bs (fieldsOf k) 0 e)

@@ -1,0 +1,71 @@
+-- Laws of a command and of the first n commands.
+--     after-accepted, after-refused     an accepted command has its effect; a refused one changes nothing
+--     reached-next, reached-end         the first n + 1 commands are the first n and then one, where there is one more
+-- Assumes nothing.
+use mathlib.Core.Path.{_≡_, refl, sym, ap, subst, _∙_}
+use mathlib.Core.Logic.{_⊎_, inl, inr, ⊎-elim}
+use mathlib.Core.Bool.{Bool, true, false}
+use mathlib.Core.List.{List, [], _∷_, _++_, reverse, reverseAux, List·Memᴰ, List·Memᴰ·head, List·Memᴰ·tail, List·Memᴰ·cases-cons}
+use mathlib.Core.Option.{Option, none, some}
+use Prim.Native.Nat.{ℕ, zero, suc, _<_}
+use native.Mathlib.Omega.{arith}
+use lib.Dec.{eqb}
+use lib.ListN.{length, take, getElem?}
+use borrow.Author.Tests.{eq-eqb, ne-eqb}
+use Rattle.rules.specs.File.{File, Command}
+use Rattle.rules.specs.Load.{commandsOf}
+use Rattle.rules.specs.State.{State, start}
+use Rattle.rules.specs.Run.{effectOf, outcome, after, run, firstCommands, reached}
+
+pub after-accepted : (f : File) (s : State) (c : Command) → outcome f s c ≡ 0 → after f s c ≡ effectOf f s c
+unfolding after
+after-accepted f s c e = rw (eq-eqb (outcome f s c) 0 e)
+
+pub after-refused : (f : File) (s : State) (c : Command) → (outcome f s c ≡ 0 → ⊥) → after f s c ≡ s
+unfolding after
+after-refused f s c n = rw (ne-eqb (outcome f s c) 0 n)
+
+-- the commands in two parts
+pub run-append : (f : File) (xs ys : List Command) (s : State) → run f (xs ++ ys) s ≡ run f ys (run f xs s)
+unfolding run
+run-append f [] ys s = refl
+run-append f (x ∷ xs) ys s = run-append f xs ys (after f s x)
+
+module _ {A : Type 0} where
+  take-next : (xs : List A) (n : ℕ) (x : A) → getElem? xs n ≡ some x → take (suc n) xs ≡ take n xs ++ (x ∷ [])
+  take-next [] n x e = absurd (let z : _≡_ {A = ℕ} 0 1 = cc in omega arith)
+  take-next (y ∷ xs) zero x e = let h : y ≡ x = cc in rw h
+  take-next (y ∷ xs) (suc n) x e = ap (λ (l : List A). y ∷ l) (take-next xs n x e)
+
+  take-end : (xs : List A) (n : ℕ) → getElem? xs n ≡ none → take (suc n) xs ≡ take n xs
+  take-end [] zero e = refl
+  take-end [] (suc n) e = refl
+  take-end (y ∷ xs) zero e = absurd (let z : _≡_ {A = ℕ} 0 1 = cc in omega arith)
+  take-end (y ∷ xs) (suc n) e = ap (λ (l : List A). y ∷ l) (take-end xs n e)
+
+  pub at-member : (xs : List A) (n : ℕ) (x : A) → getElem? xs n ≡ some x → List·Memᴰ x xs
+  at-member [] n x e = absurd (let z : _≡_ {A = ℕ} 0 1 = cc in omega arith)
+  at-member (y ∷ xs) zero x e = List·Memᴰ·head (let h : x ≡ y = cc in h)
+  at-member (y ∷ xs) (suc n) x e = List·Memᴰ·tail (at-member xs n x e)
+
+  reversed-member : (xs ys : List A) (x : A) → List·Memᴰ x (reverseAux xs ys) → List·Memᴰ x xs ⊎ List·Memᴰ x ys
+  reversed-member [] ys x m = inr m
+  reversed-member (y ∷ xs) ys x m =
+      ⊎-elim (λ i. inl (List·Memᴰ·tail i)) (λ i. ⊎-elim (λ h. inl (List·Memᴰ·head h)) inr (List·Memᴰ·cases-cons i)) (reversed-member xs (y ∷ ys) x m)
+
+-- a command of the file's order is one of the file
+pub command-member : (f : File) (n : ℕ) (c : Command) → getElem? (commandsOf f) n ≡ some c → List·Memᴰ c (f .commands)
+unfolding commandsOf
+command-member f n c e = ⊎-elim (λ i. i) (λ i. elim i [ ]) (reversed-member (f .commands) [] c (at-member (reverse (f .commands)) n c e))
+
+pub reached-next : (f : File) (n : ℕ) (c : Command) → getElem? (commandsOf f) n ≡ some c → reached f (suc n) ≡ after f (reached f n) c
+unfolding reached firstCommands run
+reached-next f n c e = ap (λ (l : List Command). run f l (start f)) (take-next (commandsOf f) n c e) ∙ run-append f (take n (commandsOf f)) (c ∷ []) (start f)
+
+pub reached-end : (f : File) (n : ℕ) → getElem? (commandsOf f) n ≡ none → reached f (suc n) ≡ reached f n
+unfolding reached firstCommands
+reached-end f n e = ap (λ (l : List Command). run f l (start f)) (take-end (commandsOf f) n e)
+
+pub reached-none : (f : File) → reached f 0 ≡ start f
+unfolding reached firstCommands run
+reached-none f = refl
