@@ -5,6 +5,8 @@ use Prim.Native.Nat.{ℕ, zero, suc, _+_, _*_, _-_, _/_, _%_, _^_}
 use lib.Dec.{eqb, leb}
 use lib.ListN.{length, drop, replicate}
 use Rattle.rules.specs.declared.Entry.{Entry}
+use Rattle.rules.specs.declared.LoadAnswer.{LoadAnswer}
+use Rattle.rules.specs.declared.LoadAnswer.the-variants as load
 use Rattle.rules.specs.declared.RunAnswer.{RunAnswer}
 use Rattle.rules.specs.declared.RunAnswer.the-variants as ran
 use Rattle.rules.specs.declared.PathAnswer.{PathAnswer}
@@ -12,11 +14,20 @@ use Rattle.rules.specs.declared.PathAnswer.the-variants as path
 use Rattle.rules.specs.Limits.{fileLimit, partyLimit, termLimit, commandLimit, rowWidth, stateBytes, pathPlaces}
 use Rattle.rules.specs.Refusals.{bufferShort, notIssued}
 use Rattle.rules.specs.File.{File}
-use Rattle.rules.specs.Load.{Load, loaded, refused, load}
-use Rattle.rules.specs.State.{State, listed, depthOf, parentOf}
+use Rattle.rules.specs.Load.{Load, loaded, refused, load as loadFile}
+use Rattle.rules.specs.State.{State, start, listed, depthOf, parentOf}
 use Rattle.rules.specs.Run.{reached, outcomesOf, accepted, refusals, issued}
 
--- The number of an answer (0: none, a run) and its values: of a run accepted, refused, issued; of a path its steps; of a refusal its place.
+-- The number of an answer (0: no refusal) and its values: of loading parties, terms and commands; of a run accepted, refused and issued;
+-- of a path its steps; of a refusal its place.
+unfoldable pub loadNumber : LoadAnswer → ℕ
+loadNumber (load.Loaded p t c) = 0
+loadNumber (load.Refused number place) = number
+
+unfoldable pub loadValues : LoadAnswer → List ℕ
+loadValues (load.Loaded p t c) = p ∷ t ∷ c ∷ []
+loadValues (load.Refused number place) = place ∷ []
+
 unfoldable pub runNumber : RunAnswer → ℕ
 runNumber (ran.Ran a r i) = 0
 runNumber (ran.Refused number place) = number
@@ -76,6 +87,21 @@ firstPart n none new old = new ++ (replicate (n - length new) none ++ drop n old
 abbrev pub noEntry : Entry
 noEntry = record { certificate = 0; parent = 0; depth = 0 }
 
+-- Loading alone: its answer for a file and a state buffer, and the buffer after it.
+unfoldable pub loadAnswered : Load → LoadAnswer
+loadAnswered (loaded f) = load.Loaded (length (f .roles)) (length (f .terms)) (length (f .commands))
+loadAnswered (refused number place) = load.Refused number place
+
+unfoldable pub loadAnswer : List ℕ → List ℕ → LoadAnswer
+loadAnswer bs state = cond (leb stateBytes (length state)) (loadAnswered (loadFile bs)) (load.Refused bufferShort 0)
+
+unfoldable pub loadWritten : List ℕ → Load → List ℕ
+loadWritten state (loaded f) = firstPart stateBytes 0 (rows (start f) 0 (f .places)) state
+loadWritten state (refused number place) = firstPart stateBytes 0 [] state
+
+unfoldable pub loadLeaves : List ℕ → List ℕ → List ℕ
+loadLeaves bs state = cond (leb stateBytes (length state) && leb (length bs) fileLimit) (loadWritten state (loadFile bs)) state
+
 unfoldable pub written : List ℕ → List Entry → List ℕ → Lent → Lent
 written state ledger outcomes lent = record {
   state = firstPart stateBytes 0 state (lent .state);
@@ -93,7 +119,7 @@ answered n (refused number place) = ran.Refused number place
 
 -- Run's answer for a file, a count and buffers
 unfoldable pub runAnswer : List ℕ → ℕ → Lent → RunAnswer
-runAnswer bs n lent = cond (longEnough lent) (answered n (load bs)) (ran.Refused bufferShort 0)
+runAnswer bs n lent = cond (longEnough lent) (answered n (loadFile bs)) (ran.Refused bufferShort 0)
 
 unfoldable pub leaves : ℕ → Lent → Load → Lent
 leaves n lent (loaded f) = written (rows (reached f n) 0 (f .places)) (reached f n .ledger) (outcomesOf f n) lent
@@ -101,7 +127,7 @@ leaves n lent (refused number place) = written [] [] [] lent
 
 -- the buffers after Run: 1 and 2 leave all untouched, 3 to 12 the first parts zero
 unfoldable pub runLeaves : List ℕ → ℕ → Lent → Lent
-runLeaves bs n lent = cond (longEnough lent && leb (length bs) fileLimit) (leaves n lent (load bs)) lent
+runLeaves bs n lent = cond (longEnough lent && leb (length bs) fileLimit) (leaves n lent (loadFile bs)) lent
 
 -- a certificate and its parents, so many steps
 unfoldable pub steps : List Entry → ℕ → ℕ → List ℕ
@@ -117,7 +143,7 @@ pathAnswered n t (refused number place) = path.Refused number place
 
 -- Path's answer for a file, a count, buffers, a term and a list of places
 unfoldable pub pathAnswer : List ℕ → ℕ → Lent → ℕ → List ℕ → PathAnswer
-pathAnswer bs n lent t list = cond (longEnough lent && leb pathPlaces (length list)) (pathAnswered n t (load bs)) (path.Refused bufferShort 0)
+pathAnswer bs n lent t list = cond (longEnough lent && leb pathPlaces (length list)) (pathAnswered n t (loadFile bs)) (path.Refused bufferShort 0)
 
 -- the buffers after Path are those after Run, but for a list that is too short
 unfoldable pub pathBuffers : List ℕ → ℕ → Lent → ℕ → List ℕ → Lent
@@ -135,4 +161,4 @@ pathListed n t list (refused number place) = list
 
 -- the list after Path: untouched unless a path is found
 unfoldable pub pathLeaves : List ℕ → ℕ → Lent → ℕ → List ℕ → List ℕ
-pathLeaves bs n lent t list = cond (longEnough lent && leb pathPlaces (length list)) (pathListed n t list (load bs)) list
+pathLeaves bs n lent t list = cond (longEnough lent && leb pathPlaces (length list)) (pathListed n t list (loadFile bs)) list

@@ -12,7 +12,9 @@ use Rattle.rules.specs.Limits.{fileLimit, partyLimit, termLimit, roleCou
 use Rattle.rules.specs.Refusals.{fileTooLong, sectionOrder, tooMany, outOfRange, wrongKind, alikeEarlier, badLearn, badHold, badSigningKey}
 use Rattle.rules.specs.Attributes.{attributesLimit, fixedTpm, has, sameAttributes, deskKeyAttributes}
 use Rattle.rules.specs.Term.{publicKeyKind, privateKeyKind, hashKind, signatureKind, attestKind, credentialKind, numberKind, idevidRequestKind, ldevidRequestKind, certificateKind, anyAlike, isTpmSubject}
-use Rattle.rules.specs.Record.{Field, roleField, identifierField, attributesField, subjectField, partyField, anyTerm, termOf, signedAttest, width, fieldsOf, sectionOf, partySection, termSection, setupSection, word, Piece, whole, fault, pieces}
+use Rattle.rules.specs.declared.Field.{Field}
+use Rattle.rules.specs.declared.Field.the-variants.{RoleField, IdentifierField, AttributesField, SubjectField, PartyField, AnyTerm, TermOf, SignedAttest}
+use Rattle.rules.specs.Record.{width, fieldsOf, sectionOf, partySection, termSection, setupSection, word, Piece, whole, fault, pieces}
 use Rattle.rules.specs.File.{Setup, learns, holds, signsWith, Command, hash, sign, certify, makeCredential, activateCredential, makeIdevidRequest, makeLdevidRequest, makePair, checkHash, checkSignature, checkCertificate, checkAttributes, send, selfIssue, challenge, issueIak, issueLak, File, isRole, isKind, message, subject, attributes, signer, someSetup, isOtherHold, isSigner, holdsKey, signsForRole}
 
 -- the first of two refusals, where 0 is none
@@ -86,14 +88,14 @@ declaredFault f t = refuseUnless outOfRange (ltb t (length (f .terms)))
 
 -- 7, 8: what is wrong with a field at a place of a body
 unfoldable pub fieldFault : File → Field → ℕ → List ℕ → ℕ
-fieldFault f roleField i bs = refuseUnless outOfRange (ltb (getD bs i 0) roleCount)
-fieldFault f identifierField i bs = 0
-fieldFault f attributesField i bs = refuseUnless outOfRange (ltb (getD bs i 0) attributesLimit)
-fieldFault f subjectField i bs = refuseUnless outOfRange (ltb (getD bs i 0) 2)
-fieldFault f partyField i bs = refuseUnless outOfRange (ltb (getD bs i 0) (length (f .roles)))
-fieldFault f anyTerm i bs = declaredFault f (word bs i)
-fieldFault f (termOf k) i bs = first (declaredFault f (word bs i)) (refuseUnless wrongKind (isKind f k (word bs i)))
-fieldFault f signedAttest i bs =
+fieldFault f RoleField i bs = refuseUnless outOfRange (ltb (getD bs i 0) roleCount)
+fieldFault f IdentifierField i bs = 0
+fieldFault f AttributesField i bs = refuseUnless outOfRange (ltb (getD bs i 0) attributesLimit)
+fieldFault f SubjectField i bs = refuseUnless outOfRange (ltb (getD bs i 0) 2)
+fieldFault f PartyField i bs = refuseUnless outOfRange (ltb (getD bs i 0) (length (f .roles)))
+fieldFault f AnyTerm i bs = declaredFault f (word bs i)
+fieldFault f (TermOf k) i bs = first (declaredFault f (word bs i)) (refuseUnless wrongKind (isKind f k (word bs i)))
+fieldFault f SignedAttest i bs =
     first (declaredFault f (word bs i))
     (first (refuseUnless wrongKind (isKind f signatureKind (word bs i)))
     (refuseUnless wrongKind (isKind f attestKind (message f (word bs i)))))

@@ -4,25 +4,21 @@ use mathlib.Core.List.{List, [], _∷_}
 use Prim.Native.Nat.{ℕ, zero, suc, _+_, _*_, _-_}
 use lib.Dec.{eqb, ltb, leb}
 use lib.ListN.{getD, length, take, drop}
+use Rattle.rules.specs.declared.Field.{Field}
+use Rattle.rules.specs.declared.Field.the-variants.{RoleField, IdentifierField, AttributesField, SubjectField, PartyField, AnyTerm, TermOf, SignedAttest}
 use Rattle.rules.specs.Refusals.{unknownKind, cutShort}
 use Rattle.rules.specs.Term.{publicKeyKind, privateKeyKind, hashKind, signatureKind, credentialKind, numberKind, idevidRequestKind, ldevidRequestKind, certificateKind, pairKind}
 
--- What a field of a body may be. "A field given a kind takes that kind alone; a bare t, or a request, takes any."
-pub data Field : Type 0 where
-  roleField identifierField attributesField subjectField partyField anyTerm : Field
-  termOf : ℕ → Field
-  -- a 13 whose message is a 14
-  signedAttest : Field
-
+-- the bytes of a field
 unfoldable pub width : Field → ℕ
-width roleField = 1
-width identifierField = 2
-width attributesField = 1
-width subjectField = 3
-width partyField = 1
-width anyTerm = 2
-width (termOf k) = 2
-width signedAttest = 2
+width RoleField = 1
+width IdentifierField = 2
+width AttributesField = 1
+width SubjectField = 3
+width PartyField = 1
+width AnyTerm = 2
+width (TermOf k) = 2
+width SignedAttest = 2
 
 unfoldable pub widths : List Field → ℕ
 widths [] = 0
@@ -53,50 +49,50 @@ sectionOf k =
 -- 10 to 1A
 termRows : List (List Field)
 termRows =
-    (identifierField ∷ attributesField ∷ [])
-    ∷ (identifierField ∷ attributesField ∷ [])
-    ∷ (anyTerm ∷ [])
-    ∷ (anyTerm ∷ termOf privateKeyKind ∷ [])
-    ∷ (termOf publicKeyKind ∷ [])
-    ∷ (anyTerm ∷ termOf numberKind ∷ termOf publicKeyKind ∷ [])
-    ∷ (identifierField ∷ [])
-    ∷ (subjectField ∷ termOf certificateKind ∷ termOf publicKeyKind ∷ [])
-    ∷ (anyTerm ∷ termOf certificateKind ∷ [])
-    ∷ (termOf publicKeyKind ∷ subjectField ∷ termOf privateKeyKind ∷ [])
-    ∷ (anyTerm ∷ anyTerm ∷ [])
+    (IdentifierField ∷ AttributesField ∷ [])
+    ∷ (IdentifierField ∷ AttributesField ∷ [])
+    ∷ (AnyTerm ∷ [])
+    ∷ (AnyTerm ∷ TermOf privateKeyKind ∷ [])
+    ∷ (TermOf publicKeyKind ∷ [])
+    ∷ (AnyTerm ∷ TermOf numberKind ∷ TermOf publicKeyKind ∷ [])
+    ∷ (IdentifierField ∷ [])
+    ∷ (SubjectField ∷ TermOf certificateKind ∷ TermOf publicKeyKind ∷ [])
+    ∷ (AnyTerm ∷ TermOf certificateKind ∷ [])
+    ∷ (TermOf publicKeyKind ∷ SubjectField ∷ TermOf privateKeyKind ∷ [])
+    ∷ (AnyTerm ∷ AnyTerm ∷ [])
     ∷ []
 
 -- 20 to 22
 setupRows : List (List Field)
-setupRows = (partyField ∷ anyTerm ∷ []) ∷ (partyField ∷ termOf privateKeyKind ∷ []) ∷ (partyField ∷ termOf privateKeyKind ∷ []) ∷ []
+setupRows = (PartyField ∷ AnyTerm ∷ []) ∷ (PartyField ∷ TermOf privateKeyKind ∷ []) ∷ (PartyField ∷ TermOf privateKeyKind ∷ []) ∷ []
 
 -- 30 to 40
 commandRows : List (List Field)
 commandRows =
-    (partyField ∷ termOf hashKind ∷ [])
-    ∷ (partyField ∷ termOf signatureKind ∷ [])
-    ∷ (partyField ∷ signedAttest ∷ [])
-    ∷ (partyField ∷ termOf credentialKind ∷ [])
-    ∷ (partyField ∷ termOf credentialKind ∷ [])
-    ∷ (partyField ∷ termOf idevidRequestKind ∷ [])
-    ∷ (partyField ∷ termOf ldevidRequestKind ∷ [])
-    ∷ (partyField ∷ termOf pairKind ∷ [])
-    ∷ (partyField ∷ termOf hashKind ∷ anyTerm ∷ [])
-    ∷ (partyField ∷ termOf signatureKind ∷ termOf publicKeyKind ∷ [])
-    ∷ (partyField ∷ termOf certificateKind ∷ termOf publicKeyKind ∷ [])
-    ∷ (partyField ∷ termOf publicKeyKind ∷ attributesField ∷ [])
-    ∷ (partyField ∷ partyField ∷ anyTerm ∷ [])
-    ∷ (partyField ∷ termOf certificateKind ∷ [])
-    ∷ (partyField ∷ anyTerm ∷ termOf credentialKind ∷ [])
-    ∷ (partyField ∷ partyField ∷ termOf credentialKind ∷ termOf certificateKind ∷ [])
-    ∷ (partyField ∷ anyTerm ∷ termOf certificateKind ∷ [])
+    (PartyField ∷ TermOf hashKind ∷ [])
+    ∷ (PartyField ∷ TermOf signatureKind ∷ [])
+    ∷ (PartyField ∷ SignedAttest ∷ [])
+    ∷ (PartyField ∷ TermOf credentialKind ∷ [])
+    ∷ (PartyField ∷ TermOf credentialKind ∷ [])
+    ∷ (PartyField ∷ TermOf idevidRequestKind ∷ [])
+    ∷ (PartyField ∷ TermOf ldevidRequestKind ∷ [])
+    ∷ (PartyField ∷ TermOf pairKind ∷ [])
+    ∷ (PartyField ∷ TermOf hashKind ∷ AnyTerm ∷ [])
+    ∷ (PartyField ∷ TermOf signatureKind ∷ TermOf publicKeyKind ∷ [])
+    ∷ (PartyField ∷ TermOf certificateKind ∷ TermOf publicKeyKind ∷ [])
+    ∷ (PartyField ∷ TermOf publicKeyKind ∷ AttributesField ∷ [])
+    ∷ (PartyField ∷ PartyField ∷ AnyTerm ∷ [])
+    ∷ (PartyField ∷ TermOf certificateKind ∷ [])
+    ∷ (PartyField ∷ AnyTerm ∷ TermOf credentialKind ∷ [])
+    ∷ (PartyField ∷ PartyField ∷ TermOf credentialKind ∷ TermOf certificateKind ∷ [])
+    ∷ (PartyField ∷ AnyTerm ∷ TermOf certificateKind ∷ [])
     ∷ []
 
 -- the fields of a kind's body
 unfoldable pub fieldsOf : ℕ → List Field
 unfolding termRows setupRows commandRows
 fieldsOf k =
-    cond (eqb (sectionOf k) partySection) (roleField ∷ [])
+    cond (eqb (sectionOf k) partySection) (RoleField ∷ [])
     (cond (eqb (sectionOf k) termSection) (getD termRows (k - 0x10) [])
     (cond (eqb (sectionOf k) setupSection) (getD setupRows (k - 0x20) [])
     (getD commandRows (k - 0x30) [])))

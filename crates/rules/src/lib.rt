@@ -103,6 +103,19 @@ pub fn same_subject(a: Subject, b: Subject) -> bool
     }
 }
 
+// What a field of a body may be: a field given a kind takes that kind alone, a bare term any.
+pub enum Field {
+    RoleField,
+    IdentifierField,
+    AttributesField,
+    SubjectField,
+    PartyField,
+    AnyTerm,
+    TermOf(u8),
+    // A signature over an attest.
+    SignedAttest,
+}
+
 // A line of the ledger: an issued certificate, its parent and how many steps lead to an endorsement certificate.
 pub struct Entry {
     pub certificate: u16,
@@ -119,5 +132,11 @@ pub enum RunAnswer {
 // What Path answers: the steps of the path, or a refusal with its place.
 pub enum PathAnswer {
     Steps(u32),
+    Refused(u32, u32),
+}
+
+// What loading answers: the parties, terms and commands of the file, or a refusal with its place.
+pub enum LoadAnswer {
+    Loaded(u32, u32, u32),
     Refused(u32, u32),
 }

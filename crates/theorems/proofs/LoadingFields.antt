@@ -10,7 +10,9 @@ use borrow.Author.Tests.{ltb-true, leb-true, eqb-true, eqb-false}
 use lib.ListN.{getD, length}
 use Rattle.rules.specs.Term.{privateKeyKind, signatureKind, attestKind}
 use Rattle.rules.specs.Refusals.{outOfRange, wrongKind}
-use Rattle.rules.specs.Record.{Field, roleField, identifierField, attributesField, subjectField, partyField, anyTerm, termOf, signedAttest, width, fieldsOf, sectionOf, termSection, setupSection, word}
+use Rattle.rules.specs.declared.Field.{Field}
+use Rattle.rules.specs.declared.Field.the-variants.{RoleField, IdentifierField, AttributesField, SubjectField, PartyField, AnyTerm, TermOf, SignedAttest}
+use Rattle.rules.specs.Record.{width, fieldsOf, sectionOf, termSection, setupSection, word}
 use Rattle.rules.specs.File.{File, Setup, learns, holds, signsWith, kind, isKind, term, message}
 use Rattle.rules.specs.Load.{first, refuseUnless, declaredFault, fieldFault, fieldsFault, termAt, setupAt}
 use Rattle.theorems.proofs.LoadingTerms.{Names}
@@ -39,24 +41,24 @@ both-true false q e = absurd (false≢true e)
 
 -- what a field that passed tells
 abbrev pub Passed : File → Field → ℕ → List ℕ → Type 0
-Passed f roleField i bs = Unit {0}
-Passed f identifierField i bs = Unit {0}
-Passed f attributesField i bs = Unit {0}
-Passed f subjectField i bs = Unit {0}
-Passed f partyField i bs = getD bs i 0 < length (f .roles)
-Passed f anyTerm i bs = word bs i < length (f .terms)
-Passed f (termOf k) i bs = (word bs i < length (f .terms)) × (kind f (word bs i) ≡ k)
-Passed f signedAttest i bs = (kind f (word bs i) ≡ signatureKind) × (kind f (message f (word bs i)) ≡ attestKind)
+Passed f RoleField i bs = Unit {0}
+Passed f IdentifierField i bs = Unit {0}
+Passed f AttributesField i bs = Unit {0}
+Passed f SubjectField i bs = Unit {0}
+Passed f PartyField i bs = getD bs i 0 < length (f .roles)
+Passed f AnyTerm i bs = word bs i < length (f .terms)
+Passed f (TermOf k) i bs = (word bs i < length (f .terms)) × (kind f (word bs i) ≡ k)
+Passed f SignedAttest i bs = (kind f (word bs i) ≡ signatureKind) × (kind f (message f (word bs i)) ≡ attestKind)
 
 abbrev pub size : Field → ℕ
-size roleField = 1
-size identifierField = 2
-size attributesField = 1
-size subjectField = 3
-size partyField = 1
-size anyTerm = 2
-size (termOf k) = 2
-size signedAttest = 2
+size RoleField = 1
+size IdentifierField = 2
+size AttributesField = 1
+size SubjectField = 3
+size PartyField = 1
+size AnyTerm = 2
+size (TermOf k) = 2
+size SignedAttest = 2
 
 abbrev pub AllPassed : File → List Field → ℕ → List ℕ → Type 0
 AllPassed f [] i bs = Unit {0}
@@ -72,27 +74,27 @@ is-kind f k t e = eqb-true (kind f t) k (refuse-zero wrongKind (isKind f k t) (o
 
 field-passed : (f : File) (x : Field) (i : ℕ) (bs : List ℕ) → fieldFault f x i bs ≡ 0 → Passed f x i bs
 unfolding fieldFault
-field-passed f roleField i bs e = tt
-field-passed f identifierField i bs e = tt
-field-passed f attributesField i bs e = tt
-field-passed f subjectField i bs e = tt
-field-passed f partyField i bs e = ltb-true (getD bs i 0) (length (f .roles)) (refuse-zero outOfRange (ltb (getD bs i 0) (length (f .roles))) (omega arith) e)
-field-passed f anyTerm i bs e = declared-below f (word bs i) e
-field-passed f (termOf k) i bs e =
+field-passed f RoleField i bs e = tt
+field-passed f IdentifierField i bs e = tt
+field-passed f AttributesField i bs e = tt
+field-passed f SubjectField i bs e = tt
+field-passed f PartyField i bs e = ltb-true (getD bs i 0) (length (f .roles)) (refuse-zero outOfRange (ltb (getD bs i 0) (length (f .roles))) (omega arith) e)
+field-passed f AnyTerm i bs e = declared-below f (word bs i) e
+field-passed f (TermOf k) i bs e =
     (declared-below f (word bs i) (first-zero _ _ e .0), is-kind f k (word bs i) (first-zero _ _ e .1))
-field-passed f signedAttest i bs e =
+field-passed f SignedAttest i bs e =
     (is-kind f signatureKind (word bs i) (first-zero _ _ (first-zero _ _ e .1) .0), is-kind f attestKind (message f (word bs i)) (first-zero _ _ (first-zero _ _ e .1) .1))
 
 sized : (x : Field) → width x ≡ size x
 unfolding width
-sized roleField = refl
-sized identifierField = refl
-sized attributesField = refl
-sized subjectField = refl
-sized partyField = refl
-sized anyTerm = refl
-sized (termOf k) = refl
-sized signedAttest = refl
+sized RoleField = refl
+sized IdentifierField = refl
+sized AttributesField = refl
+sized SubjectField = refl
+sized PartyField = refl
+sized AnyTerm = refl
+sized (TermOf k) = refl
+sized SignedAttest = refl
 
 pub passed : (f : File) (bs : List ℕ) (xs : List Field) (i : ℕ) → fieldsFault f xs i bs ≡ 0 → AllPassed f xs i bs
 unfolding fieldsFault
