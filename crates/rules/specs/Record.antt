@@ -95,7 +95,8 @@ fieldsOf k =
     cond (eqb (sectionOf k) partySection) (RoleField ∷ [])
     (cond (eqb (sectionOf k) termSection) (getD termRows (k - 0x10) [])
     (cond (eqb (sectionOf k) setupSection) (getD setupRows (k - 0x20) [])
-    (getD commandRows (k - 0x30) [])))
+    (cond (eqb (sectionOf k) commandSection) (getD commandRows (k - 0x30) [])
+    [])))
 
 -- "the kind byte alone decides how long the body is"
 unfoldable pub bodyLength : ℕ → ℕ
