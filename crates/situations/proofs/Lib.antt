@@ -1,0 +1,2 @@
+pub mod Large
+pub mod Table
