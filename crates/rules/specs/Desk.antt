@@ -5,7 +5,7 @@ use Prim.Native.Nat.{ℕ, zero, suc, _+_}
 use lib.Dec.{eqb, leb}
 use Rattle.rules.specs.declared.Entry.{Entry}
 use Rattle.rules.specs.Limits.{device, tpmMaker, oemDesk, ownerDesk, partyLimit, depthLimit}
-use Rattle.rules.specs.Refusals.{Test, need, badRole, notKnown, badForm, badProof, badSigner, notListed, badAttributes, badNumber, notOpen, badReturn, otherResult, issuedAlready, tooDeep}
+use Rattle.rules.specs.Refusals.{Test, need}
 use Rattle.rules.specs.Attributes.{sameAttributes, iakAttributes, ekAttributes}
 use Rattle.rules.specs.Term.{publicKeyKind, hashKind, signatureKind, attestKind, idevidRequestKind, ldevidRequestKind, pairKind, sameSubject, isDeviceSubject, isTpmSubject}
 use Rattle.rules.specs.File.{File, isRole, isKind, hashedTerm, message, signingKey, attestedKey, credentialTerm, credentialNumber, credentialKey, idevidCertificate, idevidKey, ldevidMessage, ldevidCertificate, certifiedKey, signer, leftOf, rightOf, subject, attributes, paired, signsFor, signsForRole}
@@ -21,17 +21,17 @@ requestSignature f q = rightOf f q
 
 unfoldable pub formTests : File → ℕ → ℕ → List Test
 formTests f bodyKind q =
-    need badForm (isKind f pairKind q)
-    ∷ need badForm (isKind f bodyKind (requestBody f q))
-    ∷ need badForm (isKind f signatureKind (requestSignature f q))
-    ∷ need badForm (isKind f hashKind (message f (requestSignature f q)))
+    need 19 (isKind f pairKind q)
+    ∷ need 19 (isKind f bodyKind (requestBody f q))
+    ∷ need 19 (isKind f signatureKind (requestSignature f q))
+    ∷ need 19 (isKind f hashKind (message f (requestSignature f q)))
     ∷ []
 
 -- "The 12 hashes that 17; the 13's key pairs with the 17's key"
 unfoldable pub proofTests : File → ℕ → ℕ → List Test
 proofTests f q key =
-    need badProof (eqb (hashedTerm f (message f (requestSignature f q))) (requestBody f q))
-    ∷ need badProof (paired f key (signingKey f (requestSignature f q)))
+    need 20 (eqb (hashedTerm f (message f (requestSignature f q))) (requestBody f q))
+    ∷ need 20 (paired f key (signingKey f (requestSignature f q)))
     ∷ []
 
 -- how many of the first n parties know a term
@@ -42,9 +42,9 @@ knowers known t (suc p) = knowers known t p + cond (known p t) 1 0
 -- "The number is known to that desk and to exactly one party in all, and unused"
 unfoldable pub numberTests : State → ℕ → ℕ → List Test
 numberTests s desk number =
-    need badNumber (s .knows desk number)
-    ∷ need badNumber (eqb (knowers (s .knows) number partyLimit) 1)
-    ∷ need badNumber (not (eqb (s .mark number) numberUsed))
+    need 24 (s .knows desk number)
+    ∷ need 24 (eqb (knowers (s .knows) number partyLimit) 1)
+    ∷ need 24 (not (eqb (s .mark number) numberUsed))
     ∷ []
 
 -- The IAK, the EK certificate and the EK of a request for an IAK certificate.
@@ -60,19 +60,19 @@ ekOf f q = certifiedKey f (ekCertificateOf f q)
 -- 3E (OEM desk p, request q, credential r)
 unfoldable pub challengeTests : File → State → ℕ → ℕ → ℕ → List Test
 challengeTests f s p q r =
-    (need badRole (isRole f oemDesk p) ∷ need notKnown (s .knows p q) ∷ [])
+    (need 13 (isRole f oemDesk p) ∷ need 14 (s .knows p q) ∷ [])
     ++ (formTests f idevidRequestKind q
-    ++ ((need badForm (isDeviceSubject (subject f (requestBody f q))) ∷ [])
+    ++ ((need 19 (isDeviceSubject (subject f (requestBody f q))) ∷ [])
     ++ (proofTests f q (iakOf f q)
-    ++ ((need badSigner (isTpmSubject (subject f (ekCertificateOf f q)))
-    ∷ need badSigner (signsForRole f tpmMaker (signer f (ekCertificateOf f q)))
-    ∷ need badAttributes (sameAttributes (attributes f (iakOf f q)) iakAttributes)
-    ∷ need badAttributes (sameAttributes (attributes f (ekOf f q)) ekAttributes)
+    ++ ((need 21 (isTpmSubject (subject f (ekCertificateOf f q)))
+    ∷ need 21 (signsForRole f tpmMaker (signer f (ekCertificateOf f q)))
+    ∷ need 23 (sameAttributes (attributes f (iakOf f q)) iakAttributes)
+    ∷ need 23 (sameAttributes (attributes f (ekOf f q)) ekAttributes)
     ∷ [])
     ++ (numberTests s p (credentialNumber f r)
-    ++ (need otherResult (isKind f hashKind (credentialTerm f r))
-    ∷ need otherResult (eqb (hashedTerm f (credentialTerm f r)) (iakOf f q))
-    ∷ need otherResult (eqb (credentialKey f r) (ekOf f q))
+    ++ (need 27 (isKind f hashKind (credentialTerm f r))
+    ∷ need 27 (eqb (hashedTerm f (credentialTerm f r)) (iakOf f q))
+    ∷ need 27 (eqb (credentialKey f r) (ekOf f q))
     ∷ []))))))
 
 unfoldable pub challengeEffect : File → State → ℕ → ℕ → ℕ → State
@@ -81,22 +81,22 @@ challengeEffect f s p q r = opening (learnt f s p r) (credentialNumber f r) r q 
 -- "r is (key, Subject, the desk's key)"
 unfoldable pub calledFor : File → ℕ → ℕ → ℕ → ℕ → List Test
 calledFor f desk r key subjectFrom =
-    need otherResult (eqb (certifiedKey f r) key)
-    ∷ need otherResult (sameSubject (subject f r) (subject f subjectFrom))
-    ∷ need otherResult (signsFor f desk (signer f r))
+    need 27 (eqb (certifiedKey f r) key)
+    ∷ need 27 (sameSubject (subject f r) (subject f subjectFrom))
+    ∷ need 27 (signsFor f desk (signer f r))
     ∷ []
 
 -- 3F (OEM desk p, returning party q, credential c, certificate r)
 unfoldable pub issueIakTests : File → State → ℕ → ℕ → ℕ → ℕ → List Test
 issueIakTests f s p q c r =
-    (need badRole (isRole f oemDesk p)
-    ∷ need notOpen (eqb (s .mark c) credentialOpen)
-    ∷ need notOpen (eqb (s .desk c) p)
-    ∷ need badReturn (isRole f device q)
-    ∷ need badReturn (s .knows q (credentialNumber f c))
+    (need 13 (isRole f oemDesk p)
+    ∷ need 25 (eqb (s .mark c) credentialOpen)
+    ∷ need 25 (eqb (s .desk c) p)
+    ∷ need 26 (isRole f device q)
+    ∷ need 26 (s .knows q (credentialNumber f c))
     ∷ [])
     ++ (calledFor f p r (iakOf f (s .request c)) (requestBody f (s .request c))
-    ++ (need issuedAlready (not (listed (s .ledger) r)) ∷ []))
+    ++ (need 28 (not (listed (s .ledger) r)) ∷ []))
 
 unfoldable pub issueIakEffect : File → State → ℕ → ℕ → ℕ → ℕ → State
 issueIakEffect f s p q c r = entered (closing (learnt f s p r) c) (record { certificate = r; parent = ekCertificateOf f (s .request c); depth = 1 })
@@ -114,21 +114,21 @@ parentCertificateOf f q = ldevidCertificate f (requestBody f q)
 -- 40 (owner desk p, request q, certificate r)
 unfoldable pub issueLakTests : File → State → ℕ → ℕ → ℕ → List Test
 issueLakTests f s p q r =
-    (need badRole (isRole f ownerDesk p) ∷ need notKnown (s .knows p q) ∷ [])
+    (need 13 (isRole f ownerDesk p) ∷ need 14 (s .knows p q) ∷ [])
     ++ (formTests f ldevidRequestKind q
-    ++ ((need badForm (isKind f signatureKind (attestSignatureOf f q))
-    ∷ need badForm (isKind f attestKind (message f (attestSignatureOf f q)))
+    ++ ((need 19 (isKind f signatureKind (attestSignatureOf f q))
+    ∷ need 19 (isKind f attestKind (message f (attestSignatureOf f q)))
     ∷ [])
     ++ (proofTests f q (lakOf f q)
-    ++ ((need badProof (paired f (certifiedKey f (parentCertificateOf f q)) (signingKey f (attestSignatureOf f q)))
-    ∷ need badSigner (signsForRole f oemDesk (signer f (parentCertificateOf f q)) || signsForRole f ownerDesk (signer f (parentCertificateOf f q)))
-    ∷ need notListed (listed (s .ledger) (parentCertificateOf f q))
-    ∷ need badAttributes (sameAttributes (attributes f (lakOf f q)) iakAttributes)
-    ∷ need badAttributes (sameAttributes (attributes f (certifiedKey f (parentCertificateOf f q))) iakAttributes)
+    ++ ((need 20 (paired f (certifiedKey f (parentCertificateOf f q)) (signingKey f (attestSignatureOf f q)))
+    ∷ need 21 (signsForRole f oemDesk (signer f (parentCertificateOf f q)) || signsForRole f ownerDesk (signer f (parentCertificateOf f q)))
+    ∷ need 22 (listed (s .ledger) (parentCertificateOf f q))
+    ∷ need 23 (sameAttributes (attributes f (lakOf f q)) iakAttributes)
+    ∷ need 23 (sameAttributes (attributes f (certifiedKey f (parentCertificateOf f q))) iakAttributes)
     ∷ [])
     ++ (calledFor f p r (lakOf f q) (parentCertificateOf f q)
-    ++ (need issuedAlready (not (listed (s .ledger) r))
-    ∷ need tooDeep (leb (depthOf (s .ledger) (parentCertificateOf f q) + 1) depthLimit)
+    ++ (need 28 (not (listed (s .ledger) r))
+    ∷ need 29 (leb (depthOf (s .ledger) (parentCertificateOf f q) + 1) depthLimit)
     ∷ []))))))
 
 unfoldable pub issueLakEffect : File → State → ℕ → ℕ → ℕ → State

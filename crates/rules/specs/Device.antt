@@ -4,7 +4,7 @@ use mathlib.Core.List.{List, [], _∷_}
 use Prim.Native.Nat.{ℕ}
 use lib.Dec.{eqb}
 use Rattle.rules.specs.Limits.{device, oemDesk, ownerDesk}
-use Rattle.rules.specs.Refusals.{Test, need, badRole, notKnown, notHeld, attributesForbid, noTicket, checkFalse}
+use Rattle.rules.specs.Refusals.{Test, need}
 use Rattle.rules.specs.Attributes as flag
 use Rattle.rules.specs.Attributes.{has}
 use Rattle.rules.specs.Term.{publicKeyKind, hashKind, attestKind, credentialKind, certificateKind}
@@ -13,7 +13,7 @@ use Rattle.rules.specs.State.{State, learnt, ticketed}
 
 -- "Device commands (role 0)"
 unfoldable pub deviceRole : File → ℕ → Test
-deviceRole f p = need badRole (isRole f device p)
+deviceRole f p = need 13 (isRole f device p)
 
 -- a key, by number, has an attribute
 unfoldable pub keyHas : File → ℕ → ℕ → Bool
@@ -25,7 +25,7 @@ holdsHalf f s p k = halfIn f (s .table p) k
 
 -- 30: "content known"
 unfoldable pub hashTests : File → State → ℕ → ℕ → List Test
-hashTests f s p r = deviceRole f p ∷ need notKnown (s .knows p (hashedTerm f r)) ∷ []
+hashTests f s p r = deviceRole f p ∷ need 14 (s .knows p (hashedTerm f r)) ∷ []
 
 -- "r also enters the TPM table, unless the content is a 14"
 unfoldable pub hashEffect : File → State → ℕ → ℕ → State
@@ -35,47 +35,47 @@ hashEffect f s p r = cond (isKind f attestKind (hashedTerm f r)) (learnt f s p r
 unfoldable pub signTests : File → State → ℕ → ℕ → List Test
 signTests f s p r =
     deviceRole f p
-    ∷ need notKnown (keyHas f (signingKey f r) flag.restricted || s .knows p (message f r))
-    ∷ need notHeld (s .table p (signingKey f r))
-    ∷ need attributesForbid (keyHas f (signingKey f r) flag.sign)
-    ∷ need noTicket (not (keyHas f (signingKey f r) flag.restricted) || isKind f hashKind (message f r))
-    ∷ need noTicket (not (keyHas f (signingKey f r) flag.restricted) || s .table p (message f r))
+    ∷ need 14 (keyHas f (signingKey f r) flag.restricted || s .knows p (message f r))
+    ∷ need 15 (s .table p (signingKey f r))
+    ∷ need 16 (keyHas f (signingKey f r) flag.sign)
+    ∷ need 17 (not (keyHas f (signingKey f r) flag.restricted) || isKind f hashKind (message f r))
+    ∷ need 17 (not (keyHas f (signingKey f r) flag.restricted) || s .table p (message f r))
     ∷ []
 
 -- 32: "the signing key is held, with Sign; so is the attested key's private half"
 unfoldable pub certifyTests : File → State → ℕ → ℕ → List Test
 certifyTests f s p r =
     deviceRole f p
-    ∷ need notHeld (s .table p (signingKey f r))
-    ∷ need notHeld (holdsHalf f s p (attestedKey f (message f r)))
-    ∷ need attributesForbid (keyHas f (signingKey f r) flag.sign)
+    ∷ need 15 (s .table p (signingKey f r))
+    ∷ need 15 (holdsHalf f s p (attestedKey f (message f r)))
+    ∷ need 16 (keyHas f (signingKey f r) flag.sign)
     ∷ []
 
 -- 33: "all three known"
 unfoldable pub makeCredentialTests : File → State → ℕ → ℕ → List Test
 makeCredentialTests f s p r =
     deviceRole f p
-    ∷ need notKnown (s .knows p (credentialTerm f r))
-    ∷ need notKnown (s .knows p (credentialNumber f r))
-    ∷ need notKnown (s .knows p (credentialKey f r))
+    ∷ need 14 (s .knows p (credentialTerm f r))
+    ∷ need 14 (s .knows p (credentialNumber f r))
+    ∷ need 14 (s .knows p (credentialKey f r))
     ∷ []
 
 -- 34: "r known, its key's private half held, Restricted and Decrypt; its first term is the hash of a public key whose private half is held (no such hash: 15)"
 unfoldable pub activateCredentialTests : File → State → ℕ → ℕ → List Test
 activateCredentialTests f s p r =
     deviceRole f p
-    ∷ need notKnown (s .knows p r)
-    ∷ need notHeld (holdsHalf f s p (credentialKey f r))
-    ∷ need notHeld (isKind f hashKind (credentialTerm f r))
-    ∷ need notHeld (isKind f publicKeyKind (hashedTerm f (credentialTerm f r)))
-    ∷ need notHeld (holdsHalf f s p (hashedTerm f (credentialTerm f r)))
-    ∷ need attributesForbid (keyHas f (credentialKey f r) flag.restricted)
-    ∷ need attributesForbid (keyHas f (credentialKey f r) flag.decrypt)
+    ∷ need 14 (s .knows p r)
+    ∷ need 15 (holdsHalf f s p (credentialKey f r))
+    ∷ need 15 (isKind f hashKind (credentialTerm f r))
+    ∷ need 15 (isKind f publicKeyKind (hashedTerm f (credentialTerm f r)))
+    ∷ need 15 (holdsHalf f s p (hashedTerm f (credentialTerm f r)))
+    ∷ need 16 (keyHas f (credentialKey f r) flag.restricted)
+    ∷ need 16 (keyHas f (credentialKey f r) flag.decrypt)
     ∷ []
 
 -- 35, 36, 37: "its parts known"
 unfoldable pub bothKnownTests : File → State → ℕ → ℕ → ℕ → List Test
-bothKnownTests f s p t u = deviceRole f p ∷ need notKnown (s .knows p t) ∷ need notKnown (s .knows p u) ∷ []
+bothKnownTests f s p t u = deviceRole f p ∷ need 14 (s .knows p t) ∷ need 14 (s .knows p u) ∷ []
 
 -- "Desks may send too, but only 10, 15, 19."
 unfoldable pub mayBeSentByDesk : File → ℕ → Bool
@@ -86,21 +86,21 @@ maySend f p t = isRole f device p || ((isRole f oemDesk p || isRole f ownerDesk 
 
 -- 3C: "t known"
 unfoldable pub sendTests : File → State → ℕ → ℕ → List Test
-sendTests f s p t = need badRole (maySend f p t) ∷ need notKnown (s .knows p t) ∷ []
+sendTests f s p t = need 13 (maySend f p t) ∷ need 14 (s .knows p t) ∷ []
 
 -- 3D: "signer held, Sign, not Restricted; public key known"
 unfoldable pub selfIssueTests : File → State → ℕ → ℕ → List Test
 selfIssueTests f s p r =
     deviceRole f p
-    ∷ need notKnown (s .knows p (certifiedKey f r))
-    ∷ need notHeld (s .table p (signer f r))
-    ∷ need attributesForbid (keyHas f (signer f r) flag.sign)
-    ∷ need attributesForbid (not (keyHas f (signer f r) flag.restricted))
+    ∷ need 14 (s .knows p (certifiedKey f r))
+    ∷ need 15 (s .table p (signer f r))
+    ∷ need 16 (keyHas f (signer f r) flag.sign)
+    ∷ need 16 (not (keyHas f (signer f r) flag.restricted))
     ∷ []
 
 -- Checks, 38 to 3B: "Role 0, 2, 3; both terms known"
 unfoldable pub checkRole : File → ℕ → Test
-checkRole f p = need badRole (isRole f device p || isRole f oemDesk p || isRole f ownerDesk p)
+checkRole f p = need 13 (isRole f device p || isRole f oemDesk p || isRole f ownerDesk p)
 
 unfoldable pub checkTests : File → State → ℕ → ℕ → ℕ → Bool → List Test
-checkTests f s p t u true-check = checkRole f p ∷ need notKnown (s .knows p t) ∷ need notKnown (s .knows p u) ∷ need checkFalse true-check ∷ []
+checkTests f s p t u true-check = checkRole f p ∷ need 14 (s .knows p t) ∷ need 14 (s .knows p u) ∷ need 18 true-check ∷ []

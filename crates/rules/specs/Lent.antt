@@ -12,7 +12,6 @@ use Rattle.rules.specs.declared.RunAnswer.the-variants as ran
 use Rattle.rules.specs.declared.PathAnswer.{PathAnswer}
 use Rattle.rules.specs.declared.PathAnswer.the-variants as path
 use Rattle.rules.specs.Limits.{fileLimit, partyLimit, termLimit, commandLimit, rowWidth, stateBytes, pathPlaces}
-use Rattle.rules.specs.Refusals.{bufferShort, notIssued}
 use Rattle.rules.specs.File.{File}
 use Rattle.rules.specs.Load.{Load, loaded, refused, load as loadFile}
 use Rattle.rules.specs.State.{State, start, listed, depthOf, parentOf}
@@ -93,7 +92,7 @@ loadAnswered (loaded f) = load.Loaded (length (f .roles)) (length (f .terms)) (l
 loadAnswered (refused number place) = load.Refused number place
 
 unfoldable pub loadAnswer : List ℕ → List ℕ → LoadAnswer
-loadAnswer bs state = cond (leb stateBytes (length state)) (loadAnswered (loadFile bs)) (load.Refused bufferShort 0)
+loadAnswer bs state = cond (leb stateBytes (length state)) (loadAnswered (loadFile bs)) (load.Refused 1 0)
 
 unfoldable pub loadWritten : List ℕ → Load → List ℕ
 loadWritten state (loaded f) = firstPart stateBytes 0 (rows (start f) 0 (f .places)) state
@@ -119,7 +118,7 @@ answered n (refused number place) = ran.Refused number place
 
 -- Run's answer for a file, a count and buffers
 unfoldable pub runAnswer : List ℕ → ℕ → Lent → RunAnswer
-runAnswer bs n lent = cond (longEnough lent) (answered n (loadFile bs)) (ran.Refused bufferShort 0)
+runAnswer bs n lent = cond (longEnough lent) (answered n (loadFile bs)) (ran.Refused 1 0)
 
 unfoldable pub leaves : ℕ → Lent → Load → Lent
 leaves n lent (loaded f) = written (rows (reached f n) 0 (f .places)) (reached f n .ledger) (outcomesOf f n) lent
@@ -135,7 +134,7 @@ steps ledger zero c = c ∷ []
 steps ledger (suc n) c = c ∷ steps ledger n (parentOf ledger c)
 
 unfoldable pub found : File → ℕ → ℕ → PathAnswer
-found f n t = cond (listed (reached f n .ledger) t) (path.Steps (depthOf (reached f n .ledger) t)) (path.Refused notIssued t)
+found f n t = cond (listed (reached f n .ledger) t) (path.Steps (depthOf (reached f n .ledger) t)) (path.Refused 30 t)
 
 unfoldable pub pathAnswered : ℕ → ℕ → Load → PathAnswer
 pathAnswered n t (loaded f) = found f n t
@@ -143,7 +142,7 @@ pathAnswered n t (refused number place) = path.Refused number place
 
 -- Path's answer for a file, a count, buffers, a term and a list of places
 unfoldable pub pathAnswer : List ℕ → ℕ → Lent → ℕ → List ℕ → PathAnswer
-pathAnswer bs n lent t list = cond (longEnough lent && leb pathPlaces (length list)) (pathAnswered n t (loadFile bs)) (path.Refused bufferShort 0)
+pathAnswer bs n lent t list = cond (longEnough lent && leb pathPlaces (length list)) (pathAnswered n t (loadFile bs)) (path.Refused 1 0)
 
 -- the buffers after Path are those after Run, but for a list that is too short
 unfoldable pub pathBuffers : List ℕ → ℕ → Lent → ℕ → List ℕ → Lent

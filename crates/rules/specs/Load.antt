@@ -9,7 +9,6 @@ use Rattle.rules.specs.declared.Subject.the-variants.{Tpm, Device}
 use Rattle.rules.specs.declared.Term.{Term}
 use Rattle.rules.specs.declared.Term.the-variants.{PublicKey, PrivateKey, Hash, Signature, Attest, Credential, Number, IdevidRequest, LdevidRequest, Certificate, Pair}
 use Rattle.rules.specs.Limits.{fileLimit, partyLimit, termLimit, roleCount, device, tpmMaker}
-use Rattle.rules.specs.Refusals.{fileTooLong, sectionOrder, tooMany, outOfRange, wrongKind, alikeEarlier, badLearn, badHold, badSigningKey}
 use Rattle.rules.specs.Attributes.{attributesLimit, fixedTpm, has, sameAttributes, deskKeyAttributes}
 use Rattle.rules.specs.Term.{publicKeyKind, privateKeyKind, hashKind, signatureKind, attestKind, credentialKind, numberKind, idevidRequestKind, ldevidRequestKind, certificateKind, anyAlike, isTpmSubject}
 use Rattle.rules.specs.declared.Field.{Field}
@@ -73,32 +72,32 @@ commandAt k bs =
 
 -- 5: a section goes before one that has begun
 unfoldable pub sectionFault : File → ℕ → ℕ
-sectionFault f k = refuseUnless sectionOrder (leb (f .section) (sectionOf k))
+sectionFault f k = refuseUnless 5 (leb (f .section) (sectionOf k))
 
 -- 6: one party or term too many
 unfoldable pub countFault : File → ℕ → ℕ
 countFault f k =
-    cond (eqb (sectionOf k) partySection) (refuseUnless tooMany (ltb (length (f .roles)) partyLimit))
-    (cond (eqb (sectionOf k) termSection) (refuseUnless tooMany (ltb (length (f .terms)) termLimit))
+    cond (eqb (sectionOf k) partySection) (refuseUnless 6 (ltb (length (f .roles)) partyLimit))
+    (cond (eqb (sectionOf k) termSection) (refuseUnless 6 (ltb (length (f .terms)) termLimit))
     0)
 
 -- 7: a term number that is not declared; of a term's own fields, one that is not lower
 unfoldable pub declaredFault : File → ℕ → ℕ
-declaredFault f t = refuseUnless outOfRange (ltb t (length (f .terms)))
+declaredFault f t = refuseUnless 7 (ltb t (length (f .terms)))
 
 -- 7, 8: what is wrong with a field at a place of a body
 unfoldable pub fieldFault : File → Field → ℕ → List ℕ → ℕ
-fieldFault f RoleField i bs = refuseUnless outOfRange (ltb (getD bs i 0) roleCount)
+fieldFault f RoleField i bs = refuseUnless 7 (ltb (getD bs i 0) roleCount)
 fieldFault f IdentifierField i bs = 0
-fieldFault f AttributesField i bs = refuseUnless outOfRange (ltb (getD bs i 0) attributesLimit)
-fieldFault f SubjectField i bs = refuseUnless outOfRange (ltb (getD bs i 0) 2)
-fieldFault f PartyField i bs = refuseUnless outOfRange (ltb (getD bs i 0) (length (f .roles)))
+fieldFault f AttributesField i bs = refuseUnless 7 (ltb (getD bs i 0) attributesLimit)
+fieldFault f SubjectField i bs = refuseUnless 7 (ltb (getD bs i 0) 2)
+fieldFault f PartyField i bs = refuseUnless 7 (ltb (getD bs i 0) (length (f .roles)))
 fieldFault f AnyTerm i bs = declaredFault f (word bs i)
-fieldFault f (TermOf k) i bs = first (declaredFault f (word bs i)) (refuseUnless wrongKind (isKind f k (word bs i)))
+fieldFault f (TermOf k) i bs = first (declaredFault f (word bs i)) (refuseUnless 8 (isKind f k (word bs i)))
 fieldFault f SignedAttest i bs =
     first (declaredFault f (word bs i))
-    (first (refuseUnless wrongKind (isKind f signatureKind (word bs i)))
-    (refuseUnless wrongKind (isKind f attestKind (message f (word bs i)))))
+    (first (refuseUnless 8 (isKind f signatureKind (word bs i)))
+    (refuseUnless 8 (isKind f attestKind (message f (word bs i)))))
 
 -- the fields in their order
 unfoldable pub fieldsFault : File → List Field → ℕ → List ℕ → ℕ
@@ -107,7 +106,7 @@ fieldsFault f (x ∷ xs) i bs = first (fieldFault f x i bs) (fieldsFault f xs (i
 
 -- 9: a term alike an earlier one
 unfoldable pub alikeFault : File → ℕ → List ℕ → ℕ
-alikeFault f k bs = cond (eqb (sectionOf k) termSection) (refuseUnless alikeEarlier (not (anyAlike (termAt k bs) (f .terms)))) 0
+alikeFault f k bs = cond (eqb (sectionOf k) termSection) (refuseUnless 9 (not (anyAlike (termAt k bs) (f .terms)))) 0
 
 -- 20: "a 10, a 16, or a 19 with TPM Subject whose signer an earlier 22 gave to a TPM maker"
 unfoldable pub mayLearn : File → ℕ → Bool
@@ -130,9 +129,9 @@ maySign f p k =
 
 -- 10, 11, 12: a set-up record that is not allowed
 unfoldable pub allowedFault : File → Setup → ℕ
-allowedFault f (learns p t) = refuseUnless badLearn (mayLearn f t)
-allowedFault f (holds p k) = refuseUnless badHold (mayHold f p k)
-allowedFault f (signsWith p k) = refuseUnless badSigningKey (maySign f p k)
+allowedFault f (learns p t) = refuseUnless 10 (mayLearn f t)
+allowedFault f (holds p k) = refuseUnless 11 (mayHold f p k)
+allowedFault f (signsWith p k) = refuseUnless 12 (maySign f p k)
 
 unfoldable pub setupFault : File → ℕ → List ℕ → ℕ
 setupFault f k bs = cond (eqb (sectionOf k) setupSection) (allowedFault f (setupAt k bs)) 0
@@ -188,7 +187,7 @@ unfoldable pub emptyFile : File
 emptyFile = record { section = 0; roles = []; terms = []; places = []; setup = []; commands = [] }
 
 unfoldable pub load : List ℕ → Load
-load bs = cond (leb (length bs) fileLimit) (feed (loaded emptyFile) (pieces (length bs) 0 bs)) (refused fileTooLong 0)
+load bs = cond (leb (length bs) fileLimit) (feed (loaded emptyFile) (pieces (length bs) 0 bs)) (refused 2 0)
 
 -- the commands in file order
 unfoldable pub commandsOf : File → List Command

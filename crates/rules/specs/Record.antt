@@ -6,7 +6,6 @@ use lib.Dec.{eqb, ltb, leb}
 use lib.ListN.{getD, length, take, drop}
 use Rattle.rules.specs.declared.Field.{Field}
 use Rattle.rules.specs.declared.Field.the-variants.{RoleField, IdentifierField, AttributesField, SubjectField, PartyField, AnyTerm, TermOf, SignedAttest}
-use Rattle.rules.specs.Refusals.{unknownKind, cutShort}
 use Rattle.rules.specs.Term.{publicKeyKind, privateKeyKind, hashKind, signatureKind, credentialKind, numberKind, idevidRequestKind, ldevidRequestKind, certificateKind, pairKind}
 
 -- the bytes of a field
@@ -112,8 +111,8 @@ pub data Piece : Type 0 where
   fault : ℕ → ℕ → Piece
 
 unfoldable pub cut : Bool → Bool → ℕ → ℕ → List ℕ → List Piece → List Piece
-cut false enough at k body more = fault unknownKind at ∷ []
-cut true false at k body more = fault cutShort at ∷ []
+cut false enough at k body more = fault 3 at ∷ []
+cut true false at k body more = fault 4 at ∷ []
 cut true true at k body more = whole at k body ∷ more
 
 -- the pieces of the bytes that begin at a place; the first number bounds how many

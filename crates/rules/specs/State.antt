@@ -66,14 +66,8 @@ ticketed s p h = record { knows = s .knows; table = grant (s .table) p h; mark =
 
 -- the number is used; the credential is open, with the request and the desk
 unfoldable pub opening : State → ℕ → ℕ → ℕ → ℕ → State
-opening s number credential request desk = record {
-  knows = s .knows;
-  table = s .table;
-  mark = put (put (s .mark) number numberUsed) credential credentialOpen;
-  desk = put (s .desk) credential desk;
-  request = put (s .request) credential request;
-  ledger = s .ledger;
-}
+opening s number credential request desk =
+    record { knows = s .knows; table = s .table; mark = put (put (s .mark) number numberUsed) credential credentialOpen; desk = put (s .desk) credential desk; request = put (s .request) credential request; ledger = s .ledger }
 
 unfoldable pub closing : State → ℕ → State
 closing s credential = record { knows = s .knows; table = s .table; mark = put (s .mark) credential credentialClosed; desk = s .desk; request = s .request; ledger = s .ledger }

@@ -11,7 +11,6 @@ use borrow.Author.Tests.{ltb-true, leb-true, eqb-true, eqb-false, not-true}
 use lib.ListN.{getD, length, length-append, take, drop}
 use Rattle.rules.specs.declared.Term.{Term}
 use Rattle.rules.specs.Limits.{fileLimit, partyLimit, termLimit, device, tpmMaker}
-use Rattle.rules.specs.Refusals.{sectionOrder, tooMany, alikeEarlier}
 use Rattle.rules.specs.Attributes.{fixedTpm, has, deskKeyAttributes}
 use Rattle.rules.specs.Term.{publicKeyKind, privateKeyKind, hashKind, signatureKind, attestKind, credentialKind, numberKind, idevidRequestKind, ldevidRequestKind, certificateKind, pairKind, isTpmSubject, anyAlike}
 use Rattle.rules.specs.Record.{fieldsOf, sectionOf, partySection, termSection, setupSection, commandSection, bodyLength, Piece, whole, fault, cut, pieces}
@@ -238,7 +237,7 @@ command-section k h x y z = last-section (eqb k 1) (leb 0x10 k && leb k 0x1A) (l
 module _ (f : File) (place k : ℕ) (bs : List ℕ) (g : Good f) (known : 0 < sectionOf k) (none : recordFault f k bs ≡ 0) where
   in-order : f .section ≤ sectionOf k
   unfolding recordFault sectionFault
-  in-order = leb-true (f .section) (sectionOf k) (refuse-zero sectionOrder (leb (f .section) (sectionOf k)) (omega arith) (first-zero _ _ none .0))
+  in-order = leb-true (f .section) (sectionOf k) (refuse-zero 5 (leb (f .section) (sectionOf k)) (omega arith) (first-zero _ _ none .0))
 
   not-many : countFault f k ≡ 0
   unfolding recordFault
@@ -263,12 +262,12 @@ module _ (f : File) (place k : ℕ) (bs : List ℕ) (g : Good f) (known : 0 < se
   entered-go true v w a b c =
       let e : sectionOf k ≡ partySection = eqb-true (sectionOf k) partySection a in
       let o : f .section ≤ sectionOf k = in-order in
-      party-good f g (getD bs 0 0) (omega arith) (ltb-true (length (f .roles)) partyLimit (refuse-zero tooMany _ (omega arith) (rw a at not-many)))
+      party-good f g (getD bs 0 0) (omega arith) (ltb-true (length (f .roles)) partyLimit (refuse-zero 6 _ (omega arith) (rw a at not-many)))
   entered-go false true w a b c =
       let e : sectionOf k ≡ termSection = eqb-true (sectionOf k) termSection b in
       let o : f .section ≤ sectionOf k = in-order in
-      term-good f g (termAt k bs) place (omega arith) (ltb-true (length (f .terms)) termLimit (refuse-zero tooMany _ (omega arith) (rw (a, b) at not-many)))
-      (not-true (anyAlike (termAt k bs) (f .terms)) (refuse-zero alikeEarlier _ (omega arith) (rw b at not-alike)))
+      term-good f g (termAt k bs) place (omega arith) (ltb-true (length (f .terms)) termLimit (refuse-zero 6 _ (omega arith) (rw (a, b) at not-many)))
+      (not-true (anyAlike (termAt k bs) (f .terms)) (refuse-zero 9 _ (omega arith) (rw b at not-alike)))
       (term-names f bs k e fields-right)
   entered-go false false true a b c =
       let e : sectionOf k ≡ setupSection = eqb-true (sectionOf k) setupSection c in

@@ -9,7 +9,6 @@ use lib.Dec.{eqb, ltb, leb}
 use borrow.Author.Tests.{ltb-true, leb-true, eqb-true, eqb-false}
 use lib.ListN.{getD, length}
 use Rattle.rules.specs.Term.{privateKeyKind, signatureKind, attestKind}
-use Rattle.rules.specs.Refusals.{outOfRange, wrongKind}
 use Rattle.rules.specs.declared.Field.{Field}
 use Rattle.rules.specs.declared.Field.the-variants.{RoleField, IdentifierField, AttributesField, SubjectField, PartyField, AnyTerm, TermOf, SignedAttest}
 use Rattle.rules.specs.Record.{width, fieldsOf, sectionOf, termSection, setupSection, word}
@@ -66,11 +65,11 @@ AllPassed f (x ∷ xs) i bs = Passed f x i bs × AllPassed f xs (i + size x) bs
 
 declared-below : (f : File) (t : ℕ) → declaredFault f t ≡ 0 → t < length (f .terms)
 unfolding declaredFault
-declared-below f t e = ltb-true t (length (f .terms)) (refuse-zero outOfRange (ltb t (length (f .terms))) (omega arith) e)
+declared-below f t e = ltb-true t (length (f .terms)) (refuse-zero 7 (ltb t (length (f .terms))) (omega arith) e)
 
-is-kind : (f : File) (k t : ℕ) → refuseUnless wrongKind (isKind f k t) ≡ 0 → kind f t ≡ k
+is-kind : (f : File) (k t : ℕ) → refuseUnless 8 (isKind f k t) ≡ 0 → kind f t ≡ k
 unfolding isKind
-is-kind f k t e = eqb-true (kind f t) k (refuse-zero wrongKind (isKind f k t) (omega arith) e)
+is-kind f k t e = eqb-true (kind f t) k (refuse-zero 8 (isKind f k t) (omega arith) e)
 
 field-passed : (f : File) (x : Field) (i : ℕ) (bs : List ℕ) → fieldFault f x i bs ≡ 0 → Passed f x i bs
 unfolding fieldFault
@@ -78,7 +77,7 @@ field-passed f RoleField i bs e = tt
 field-passed f IdentifierField i bs e = tt
 field-passed f AttributesField i bs e = tt
 field-passed f SubjectField i bs e = tt
-field-passed f PartyField i bs e = ltb-true (getD bs i 0) (length (f .roles)) (refuse-zero outOfRange (ltb (getD bs i 0) (length (f .roles))) (omega arith) e)
+field-passed f PartyField i bs e = ltb-true (getD bs i 0) (length (f .roles)) (refuse-zero 7 (ltb (getD bs i 0) (length (f .roles))) (omega arith) e)
 field-passed f AnyTerm i bs e = declared-below f (word bs i) e
 field-passed f (TermOf k) i bs e =
     (declared-below f (word bs i) (first-zero _ _ e .0), is-kind f k (word bs i) (first-zero _ _ e .1))

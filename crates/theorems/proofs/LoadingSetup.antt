@@ -11,7 +11,6 @@ use borrow.Author.Tests.{eqb-true, eqb-false, eq-eqb, not-true}
 use lib.ListN.{length}
 use Rattle.rules.specs.declared.Attributes.{Attributes}
 use Rattle.rules.specs.Limits.{device, tpmMaker}
-use Rattle.rules.specs.Refusals.{badLearn, badHold, badSigningKey}
 use Rattle.rules.specs.Attributes.{fixedTpm, has, sameAttributes, deskKeyAttributes}
 use Rattle.rules.specs.Term.{publicKeyKind, privateKeyKind, numberKind, certificateKind, isTpmSubject}
 use Rattle.rules.specs.Record.{setupSection}
@@ -204,19 +203,19 @@ module _ (f : File) (x : Setup) (s : Setups f) (fields : SetupFields f x) (allow
   unfolding allowedFault
   new-learns p t e =
       let a : allowedFault f (learns p t) ≡ 0 = subst (λ (y : Setup). allowedFault f y ≡ 0) (sym e) allowed in
-      (subst (SetupFields f) (sym e) fields, may-learn f t (refuse-zero badLearn (mayLearn f t) (omega arith) a))
+      (subst (SetupFields f) (sym e) fields, may-learn f t (refuse-zero 10 (mayLearn f t) (omega arith) a))
 
   new-holds : (p k : ℕ) → holds p k ≡ x → (kind f k ≡ privateKeyKind) × (mayHold f p k ≡ true)
   unfolding allowedFault
   new-holds p k e =
       let a : allowedFault f (holds p k) ≡ 0 = subst (λ (y : Setup). allowedFault f y ≡ 0) (sym e) allowed in
-      (subst (SetupFields f) (sym e) fields, refuse-zero badHold (mayHold f p k) (omega arith) a)
+      (subst (SetupFields f) (sym e) fields, refuse-zero 11 (mayHold f p k) (omega arith) a)
 
   new-signs : (p k : ℕ) → signsWith p k ≡ x → MaySign f p k
   unfolding allowedFault
   new-signs p k e =
       let a : allowedFault f (signsWith p k) ≡ 0 = subst (λ (y : Setup). allowedFault f y ≡ 0) (sym e) allowed in
-      may-sign f p k (refuse-zero badSigningKey (maySign f p k) (omega arith) a)
+      may-sign f p k (refuse-zero 12 (maySign f p k) (omega arith) a)
 
   abbrev In : Setup → Type 0
   In y = (y ≡ x) ⊎ List·Memᴰ y (f .setup)
