@@ -9,7 +9,7 @@ use Rattle.rules.specs.declared.Subject.{Subject}
 use Rattle.rules.specs.declared.Term.{Term}
 use Rattle.rules.specs.declared.Term.the-variants.{Hash}
 use Rattle.rules.specs.Limits.{roleCount}
-use Rattle.rules.specs.Term.{kindOf, fieldsIn, subjectOf, attributesOf, keyPair, partsOf}
+use Rattle.rules.specs.Term.{kindOf, fieldsIn, subjectOf, attributesOf, keyPair, partsOf, namesOf}
 
 -- A set-up record: 20 (party, t), 21 (party, private key), 22 (party, private key).
 pub data Setup : Type 0 where
@@ -52,6 +52,9 @@ isKind f k t = eqb (kind f t) k
 
 unfoldable pub parts : File → ℕ → List ℕ
 parts f t = partsOf (term f t)
+
+unfoldable pub names : File → ℕ → List ℕ
+names f t = namesOf (term f t)
 
 unfoldable pub field : File → ℕ → ℕ → ℕ
 field f t i = getD (fieldsIn (term f t)) i 0

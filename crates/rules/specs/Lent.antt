@@ -64,15 +64,8 @@ low x = x % 256
 -- the state bytes of a term: known by, TPM table, mark, desk, request (two bytes), the place of its record (two bytes)
 unfoldable pub row : State → ℕ → ℕ → List ℕ
 row s t place =
-    bits partyLimit (λ p. s .knows p t)
-    ∷ bits partyLimit (λ p. s .table p t)
-    ∷ s .mark t
-    ∷ s .desk t
-    ∷ high (s .request t)
-    ∷ low (s .request t)
-    ∷ high place
-    ∷ low place
-    ∷ []
+    bits partyLimit (λ p. s .knows p t) ∷ bits partyLimit (λ p. s .table p t) ∷ s .mark t ∷ s .desk t
+    ∷ high (s .request t) ∷ low (s .request t) ∷ high place ∷ low place ∷ []
 
 -- the rows of the terms from t on, by their places
 unfoldable pub rows : State → ℕ → List ℕ → List ℕ
@@ -102,11 +95,8 @@ unfoldable pub loadLeaves : List ℕ → List ℕ → List ℕ
 loadLeaves bs state = cond (leb stateBytes (length state) && leb (length bs) fileLimit) (loadWritten state (loadFile bs)) state
 
 unfoldable pub written : List ℕ → List Entry → List ℕ → Lent → Lent
-written state ledger outcomes lent = record {
-  state = firstPart stateBytes 0 state (lent .state);
-  ledger = firstPart termLimit noEntry ledger (lent .ledger);
-  outcomes = firstPart commandLimit 0 outcomes (lent .outcomes);
-}
+written state ledger outcomes lent =
+    record { state = firstPart stateBytes 0 state (lent .state); ledger = firstPart termLimit noEntry ledger (lent .ledger); outcomes = firstPart commandLimit 0 outcomes (lent .outcomes) }
 
 -- 1: "buffer short"
 unfoldable pub longEnough : Lent → Bool

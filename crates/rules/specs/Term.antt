@@ -149,3 +149,17 @@ partsOf (IdevidRequest s c k) = c ∷ k ∷ []
 partsOf (LdevidRequest t c) = t ∷ c ∷ []
 partsOf (Certificate k s p) = k ∷ []
 partsOf (Pair t u) = t ∷ u ∷ []
+
+-- the terms that a term names, in the order of its body
+unfoldable pub namesOf : Term → List ℕ
+namesOf (PublicKey id a) = []
+namesOf (PrivateKey id a) = []
+namesOf (Hash t) = t ∷ []
+namesOf (Signature t k) = t ∷ k ∷ []
+namesOf (Attest k) = k ∷ []
+namesOf (Credential t n k) = t ∷ n ∷ k ∷ []
+namesOf (Number id) = []
+namesOf (IdevidRequest s c k) = c ∷ k ∷ []
+namesOf (LdevidRequest t c) = t ∷ c ∷ []
+namesOf (Certificate k s p) = k ∷ p ∷ []
+namesOf (Pair t u) = t ∷ u ∷ []

@@ -55,7 +55,7 @@ module _ (f : File) (ck : Checked f) (s : State) (inv : Invariant f s) where
   unequal c n h k e = differ f c numberKind h tt (ap (kind f) e ∙ k)
 
   -- who knows a pair knows its two terms
-  left-known : (p q : ℕ) → kind f q ≡ pairKind → s .knows p q ≡ true → s .knows p (leftOf f q) ≡ true
+  pub left-known : (p q : ℕ) → kind f q ≡ pairKind → s .knows p q ≡ true → s .knows p (leftOf f q) ≡ true
   left-known p q h k = inv .closed p q (leftOf f q) k (first-part f q (leftOf f q) (rightOf f q ∷ []) (parts-pair f q h))
 
   -- 3E

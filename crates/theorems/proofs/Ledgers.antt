@@ -8,7 +8,7 @@ use mathlib.Core.Option.{Option, none, some}
 use Prim.Native.Nat.{ℕ, zero, suc, _<_}
 use native.Mathlib.Omega.{arith}
 use lib.Dec.{eqb}
-use lib.ListN.{length, getElem?}
+use lib.ListN.{length, getD, getElem?}
 use borrow.Author.Tests.{eq-eqb, eqb-true}
 use Rattle.rules.specs.declared.Entry.{Entry}
 use Rattle.rules.specs.State.{listed, depthOf}
@@ -31,6 +31,12 @@ module _ {A : Type 0} where
   at-below [] i x e = absurd (let z : _≡_ {A = ℕ} 0 1 = cc in omega arith)
   at-below (y ∷ xs) zero x e = omega arith
   at-below (y ∷ xs) (suc i) x e = let h = at-below xs i x e in omega arith
+
+  -- every place below the length has an element
+  pub at-within : (xs : List A) (d : A) (i : ℕ) → i < length xs → getElem? xs i ≡ some (getD xs i d)
+  at-within [] d i h = absurd (omega arith)
+  at-within (y ∷ xs) d zero h = refl
+  at-within (y ∷ xs) d (suc i) h = at-within xs d i (omega arith)
 
   pub at-last : (xs : List A) (y : A) → getElem? (xs ++ (y ∷ [])) (length xs) ≡ some y
   at-last [] y = refl

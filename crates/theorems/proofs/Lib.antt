@@ -13,5 +13,9 @@ pub mod DeviceSteps
 pub mod Knowers
 pub mod DeskSteps
 pub mod Reaching
+pub mod NotListed
+pub mod Pigeonhole
 pub mod History
 pub mod Demand3
+pub mod Laws
+pub mod Pieces

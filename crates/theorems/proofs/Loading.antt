@@ -1,7 +1,7 @@
 -- What loading checked holds of every file that loads.
 -- Assumes nothing.
-use mathlib.Core.Path.{_≡_, refl, sym, subst}
-use mathlib.Core.Bool.{Bool, true, false, cond, not, _&&_}
+use mathlib.Core.Path.{_≡_, refl, sym, subst, _∙_}
+use mathlib.Core.Bool.{Bool, true, false, cond, _&&_}
 use mathlib.Core.Logic.{_⊎_, inl, inr}
 use mathlib.Core.List.{List, [], _∷_, List·Memᴰ, List·Memᴰ·cases-cons}
 use Prim.Native.Nat.{ℕ, zero, suc, _+_, _<_, _≤_}
@@ -12,11 +12,12 @@ use lib.ListN.{getD, length, length-append, take, drop}
 use Rattle.rules.specs.declared.Term.{Term}
 use Rattle.rules.specs.Limits.{fileLimit, partyLimit, termLimit, device, tpmMaker}
 use Rattle.rules.specs.Attributes.{fixedTpm, has, deskKeyAttributes}
-use Rattle.rules.specs.Term.{publicKeyKind, privateKeyKind, hashKind, signatureKind, attestKind, credentialKind, numberKind, idevidRequestKind, ldevidRequestKind, certificateKind, pairKind, isTpmSubject, anyAlike}
+use Rattle.rules.specs.Term.{publicKeyKind, privateKeyKind, hashKind, signatureKind, attestKind, credentialKind, numberKind, idevidRequestKind, ldevidRequestKind, certificateKind, pairKind, fieldsIn, isTpmSubject, anyAlike}
 use Rattle.rules.specs.Record.{fieldsOf, sectionOf, partySection, termSection, setupSection, commandSection, bodyLength, Piece, whole, fault, cut, pieces}
-use Rattle.rules.specs.File.{File, Setup, learns, holds, signsWith, Command, hash, sign, certify, makeCredential, activateCredential, makeIdevidRequest, makeLdevidRequest, makePair, checkHash, checkSignature, checkCertificate, checkAttributes, send, selfIssue, challenge, issueIak, issueLak, roleOf, term, kind, parts, field, message, subject, attributes, signer, credentialNumber, attestedKey, certifiedKey, idevidCertificate, signsForRole}
+use Rattle.rules.specs.File.{File, Setup, learns, holds, signsWith, Command, hash, sign, certify, makeCredential, activateCredential, makeIdevidRequest, makeLdevidRequest, makePair, checkHash, checkSignature, checkCertificate, checkAttributes, send, selfIssue, challenge, issueIak, issueLak, roleOf, term, kind, parts, names, field, message, signingKey, subject, attributes, signer, credentialNumber, attestedKey, certifiedKey, idevidCertificate, ldevidCertificate, signsForRole}
 use Rattle.rules.specs.Load.{termAt, setupAt, commandAt, sectionFault, countFault, fieldsFault, alikeFault, setupFault, allowedFault, recordFault, withParty, withTerm, withSetup, withCommand, enter, Load, loaded, refused, settle, step, feed, emptyFile, load}
-use Rattle.theorems.proofs.LoadingTerms.{at, Names, AllName, Distinct, all-name, distinct-more, parts-below, number-kind, attested-kind, certified-kind, idevid-certificate-kind}
+use Rattle.theorems.proofs.Terms.{declared}
+use Rattle.theorems.proofs.LoadingTerms.{Named, Names, AllName, Distinct, all-name, distinct-more, named-lower, parts-lower}
 use Rattle.theorems.proofs.LoadingFields.{first-zero, refuse-zero, SetupFields, AllPassed, passed, Each, each, fourth, within, term-names, setup-passed}
 use Rattle.theorems.proofs.LoadingSetup.{Setups, no-mem, none-yet, one-more, setups-stay}
 
@@ -43,12 +44,16 @@ Wellformed f (issueLak p q r) = (p < length (f .roles)) × (kind f r ≡ certifi
 -- what holds of every file that loads
 pub record Checked (f : File) : Type 0 where
   pub lower : (t u : ℕ) → List·Memᴰ u (parts f t) → u < t
+  pub namesLower : (t u : ℕ) → t < length (f .terms) → List·Memᴰ u (names f t) → u < t
   pub distinct : (i j : ℕ) → i < length (f .terms) → j < length (f .terms) → term f i ≡ term f j → i ≡ j
   pub parties : length (f .roles) ≤ partyLimit
   pub credentialNumberKind : (t : ℕ) → kind f t ≡ credentialKind → kind f (credentialNumber f t) ≡ numberKind
   pub attestedKeyKind : (t : ℕ) → kind f t ≡ attestKind → kind f (attestedKey f t) ≡ publicKeyKind
   pub certifiedKeyKind : (t : ℕ) → kind f t ≡ certificateKind → kind f (certifiedKey f t) ≡ publicKeyKind
   pub idevidCertificateKind : (t : ℕ) → kind f t ≡ idevidRequestKind → kind f (idevidCertificate f t) ≡ certificateKind
+  pub ldevidCertificateKind : (t : ℕ) → kind f t ≡ ldevidRequestKind → kind f (ldevidCertificate f t) ≡ certificateKind
+  pub signerKind : (t : ℕ) → kind f t ≡ certificateKind → kind f (signer f t) ≡ privateKeyKind
+  pub signingKeyKind : (t : ℕ) → kind f t ≡ signatureKind → kind f (signingKey f t) ≡ privateKeyKind
   pub learnsParty : (p t : ℕ) → List·Memᴰ (learns p t) (f .setup) → p < length (f .roles)
   pub learnsAllowed :
       (p t : ℕ) → List·Memᴰ (learns p t) (f .setup)
@@ -122,7 +127,7 @@ module _ (f : File) (bs : List ℕ) where
       each (CommandPassed f bs) 17 0x30 each-command k (r .0) (omega arith) (passed f bs (fieldsOf k) 0 e)
 
 -- The invariant: what holds after every record. A section that has not begun is empty.
-record Good (f : File) : Type 0 where
+pub record Good (f : File) : Type 0 where
   names : AllName (f .terms)
   distinct : Distinct (f .terms)
   parties : length (f .roles) ≤ partyLimit
@@ -277,7 +282,7 @@ module _ (f : File) (place k : ℕ) (bs : List ℕ) (g : Good f) (known : 0 < se
       let e : sectionOf k ≡ commandSection = command-section k known (eqb-false (sectionOf k) partySection a) (eqb-false (sectionOf k) termSection b) (eqb-false (sectionOf k) setupSection c) in
       command-good f g (sectionOf k) (commandAt k bs) e (command-passed f bs k e fields-right)
 
-  entered : Good (enter f place k bs)
+  pub entered : Good (enter f place k bs)
   unfolding enter
   entered = entered-go (eqb (sectionOf k) partySection) (eqb (sectionOf k) termSection) (eqb (sectionOf k) setupSection) refl refl refl
 
@@ -321,10 +326,10 @@ fed (whole place k bs ∷ ps) (loaded f) known g =
 fed (fault r place ∷ ps) (refused q at) known g = fed ps (refused q at) known tt
 fed (fault r place ∷ ps) (loaded f) known g = fed ps (refused r place) known tt
 
-empty-good : Good emptyFile
+pub empty-good : Good emptyFile
 unfolding emptyFile
 empty-good = record {
-  names = λ i. tt;
+  names = λ i h. absurd (omega arith);
   distinct = λ i j hi hj e. absurd (omega arith);
   parties = (omega arith);
   fewTerms = (omega arith);
@@ -344,18 +349,28 @@ unfolding load
 load-sound bytes =
     cond-sound (leb (length bytes) fileLimit) _ _ (fed (pieces (length bytes) 0 bytes) (loaded emptyFile) (pieces-known (length bytes) 0 bytes) empty-good) tt
 
-good-checked : (f : File) → Good f → Checked f
-unfolding parts term kind credentialNumber attestedKey certifiedKey idevidCertificate field
+-- what loading checked of the fields of a term, by its kind
+fields-by : (f : File) → Good f → (t k : ℕ) → kind f t ≡ k → (k ≡ hashKind → ⊥) → Named (f .terms) t (fieldsOf k) 0 (fieldsIn (term f t))
+unfolding term kind
+fields-by f g t k e other =
+    subst (λ (j : ℕ). Named (f .terms) t (fieldsOf j) 0 (fieldsIn (term f t))) e (g .names t (declared f t (λ h. other (sym e ∙ h))))
+
+pub good-checked : (f : File) → Good f → Checked f
+unfolding parts names term kind fieldsOf sectionOf credentialNumber attestedKey certifiedKey idevidCertificate ldevidCertificate signer signingKey field
 good-checked f g =
     let s = g .setups in
     record {
-      lower = λ t u m. parts-below (f .terms) t (at (f .terms) t) (g .names t) u m;
+      lower = parts-lower (f .terms) (g .names);
+      namesLower = named-lower (f .terms) (g .names);
       distinct = g .distinct;
       parties = g .parties;
-      credentialNumberKind = λ t e. number-kind (f .terms) t (at (f .terms) t) (g .names t) e;
-      attestedKeyKind = λ t e. attested-kind (f .terms) t (at (f .terms) t) (g .names t) e;
-      certifiedKeyKind = λ t e. certified-kind (f .terms) t (at (f .terms) t) (g .names t) e;
-      idevidCertificateKind = λ t e. idevid-certificate-kind (f .terms) t (at (f .terms) t) (g .names t) e;
+      credentialNumberKind = λ t e. fields-by f g t credentialKind e (omega arith) .1 .0 .1;
+      attestedKeyKind = λ t e. fields-by f g t attestKind e (omega arith) .0 .1;
+      certifiedKeyKind = λ t e. fields-by f g t certificateKind e (omega arith) .0 .1;
+      idevidCertificateKind = λ t e. fields-by f g t idevidRequestKind e (omega arith) .1 .0 .1;
+      ldevidCertificateKind = λ t e. fields-by f g t ldevidRequestKind e (omega arith) .1 .0 .1;
+      signerKind = λ t e. fields-by f g t certificateKind e (omega arith) .1 .1 .0 .1;
+      signingKeyKind = λ t e. fields-by f g t signatureKind e (omega arith) .1 .0 .1;
       learnsParty = s .learnsParty;
       learnsAllowed = s .learnsAllowed;
       holdsKind = s .holdsKind;

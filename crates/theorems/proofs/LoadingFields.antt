@@ -8,12 +8,15 @@ use native.Mathlib.Omega.{arith}
 use lib.Dec.{eqb, ltb, leb}
 use borrow.Author.Tests.{ltb-true, leb-true, eqb-true, eqb-false}
 use lib.ListN.{getD, length}
-use Rattle.rules.specs.Term.{privateKeyKind, signatureKind, attestKind}
+use Rattle.rules.specs.declared.Subject.{Subject}
+use Rattle.rules.specs.declared.Subject.the-variants.{Tpm, Device}
+use Rattle.rules.specs.declared.Term.the-variants.{IdevidRequest, Certificate}
+use Rattle.rules.specs.Term.{privateKeyKind, signatureKind, attestKind, idevidRequestKind, certificateKind, kindOf, fieldsIn, subjectFields}
 use Rattle.rules.specs.declared.Field.{Field}
 use Rattle.rules.specs.declared.Field.the-variants.{RoleField, IdentifierField, AttributesField, SubjectField, PartyField, AnyTerm, TermOf, SignedAttest}
 use Rattle.rules.specs.Record.{width, fieldsOf, sectionOf, termSection, setupSection, word}
 use Rattle.rules.specs.File.{File, Setup, learns, holds, signsWith, kind, isKind, term, message}
-use Rattle.rules.specs.Load.{first, refuseUnless, declaredFault, fieldFault, fieldsFault, termAt, setupAt}
+use Rattle.rules.specs.Load.{first, refuseUnless, declaredFault, fieldFault, fieldsFault, subjectAt, termAt, setupAt}
 use Rattle.theorems.proofs.LoadingTerms.{Names}
 
 -- what loading checked of a set-up record's fields
@@ -153,34 +156,20 @@ TermNames f bs k = AllPassed f (fieldsOf k) 0 bs → Names (f .terms) (length (f
 abbrev SetupPassed : File → List ℕ → ℕ → Type 0
 SetupPassed f bs k = AllPassed f (fieldsOf k) 0 bs → SetupFields f (setupAt k bs)
 
+by-subject : (P : Subject → Type 0) → ((n : ℕ) → P (Tpm n)) → ((n : ℕ) → P (Device n)) → (s : Subject) → P s
+by-subject P a b (Tpm n) = a n
+by-subject P a b (Device n) = b n
+
 module _ (f : File) (bs : List ℕ) where
   each-term : Each (TermNames f bs) 11 0x10
-  unfolding fieldsOf sectionOf termAt kind term
-  each-term = (
-    (λ h. tt),
-    (
-      (λ h. tt),
-      (
-        (λ h. tt),
-        (
-          (λ h. h .0),
-          (
-            (λ h. h .0),
-            (
-              (λ h. h .1 .0 .1),
-              (
-                (λ h. tt),
-                (
-                  (λ h. (h .1 .0 .0, h .1 .1 .0 .0, h .1 .0 .1)),
-                  ((λ h. (h .0, h .1 .0 .0)), ((λ h. h .0), ((λ h. (h .0, h .1 .0)), tt))),
-                ),
-              ),
-            ),
-          ),
-        ),
-      ),
-    ),
-  )
+  unfolding fieldsOf sectionOf termAt kind term kindOf fieldsIn subjectFields
+  each-term = ((λ h. h), ((λ h. h), ((λ h. h), ((λ h. h), ((λ h. h), ((λ h. h), ((λ h. h), (request, ((λ h. h), (certificate, ((λ h. h), tt)))))))))))
+    where
+      request : TermNames f bs idevidRequestKind
+      request h = by-subject (λ s. Names (f .terms) (length (f .terms)) (IdevidRequest s (word bs 3) (word bs 5))) (λ n. h) (λ n. h) (subjectAt bs 0)
+
+      certificate : TermNames f bs certificateKind
+      certificate h = by-subject (λ s. Names (f .terms) (length (f .terms)) (Certificate (word bs 0) s (word bs 5))) (λ n. h) (λ n. h) (subjectAt bs 2)
 
   each-setup : Each (SetupPassed f bs) 3 0x20
   unfolding fieldsOf sectionOf setupAt

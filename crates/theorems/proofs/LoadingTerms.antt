@@ -1,10 +1,10 @@
 -- The terms of a file that loads: what each of them names, and that no two are the same.
 -- Assumes nothing.
-use mathlib.Core.Path.{_≡_, refl, sym, ap, _∙_, subst}
+use mathlib.Core.Path.{_≡_, refl, sym, ap, _∙_, subst, subst⁻¹}
 use mathlib.Core.Bool.{Bool, true, false, _||_, true≢false, false≢true}
 use mathlib.Core.Logic.{_⊎_, inl, inr}
-use mathlib.Core.List.{List, [], _∷_, _++_, List·Memᴰ, List·Memᴰ·not-nil, List·Memᴰ·cases-cons}
-use Prim.Native.Nat.{ℕ, zero, suc, _<_, _≤_}
+use mathlib.Core.List.{List, [], _∷_, _++_, List·Memᴰ, List·Memᴰ·head, List·Memᴰ·tail, List·Memᴰ·not-nil}
+use Prim.Native.Nat.{ℕ, zero, suc, _+_, _<_, _≤_}
 use native.Mathlib.Omega.{arith}
 use lib.Dec.{ltb}
 use borrow.Author.Tests.{ltb-true, ltb-false, eq-eqb}
@@ -13,7 +13,10 @@ use lib.Seq.{getD-append-seam}
 use Rattle.rules.specs.declared.Subject.the-variants.{Tpm, Device}
 use Rattle.rules.specs.declared.Term.{Term}
 use Rattle.rules.specs.declared.Term.the-variants.{PublicKey, PrivateKey, Hash, Signature, Attest, Credential, Number, IdevidRequest, LdevidRequest, Certificate, Pair}
-use Rattle.rules.specs.Term.{kindOf, fieldsIn, partsOf, sameList, alike, anyAlike, publicKeyKind, hashKind, attestKind, credentialKind, numberKind, idevidRequestKind, certificateKind, subjectFields}
+use Rattle.rules.specs.declared.Field.{Field}
+use Rattle.rules.specs.declared.Field.the-variants.{RoleField, IdentifierField, AttributesField, SubjectField, PartyField, AnyTerm, TermOf, SignedAttest}
+use Rattle.rules.specs.Term.{kindOf, fieldsIn, subjectFields, partsOf, namesOf, sameList, alike, anyAlike}
+use Rattle.rules.specs.Record.{fieldsOf, sectionOf}
 
 -- the term of a number, as `term` has it
 abbrev pub at : List Term → ℕ → Term
@@ -22,22 +25,39 @@ at ts i = getD ts i (Hash 0)
 abbrev pub kindAt : List Term → ℕ → ℕ
 kindAt ts i = kindOf (at ts i)
 
+-- the numbers that a field takes among a term's fields
+abbrev span : Field → ℕ
+span RoleField = 1
+span IdentifierField = 1
+span AttributesField = 1
+span SubjectField = 2
+span PartyField = 1
+span AnyTerm = 1
+span (TermOf k) = 1
+span SignedAttest = 1
+
+-- what loading checked of a field of the term of number n
+abbrev NamesAt : List Term → ℕ → Field → ℕ → Type 0
+NamesAt ts n RoleField x = Unit {0}
+NamesAt ts n IdentifierField x = Unit {0}
+NamesAt ts n AttributesField x = Unit {0}
+NamesAt ts n SubjectField x = Unit {0}
+NamesAt ts n PartyField x = Unit {0}
+NamesAt ts n AnyTerm x = x < n
+NamesAt ts n (TermOf k) x = (x < n) × (kindAt ts x ≡ k)
+NamesAt ts n SignedAttest x = Unit {0}
+
+-- the same of the fields from the place i on
+abbrev pub Named : List Term → ℕ → List Field → ℕ → List ℕ → Type 0
+Named ts n [] i xs = Unit {0}
+Named ts n (x ∷ fs) i xs = NamesAt ts n x (getD xs i 0) × Named ts n fs (i + span x) xs
+
 -- what loading checked of the term of number n
 abbrev pub Names : List Term → ℕ → Term → Type 0
-Names ts n (PublicKey id a) = Unit {0}
-Names ts n (PrivateKey id a) = Unit {0}
-Names ts n (Hash t) = Unit {0}
-Names ts n (Signature t k) = t < n
-Names ts n (Attest k) = (k < n) × (kindAt ts k ≡ publicKeyKind)
-Names ts n (Credential t m k) = kindAt ts m ≡ numberKind
-Names ts n (Number id) = Unit {0}
-Names ts n (IdevidRequest s c k) = (c < n) × (k < n) × (kindAt ts c ≡ certificateKind)
-Names ts n (LdevidRequest t c) = (t < n) × (c < n)
-Names ts n (Certificate k s p) = (k < n) × (kindAt ts k ≡ publicKeyKind)
-Names ts n (Pair t u) = (t < n) × (u < n)
+Names ts n t = Named ts n (fieldsOf (kindOf t)) 0 (fieldsIn t)
 
 abbrev pub AllName : List Term → Type 0
-AllName ts = (i : ℕ) → Names ts i (at ts i)
+AllName ts = (i : ℕ) → i < length ts → Names ts i (at ts i)
 
 abbrev pub Distinct : List Term → Type 0
 Distinct ts = (i j : ℕ) → i < length ts → j < length ts → at ts i ≡ at ts j → i ≡ j
@@ -63,37 +83,6 @@ place-go n i (inr g) (inr h) = after h
 place : (n i : ℕ) → Place n i
 place n i = place-go n i (below-or i n) (below-or i (suc n))
 
-at-after : (ts : List Term) (t : Term) (i : ℕ) → suc (length ts) ≤ i → at (ts ++ (t ∷ [])) i ≡ Hash 0
-at-after ts t i h = List·getD-eq-default (ts ++ (t ∷ [])) (Hash 0) {n = i} (omega (arith, length-append ts (t ∷ [])))
-
--- a kind other than 12 is that of a declared term
-declared-go : (ts : List Term) (i k : ℕ) → kindAt ts i ≡ k → (k ≡ hashKind → ⊥) → (i < length ts) ⊎ (length ts ≤ i) → i < length ts
-unfolding kindOf
-declared-go ts i k e ne (inl l) = l
-declared-go ts i k e ne (inr g) =
-    let d : at ts i ≡ Hash 0 = List·getD-eq-default ts (Hash 0) {n = i} g in
-    let d' : kindAt ts i ≡ hashKind = ap kindOf d in
-    absurd (ne (sym e ∙ d'))
-
-pub declared : (ts : List Term) (i k : ℕ) → kindAt ts i ≡ k → (k ≡ hashKind → ⊥) → i < length ts
-declared ts i k e ne = declared-go ts i k e ne (below-or i (length ts))
-
-kind-stays : (ts : List Term) (u : Term) (i k : ℕ) → (k ≡ hashKind → ⊥) → kindAt ts i ≡ k → kindAt (ts ++ (u ∷ [])) i ≡ k
-kind-stays ts u i k ne e = ap kindOf (List·getD-append ts (u ∷ []) (Hash 0) i (declared ts i k e ne)) ∙ e
-
-names-stay : (ts : List Term) (u : Term) (n : ℕ) (t : Term) → Names ts n t → Names (ts ++ (u ∷ [])) n t
-names-stay ts u n (PublicKey id a) h = tt
-names-stay ts u n (PrivateKey id a) h = tt
-names-stay ts u n (Hash t) h = tt
-names-stay ts u n (Signature t k) h = h
-names-stay ts u n (Attest k) h = (h .0, kind-stays ts u k publicKeyKind (omega arith) (h .1))
-names-stay ts u n (Credential t m k) h = kind-stays ts u m numberKind (omega arith) h
-names-stay ts u n (Number id) h = tt
-names-stay ts u n (IdevidRequest s c k) h = (h .0, h .1, kind-stays ts u c certificateKind (omega arith) (h .2))
-names-stay ts u n (LdevidRequest t c) h = h
-names-stay ts u n (Certificate k s p) h = (h .0, kind-stays ts u k publicKeyKind (omega arith) (h .1))
-names-stay ts u n (Pair t v) h = h
-
 module _ (ts : List Term) (t : Term) where
   abbrev more : List Term
   more = ts ++ (t ∷ [])
@@ -104,15 +93,30 @@ module _ (ts : List Term) (t : Term) where
   at-before : (i : ℕ) → i < length ts → at more i ≡ at ts i
   at-before i h = List·getD-append ts (t ∷ []) (Hash 0) i h
 
-  names-go : AllName ts → Names ts (length ts) t → (i : ℕ) → Place (length ts) i → Names more i (at more i)
-  names-go all new i (before h) = rw (at-before i h) (names-stay ts t i (at ts i) (all i))
-  names-go all new i (last e) =
+  -- one more term changes none of the terms below
+  field-stays : (n x : ℕ) (d : Field) → n ≤ length ts → NamesAt ts n d x → NamesAt more n d x
+  field-stays n x RoleField l h = tt
+  field-stays n x IdentifierField l h = tt
+  field-stays n x AttributesField l h = tt
+  field-stays n x SubjectField l h = tt
+  field-stays n x PartyField l h = tt
+  field-stays n x AnyTerm l h = h
+  field-stays n x (TermOf k) l h = let b = h .0 in (b, ap kindOf (at-before x (omega arith)) ∙ h .1)
+  field-stays n x SignedAttest l h = tt
+
+  names-stay : (n : ℕ) (fs : List Field) (i : ℕ) (xs : List ℕ) → n ≤ length ts → Named ts n fs i xs → Named more n fs i xs
+  names-stay n [] i xs l h = tt
+  names-stay n (d ∷ fs) i xs l h = (field-stays n (getD xs i 0) d l (h .0), names-stay n fs (i + span d) xs l (h .1))
+
+  names-go : AllName ts → Names ts (length ts) t → (i : ℕ) → i < suc (length ts) → Place (length ts) i → Names more i (at more i)
+  names-go all new i b (before h) = rw (at-before i h) (names-stay i (fieldsOf (kindAt ts i)) 0 (fieldsIn (at ts i)) (omega arith) (all i h))
+  names-go all new i b (last e) =
       subst (λ (u : Term). Names more i u) (sym (at-last i e))
-      (names-stay ts t i t (subst (λ (n : ℕ). Names ts n t) (sym e) new))
-  names-go all new i (after h) = subst (λ (u : Term). Names more i u) (sym (at-after ts t i h)) tt
+      (names-stay i (fieldsOf (kindOf t)) 0 (fieldsIn t) (omega arith) (subst (λ (n : ℕ). Names ts n t) (sym e) new))
+  names-go all new i b (after h) = absurd (omega arith)
 
   pub all-name : AllName ts → Names ts (length ts) t → AllName more
-  all-name all new i = names-go all new i (place (length ts) i)
+  all-name all new i h = names-go all new i (omega (arith, length-append ts (t ∷ []))) (place (length ts) i)
 
 same-refl : (xs : List ℕ) → sameList xs xs ≡ true
 unfolding sameList
@@ -154,81 +158,59 @@ module _ (ts : List Term) (t : Term) (d : Distinct ts) (new : anyAlike t ts ≡ 
   distinct-more i j hi hj e =
       distinct-go i j (omega (arith, length-append ts (t ∷ []))) (omega (arith, length-append ts (t ∷ []))) e (place (length ts) i) (place (length ts) j)
 
--- what the statements say of a term that names what loading checked
+-- each of some terms is lower
+abbrev Below : ℕ → List ℕ → Type 0
+Below n [] = Unit {0}
+Below n (x ∷ xs) = (x < n) × Below n xs
 
-one-mem : {u x : ℕ} (n : ℕ) → x < n → List·Memᴰ u (x ∷ []) → u < n
-one-mem {u} {x} n h m = elim (List·Memᴰ·cases-cons m) [ inl e ↦ (omega (arith, e)) | inr m' ↦ absurd (List·Memᴰ·not-nil m') ]
+below-each : (n : ℕ) {u : ℕ} {xs : List ℕ} → Below n xs → List·Memᴰ u xs → u < n
+below-each n h (List·Memᴰ·head e) = subst⁻¹ (λ (x : ℕ). x < n) e (h .0)
+below-each n h (List·Memᴰ·tail m) = below-each n (h .1) m
 
-two-mem : {u x y : ℕ} (n : ℕ) → x < n → y < n → List·Memᴰ u (x ∷ y ∷ []) → u < n
-two-mem {u} {x} {y} n h k m = elim (List·Memᴰ·cases-cons m) [ inl e ↦ (omega (arith, e)) | inr m' ↦ one-mem n k m' ]
+names-below : (ts : List Term) (n : ℕ) (t : Term) → Names ts n t → Below n (namesOf t)
+unfolding namesOf kindOf fieldsIn subjectFields fieldsOf sectionOf
+names-below ts n (PublicKey id a) h = tt
+names-below ts n (PrivateKey id a) h = tt
+names-below ts n (Hash t) h = (h .0, tt)
+names-below ts n (Signature t k) h = (h .0, (h .1 .0 .0, tt))
+names-below ts n (Attest k) h = (h .0 .0, tt)
+names-below ts n (Credential t c k) h = (h .0, (h .1 .0 .0, (h .1 .1 .0 .0, tt)))
+names-below ts n (Number id) h = tt
+names-below ts n (IdevidRequest (Tpm i) c k) h = (h .1 .0 .0, (h .1 .1 .0 .0, tt))
+names-below ts n (IdevidRequest (Device i) c k) h = (h .1 .0 .0, (h .1 .1 .0 .0, tt))
+names-below ts n (LdevidRequest t c) h = (h .0, (h .1 .0 .0, tt))
+names-below ts n (Certificate k (Tpm i) p) h = (h .0 .0, (h .1 .1 .0 .0, tt))
+names-below ts n (Certificate k (Device i) p) h = (h .0 .0, (h .1 .1 .0 .0, tt))
+names-below ts n (Pair t v) h = (h .0, (h .1 .0, tt))
 
-pub parts-below : (ts : List Term) (n : ℕ) (t : Term) → Names ts n t → (u : ℕ) → List·Memᴰ u (partsOf t) → u < n
+-- a term names only lower ones
+pub named-lower : (ts : List Term) → AllName ts → (t u : ℕ) → t < length ts → List·Memᴰ u (namesOf (at ts t)) → u < t
+named-lower ts all t u h m = below-each t (names-below ts t (at ts t) (all t h)) m
+
+one-of-two : {u x y : ℕ} → List·Memᴰ u (x ∷ []) → List·Memᴰ u (x ∷ y ∷ [])
+one-of-two (List·Memᴰ·head e) = List·Memᴰ·head e
+one-of-two (List·Memᴰ·tail m) = absurd (List·Memᴰ·not-nil m)
+
+-- a term names its parts
+parts-named : (t : Term) (u : ℕ) → List·Memᴰ u (partsOf t) → List·Memᴰ u (namesOf t)
+unfolding partsOf namesOf
+parts-named (PublicKey id a) u m = m
+parts-named (PrivateKey id a) u m = m
+parts-named (Hash t) u m = absurd (List·Memᴰ·not-nil m)
+parts-named (Signature t k) u m = one-of-two m
+parts-named (Attest k) u m = m
+parts-named (Credential t n k) u m = absurd (List·Memᴰ·not-nil m)
+parts-named (Number id) u m = m
+parts-named (IdevidRequest s c k) u m = m
+parts-named (LdevidRequest t c) u m = m
+parts-named (Certificate k s p) u m = one-of-two m
+parts-named (Pair t v) u m = m
+
+-- the parts of a term are lower ones, also of one that is not declared
+pub parts-lower : (ts : List Term) → AllName ts → (t u : ℕ) → List·Memᴰ u (partsOf (at ts t)) → u < t
 unfolding partsOf
-parts-below ts n (PublicKey id a) h u m = absurd (List·Memᴰ·not-nil m)
-parts-below ts n (PrivateKey id a) h u m = absurd (List·Memᴰ·not-nil m)
-parts-below ts n (Hash t) h u m = absurd (List·Memᴰ·not-nil m)
-parts-below ts n (Signature t k) h u m = one-mem n h m
-parts-below ts n (Attest k) h u m = one-mem n (h .0) m
-parts-below ts n (Credential t c k) h u m = absurd (List·Memᴰ·not-nil m)
-parts-below ts n (Number id) h u m = absurd (List·Memᴰ·not-nil m)
-parts-below ts n (IdevidRequest s c k) h u m = two-mem n (h .0) (h .1) m
-parts-below ts n (LdevidRequest t c) h u m = two-mem n (h .0) (h .1) m
-parts-below ts n (Certificate k s p) h u m = one-mem n (h .0) m
-parts-below ts n (Pair t v) h u m = two-mem n (h .0) (h .1) m
-
-pub number-kind : (ts : List Term) (n : ℕ) (t : Term) → Names ts n t → kindOf t ≡ credentialKind → kindAt ts (getD (fieldsIn t) 1 0) ≡ numberKind
-unfolding kindOf fieldsIn
-number-kind ts n (PublicKey id a) h e = absurd (omega arith)
-number-kind ts n (PrivateKey id a) h e = absurd (omega arith)
-number-kind ts n (Hash t) h e = absurd (omega arith)
-number-kind ts n (Signature t k) h e = absurd (omega arith)
-number-kind ts n (Attest k) h e = absurd (omega arith)
-number-kind ts n (Credential t c k) h e = h
-number-kind ts n (Number id) h e = absurd (omega arith)
-number-kind ts n (IdevidRequest s c k) h e = absurd (omega arith)
-number-kind ts n (LdevidRequest t c) h e = absurd (omega arith)
-number-kind ts n (Certificate k s p) h e = absurd (omega arith)
-number-kind ts n (Pair t v) h e = absurd (omega arith)
-
-pub attested-kind : (ts : List Term) (n : ℕ) (t : Term) → Names ts n t → kindOf t ≡ attestKind → kindAt ts (getD (fieldsIn t) 0 0) ≡ publicKeyKind
-unfolding kindOf fieldsIn
-attested-kind ts n (PublicKey id a) h e = absurd (omega arith)
-attested-kind ts n (PrivateKey id a) h e = absurd (omega arith)
-attested-kind ts n (Hash t) h e = absurd (omega arith)
-attested-kind ts n (Signature t k) h e = absurd (omega arith)
-attested-kind ts n (Attest k) h e = h .1
-attested-kind ts n (Credential t c k) h e = absurd (omega arith)
-attested-kind ts n (Number id) h e = absurd (omega arith)
-attested-kind ts n (IdevidRequest s c k) h e = absurd (omega arith)
-attested-kind ts n (LdevidRequest t c) h e = absurd (omega arith)
-attested-kind ts n (Certificate k s p) h e = absurd (omega arith)
-attested-kind ts n (Pair t v) h e = absurd (omega arith)
-
-pub certified-kind : (ts : List Term) (n : ℕ) (t : Term) → Names ts n t → kindOf t ≡ certificateKind → kindAt ts (getD (fieldsIn t) 0 0) ≡ publicKeyKind
-unfolding kindOf fieldsIn
-certified-kind ts n (PublicKey id a) h e = absurd (omega arith)
-certified-kind ts n (PrivateKey id a) h e = absurd (omega arith)
-certified-kind ts n (Hash t) h e = absurd (omega arith)
-certified-kind ts n (Signature t k) h e = absurd (omega arith)
-certified-kind ts n (Attest k) h e = absurd (omega arith)
-certified-kind ts n (Credential t c k) h e = absurd (omega arith)
-certified-kind ts n (Number id) h e = absurd (omega arith)
-certified-kind ts n (IdevidRequest s c k) h e = absurd (omega arith)
-certified-kind ts n (LdevidRequest t c) h e = absurd (omega arith)
-certified-kind ts n (Certificate k s p) h e = h .1
-certified-kind ts n (Pair t v) h e = absurd (omega arith)
-
-pub idevid-certificate-kind : (ts : List Term) (n : ℕ) (t : Term) → Names ts n t → kindOf t ≡ idevidRequestKind → kindAt ts (getD (fieldsIn t) 2 0) ≡ certificateKind
-unfolding kindOf fieldsIn subjectFields
-idevid-certificate-kind ts n (PublicKey id a) h e = absurd (omega arith)
-idevid-certificate-kind ts n (PrivateKey id a) h e = absurd (omega arith)
-idevid-certificate-kind ts n (Hash t) h e = absurd (omega arith)
-idevid-certificate-kind ts n (Signature t k) h e = absurd (omega arith)
-idevid-certificate-kind ts n (Attest k) h e = absurd (omega arith)
-idevid-certificate-kind ts n (Credential t c k) h e = absurd (omega arith)
-idevid-certificate-kind ts n (Number id) h e = absurd (omega arith)
-idevid-certificate-kind ts n (IdevidRequest (Tpm i) c k) h e = h .2
-idevid-certificate-kind ts n (IdevidRequest (Device i) c k) h e = h .2
-idevid-certificate-kind ts n (LdevidRequest t c) h e = absurd (omega arith)
-idevid-certificate-kind ts n (Certificate k s p) h e = absurd (omega arith)
-idevid-certificate-kind ts n (Pair t v) h e = absurd (omega arith)
+parts-lower ts all t u m = go (below-or t (length ts))
+  where
+    go : (t < length ts) ⊎ (length ts ≤ t) → u < t
+    go (inl h) = named-lower ts all t u h (parts-named (at ts t) u m)
+    go (inr h) = absurd (List·Memᴰ·not-nil (subst (λ (x : Term). List·Memᴰ u (partsOf x)) (List·getD-eq-default ts (Hash 0) {n = t} h) m))

@@ -1,13 +1,13 @@
--- A command whose outcome is 0 passed each of its tests.
+-- What an outcome says of a command's tests: at 0 each passed; at a refusal one of that refusal failed, and those of earlier refusals passed.
 -- Assumes nothing.
 use mathlib.Core.Path.{_≡_, refl, sym, subst, _∙_}
 use mathlib.Core.Logic.{_⊎_, inl, inr, ⊎-elim}
 use mathlib.Core.Bool.{Bool, true, false, false≢true, cond, not, _&&_, _||_}
 use mathlib.Core.List.{List, [], _∷_}
-use Prim.Native.Nat.{ℕ, zero, suc, _<_}
+use Prim.Native.Nat.{ℕ, _<_}
 use native.Mathlib.Omega.{arith}
-use lib.Dec.{T, eqb, ltb}
-use borrow.Author.Tests.{eq-eqb, eqb-true}
+use lib.Dec.{eqb}
+use borrow.Author.Tests.{eq-eqb, eqb-true, eqb-false}
 use Rattle.rules.specs.Refusals.{Test, order, applies, firstOf, refusalOf}
 
 -- each test passes
@@ -16,7 +16,7 @@ Passed [] = Unit {0}
 Passed (x ∷ xs) = (x .passes ≡ true) × Passed xs
 
 -- each test of a refusal passes
-abbrev Clear : ℕ → List Test → Type 0
+abbrev pub Clear : ℕ → List Test → Type 0
 Clear n [] = Unit {0}
 Clear n (x ∷ xs) = (x .refusal ≡ n → x .passes ≡ true) × Clear n xs
 
@@ -24,14 +24,15 @@ abbrev among : ℕ → List ℕ → Bool
 among n [] = false
 among n (m ∷ ms) = eqb m n || among n ms
 
+-- the numbers before n
+abbrev before : ℕ → List ℕ → List ℕ
+before n [] = []
+before n (k ∷ ks) = cond (eqb k n) [] (k ∷ before n ks)
+
 -- the tests' refusals are all in the list
 abbrev pub ordered : List ℕ → List Test → Bool
 ordered ns [] = true
 ordered ns (x ∷ xs) = among (x .refusal) ns && ordered ns xs
-
-abbrev positive : List ℕ → Bool
-positive [] = true
-positive (n ∷ ns) = ltb 0 n && positive ns
 
 clear-head : (a p : Bool) (n m : ℕ) (rest : Bool) → ((eqb m n && not p) || rest) ≡ false → m ≡ n → p ≡ true
 clear-head a true n m rest e h = refl
@@ -50,10 +51,9 @@ unfolding applies
 clear n [] e = tt
 clear n (x ∷ xs) e = (clear-head true (x .passes) n (x .refusal) (applies n xs) e, clear n xs (clear-tail (eqb (x .refusal) n && not (x .passes)) (applies n xs) e))
 
-first-clear : (b : Bool) (n rest : ℕ) → ltb 0 n ≡ true → cond b n rest ≡ 0 → (b ≡ false) × (rest ≡ 0)
-first-clear true zero rest h e = absurd (false≢true h)
-first-clear true (suc n) rest h e = absurd (omega arith)
-first-clear false n rest h e = (refl, e)
+first-clear : (b : Bool) (k n rest : ℕ) → (k ≡ n → ⊥) → cond b k rest ≡ n → (b ≡ false) × (rest ≡ n)
+first-clear true k n rest d e = absurd (d e)
+first-clear false k n rest d e = (refl, e)
 
 both-true : (a b : Bool) → (a && b) ≡ true → (a ≡ true) × (b ≡ true)
 both-true true b e = (refl, e)
@@ -63,14 +63,21 @@ one-true : (a b : Bool) → (a || b) ≡ true → (a ≡ true) ⊎ (b ≡ true)
 one-true true b e = inl refl
 one-true false b e = inr e
 
-all-clear : (ns : List ℕ) (xs : List Test) → positive ns ≡ true → firstOf ns xs ≡ 0 → (n : ℕ) → among n ns ≡ true → Clear n xs
+earlier-clear : (ks : List ℕ) (xs : List Test) (n : ℕ) → firstOf ks xs ≡ n → (m : ℕ) → among m (before n ks) ≡ true → Clear m xs
 unfolding firstOf
-all-clear [] xs h e n m = absurd (false≢true m)
-all-clear (k ∷ ns) xs h e n m =
-    let hh = both-true (ltb 0 k) (positive ns) h in
-    let c = first-clear (applies k xs) k (firstOf ns xs) (hh .0) e in
-    ⊎-elim (λ i. subst (λ (j : ℕ). Clear j xs) (eqb-true k n i) (clear k xs (c .0))) (λ i. all-clear ns xs (hh .1) (c .1) n i)
-    (one-true (eqb k n) (among n ns) m)
+earlier-clear [] xs n e m h = absurd (false≢true h)
+earlier-clear (k ∷ ks) xs n e m h = go (eqb k n) refl h (earlier-clear ks xs n)
+  where
+    go : (b : Bool) → eqb k n ≡ b → among m (cond b [] (k ∷ before n ks)) ≡ true → (firstOf ks xs ≡ n → (m : ℕ) → among m (before n ks) ≡ true → Clear m xs) → Clear m xs
+    go true d h more = absurd (false≢true h)
+    go false d h more =
+        let c = first-clear (applies k xs) k n (firstOf ks xs) (eqb-false k n d) e in
+        ⊎-elim (λ i. subst (λ (j : ℕ). Clear j xs) (eqb-true k m i) (clear k xs (c .0))) (more (c .1) m) (one-true (eqb k m) (among m (before n ks)) h)
+
+-- the tests of the refusals that are looked for before the outcome's passed
+pub earlier-passed : (xs : List Test) (n : ℕ) → refusalOf xs ≡ n → (m : ℕ) → among m (before n order) ≡ true → Clear m xs
+unfolding refusalOf
+earlier-passed xs n e m h = earlier-clear order xs n e m h
 
 all-passed : (ns : List ℕ) (xs : List Test) → ((n : ℕ) → among n ns ≡ true → Clear n xs) → ordered ns xs ≡ true → Passed xs
 all-passed ns [] c o = tt
@@ -80,5 +87,18 @@ all-passed ns (x ∷ xs) c o =
 
 -- a command's tests, whose refusals are in the order
 pub passed : (xs : List Test) → ordered order xs ≡ true → refusalOf xs ≡ 0 → Passed xs
+passed xs o e = all-passed order xs (earlier-passed xs 0 e) o
+
+-- a refusal that is found applies
+found : (ns : List ℕ) (xs : List Test) (n : ℕ) → 0 < n → firstOf ns xs ≡ n → applies n xs ≡ true
+unfolding firstOf
+found [] xs n h e = absurd (omega arith)
+found (k ∷ ns) xs n h e = go (applies k xs) refl e (found ns xs n h)
+  where
+    go : (b : Bool) → applies k xs ≡ b → cond b k (firstOf ns xs) ≡ n → (firstOf ns xs ≡ n → applies n xs ≡ true) → applies n xs ≡ true
+    go true a e more = subst (λ (j : ℕ). applies j xs ≡ true) e a
+    go false a e more = more e
+
+pub applied : (xs : List Test) (n : ℕ) → 0 < n → refusalOf xs ≡ n → applies n xs ≡ true
 unfolding refusalOf
-passed xs o e = all-passed order xs (all-clear order xs refl e) o
+applied xs n h e = found order xs n h e

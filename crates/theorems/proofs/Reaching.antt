@@ -1,20 +1,19 @@
--- The invariant holds of every state that the first n commands leave.
+-- Each command is a step or changes nothing, and so the invariant holds of every state that the first n commands leave.
 -- Assumes nothing.
-use mathlib.Core.Path.{_≡_, refl, sym, ap, subst, subst⁻¹, _∙_}
+use mathlib.Core.Path.{_≡_, refl, ap, subst⁻¹, _∙_}
 use mathlib.Core.Logic.{_⊎_, inl, inr, ⊎-elim}
-use mathlib.Core.Bool.{Bool, true, false}
-use mathlib.Core.List.{List, [], _∷_, List·Memᴰ}
+use mathlib.Core.Bool.{true}
+use mathlib.Core.List.{List·Memᴰ}
 use mathlib.Core.Option.{Option, none, some}
-use Prim.Native.Nat.{ℕ, zero, suc, _<_}
+use Prim.Native.Nat.{ℕ, zero, suc}
 use native.Mathlib.Omega.{arith}
 use native.Mathlib.Decide.{ℕ-discrete}
-use lib.ListN.{length, getElem?}
-use Rattle.rules.specs.declared.Entry.{Entry}
+use lib.ListN.{getElem?}
 use Rattle.rules.specs.Limits.{tpmMaker}
-use Rattle.rules.specs.Term.{publicKeyKind, privateKeyKind, numberKind, certificateKind, isTpmSubject}
-use Rattle.rules.specs.File.{File, Setup, learns, holds, signsWith, Command, hash, sign, certify, makeCredential, activateCredential, makeIdevidRequest, makeLdevidRequest, makePair, checkHash, checkSignature, checkCertificate, checkAttributes, send, selfIssue, challenge, issueIak, issueLak, roleOf, kind, subject, certifiedKey, signer, signsForRole}
+use Rattle.rules.specs.Term.{certificateKind}
+use Rattle.rules.specs.File.{File, learns, signsWith, Command, hash, sign, certify, makeCredential, activateCredential, makeIdevidRequest, makeLdevidRequest, makePair, checkHash, checkSignature, checkCertificate, checkAttributes, send, selfIssue, challenge, issueIak, issueLak, roleOf, kind, certifiedKey, signer, signsForRole}
 use Rattle.rules.specs.Load.{commandsOf}
-use Rattle.rules.specs.State.{State, start, taught}
+use Rattle.rules.specs.State.{State, start}
 use Rattle.rules.specs.Run.{effectOf, outcome, after, reached}
 use Rattle.theorems.specs.Residency.{Inside}
 use Rattle.theorems.proofs.Inside.{inside-none, inside-one}
@@ -59,40 +58,49 @@ module _ (f : File) (ck : Checked f) where
   }
 
   module _ (s : State) (inv : Invariant f s) where
-    next : {s′ : State} → Step f s s′ → Invariant f s′
-    next {s′} st = invariant-next f ck s s′ inv st
-
-    effect-invariant : (c : Command) → Wellformed f c → outcome f s c ≡ 0 → Invariant f (effectOf f s c)
+    -- an accepted command is a step, or changes nothing
+    effect-step : (c : Command) → Wellformed f c → outcome f s c ≡ 0 → (effectOf f s c ≡ s) ⊎ Step f s (effectOf f s c)
     unfolding effectOf
-    effect-invariant (hash p r) w e = next (hash-step f ck s inv p r w)
-    effect-invariant (sign p r) w e = next (sign-step f ck s inv p r w e)
-    effect-invariant (certify p r) w e = next (certify-step f ck s inv p r w e)
-    effect-invariant (makeCredential p r) w e = next (makeCredential-step f ck s inv p r w e)
-    effect-invariant (activateCredential p r) w e = next (activateCredential-step f ck s inv p r w e)
-    effect-invariant (makeIdevidRequest p r) w e = next (makeIdevidRequest-step f ck s inv p r w e)
-    effect-invariant (makeLdevidRequest p r) w e = next (makeLdevidRequest-step f ck s inv p r w e)
-    effect-invariant (makePair p r) w e = next (makePair-step f ck s inv p r w e)
-    effect-invariant (checkHash p h t) w e = inv
-    effect-invariant (checkSignature p t k) w e = inv
-    effect-invariant (checkCertificate p c k) w e = inv
-    effect-invariant (checkAttributes p k a) w e = inv
-    effect-invariant (send p q t) w e = next (send-step f ck s inv p q t w e)
-    effect-invariant (selfIssue p r) w e = next (selfIssue-step f ck s inv p r w e)
-    effect-invariant (challenge p q r) w e = next (challenge-step f ck s inv p q r w e)
-    effect-invariant (issueIak p q c r) w e = next (issueIak-step f ck s inv p q c r w e)
-    effect-invariant (issueLak p q r) w e = next (issueLak-step f ck s inv p q r w e)
+    effect-step (hash p r) w e = inr (hash-step f ck s inv p r w)
+    effect-step (sign p r) w e = inr (sign-step f ck s inv p r w e)
+    effect-step (certify p r) w e = inr (certify-step f ck s inv p r w e)
+    effect-step (makeCredential p r) w e = inr (makeCredential-step f ck s inv p r w e)
+    effect-step (activateCredential p r) w e = inr (activateCredential-step f ck s inv p r w e)
+    effect-step (makeIdevidRequest p r) w e = inr (makeIdevidRequest-step f ck s inv p r w e)
+    effect-step (makeLdevidRequest p r) w e = inr (makeLdevidRequest-step f ck s inv p r w e)
+    effect-step (makePair p r) w e = inr (makePair-step f ck s inv p r w e)
+    effect-step (checkHash p h t) w e = inl refl
+    effect-step (checkSignature p t k) w e = inl refl
+    effect-step (checkCertificate p c k) w e = inl refl
+    effect-step (checkAttributes p k a) w e = inl refl
+    effect-step (send p q t) w e = inr (send-step f ck s inv p q t w e)
+    effect-step (selfIssue p r) w e = inr (selfIssue-step f ck s inv p r w e)
+    effect-step (challenge p q r) w e = inr (challenge-step f ck s inv p q r w e)
+    effect-step (issueIak p q c r) w e = inr (issueIak-step f ck s inv p q c r w e)
+    effect-step (issueLak p q r) w e = inr (issueLak-step f ck s inv p q r w e)
 
-    after-invariant : (c : Command) → Wellformed f c → Invariant f (after f s c)
-    after-invariant c w = go (ℕ-discrete (outcome f s c) 0)
+    after-step : (c : Command) → Wellformed f c → (after f s c ≡ s) ⊎ Step f s (after f s c)
+    after-step c w = go (ℕ-discrete (outcome f s c) 0)
       where
-        go : Dec (outcome f s c ≡ 0) → Invariant f (after f s c)
-        go (yes e) = subst⁻¹ (Invariant f) (after-accepted f s c e) (effect-invariant c w e)
-        go (no n) = subst⁻¹ (Invariant f) (after-refused f s c n) inv
+        go : Dec (outcome f s c ≡ 0) → (after f s c ≡ s) ⊎ Step f s (after f s c)
+        go (yes e) = subst⁻¹ (λ (x : State). (x ≡ s) ⊎ Step f s x) (after-accepted f s c e) (effect-step c w e)
+        go (no n) = inl (after-refused f s c n)
+
+  next-step : (n : ℕ) → Invariant f (reached f n) → (reached f (suc n) ≡ reached f n) ⊎ Step f (reached f n) (reached f (suc n))
+  next-step n inv = go (getElem? (commandsOf f) n) refl
+    where
+      go : (o : Option Command) → getElem? (commandsOf f) n ≡ o → (reached f (suc n) ≡ reached f n) ⊎ Step f (reached f n) (reached f (suc n))
+      go none e = inl (reached-end f n e)
+      go (some c) e =
+          subst⁻¹ (λ (x : State). (x ≡ reached f n) ⊎ Step f (reached f n) x) (reached-next f n c e)
+          (after-step (reached f n) inv c (ck .wellformed c (command-member f n c e)))
 
   pub reached-invariant : (n : ℕ) → Invariant f (reached f n)
   reached-invariant zero = subst⁻¹ (Invariant f) (reached-none f) start-invariant
-  reached-invariant (suc n) = go (getElem? (commandsOf f) n) refl (reached-invariant n)
-    where
-      go : (o : Option Command) → getElem? (commandsOf f) n ≡ o → Invariant f (reached f n) → Invariant f (reached f (suc n))
-      go none e inv = subst⁻¹ (Invariant f) (reached-end f n e) inv
-      go (some c) e inv = subst⁻¹ (Invariant f) (reached-next f n c e) (after-invariant (reached f n) inv c (ck .wellformed c (command-member f n c e)))
+  reached-invariant (suc n) =
+      let inv = reached-invariant n in
+      ⊎-elim (λ e. subst⁻¹ (Invariant f) e inv) (λ st. invariant-next f ck (reached f n) (reached f (suc n)) inv st) (next-step n inv)
+
+  -- one command more is a step, or changes nothing
+  pub reached-step : (n : ℕ) → (reached f (suc n) ≡ reached f n) ⊎ Step f (reached f n) (reached f (suc n))
+  reached-step n = next-step n (reached-invariant n)

@@ -191,7 +191,7 @@ pair-public f k l j d e = term-same _ _ (pair-kinds f k j d .0 ∙ sym (pair-kin
 
 -- an undeclared number reads as Hash 0
 module _ (f : File) (j : ℕ) where
-  declared : (kind f j ≡ hashKind → ⊥) → j < length (f .terms)
+  pub declared : (kind f j ≡ hashKind → ⊥) → j < length (f .terms)
   unfolding kind term kindOf
   declared other = elim (decLt j (length (f .terms))) [ yes h ↦ h | no h ↦ absurd (other (ap kindOf (List·getD-eq-default (f .terms) (Hash 0) {n = j} (omega arith)))) ]
 
