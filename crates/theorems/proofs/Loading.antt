@@ -60,6 +60,7 @@ pub record Checked (f : File) : Type 0 where
       → (kind f t ≡ publicKeyKind)
       ⊎ ((kind f t ≡ numberKind)
       ⊎ ((kind f t ≡ certificateKind) × (isTpmSubject (subject f t) ≡ true) × (signsForRole f tpmMaker (signer f t) ≡ true)))
+  pub holdsParty : (p k : ℕ) → List·Memᴰ (holds p k) (f .setup) → p < length (f .roles)
   pub holdsKind : (p k : ℕ) → List·Memᴰ (holds p k) (f .setup) → kind f k ≡ privateKeyKind
   pub holdsOnce : (p q k : ℕ) → List·Memᴰ (holds p k) (f .setup) → List·Memᴰ (holds q k) (f .setup) → has (attributes f k) fixedTpm ≡ true → p ≡ q
   pub signsRole : (p k : ℕ) → List·Memᴰ (signsWith p k) (f .setup) → roleOf f p ≡ device → ⊥
@@ -373,6 +374,7 @@ good-checked f g =
       signingKeyKind = λ t e. fields-by f g t signatureKind e (omega arith) .1 .0 .1;
       learnsParty = s .learnsParty;
       learnsAllowed = s .learnsAllowed;
+      holdsParty = s .holdsParty;
       holdsKind = s .holdsKind;
       holdsOnce = s .holdsOnce;
       signsRole = λ p k m. s .signing p k m .role;

@@ -21,9 +21,9 @@ use Rattle.theorems.proofs.LoadingTerms.{Names}
 
 -- what loading checked of a set-up record's fields
 abbrev pub SetupFields : File → Setup → Type 0
-SetupFields f (learns p t) = p < length (f .roles)
-SetupFields f (holds p k) = kind f k ≡ privateKeyKind
-SetupFields f (signsWith p k) = Unit {0}
+SetupFields f (learns p t) = (p < length (f .roles)) × (t < length (f .terms))
+SetupFields f (holds p k) = (p < length (f .roles)) × (k < length (f .terms)) × (kind f k ≡ privateKeyKind)
+SetupFields f (signsWith p k) = (p < length (f .roles)) × (k < length (f .terms)) × (kind f k ≡ privateKeyKind)
 
 -- the first of two refusals is none
 pub first-zero : (m n : ℕ) → first m n ≡ 0 → (m ≡ 0) × (n ≡ 0)
@@ -124,7 +124,7 @@ each P (suc n) i ps k lo hi = each-go P n i ps k lo hi (eqb i k) refl (each P n 
 abbrev Range : ℕ → Bool → Bool → Bool → Bool → Type 0
 Range s a b c d = _≡_ {A = ℕ} (cond a 1 (cond b 2 (cond c 3 (cond d 4 0)))) s
 
-second : (a b c d : Bool) → Range 2 a b c d → b ≡ true
+pub second : (a b c d : Bool) → Range 2 a b c d → b ≡ true
 second true b c d e = absurd (omega arith)
 second false true c d e = refl
 second false false true d e = absurd (omega arith)
@@ -173,7 +173,7 @@ module _ (f : File) (bs : List ℕ) where
 
   each-setup : Each (SetupPassed f bs) 3 0x20
   unfolding fieldsOf sectionOf setupAt
-  each-setup = ((λ h. h .0), ((λ h. h .1 .0 .1), ((λ h. tt), tt)))
+  each-setup = ((λ h. (h .0, h .1 .0)), ((λ h. (h .0, h .1 .0 .0, h .1 .0 .1)), ((λ h. (h .0, h .1 .0 .0, h .1 .0 .1)), tt)))
 
   pub term-names : (k : ℕ) → sectionOf k ≡ termSection → fieldsFault f (fieldsOf k) 0 bs ≡ 0 → Names (f .terms) (length (f .terms)) (termAt k bs)
   unfolding sectionOf

@@ -35,6 +35,7 @@ pub record Signing (f : File) (p k : ℕ) : Type 0 where
 pub record Setups (f : File) : Type 0 where
   pub learnsParty : (p t : ℕ) → List·Memᴰ (learns p t) (f .setup) → p < length (f .roles)
   pub learnsAllowed : (p t : ℕ) → List·Memᴰ (learns p t) (f .setup) → Learnable f t
+  pub holdsParty : (p k : ℕ) → List·Memᴰ (holds p k) (f .setup) → p < length (f .roles)
   pub holdsKind : (p k : ℕ) → List·Memᴰ (holds p k) (f .setup) → kind f k ≡ privateKeyKind
   pub holdsOnce : (p q k : ℕ) → List·Memᴰ (holds p k) (f .setup) → List·Memᴰ (holds q k) (f .setup) → has (attributes f k) fixedTpm ≡ true → p ≡ q
   pub signing : (p k : ℕ) → List·Memᴰ (signsWith p k) (f .setup) → Signing f p k
@@ -48,6 +49,7 @@ pub none-yet : (f : File) → f .setup ≡ [] → Setups f
 none-yet f e = record {
   learnsParty = λ p t m. absurd (no-mem e m);
   learnsAllowed = λ p t m. absurd (no-mem e m);
+  holdsParty = λ p k m. absurd (no-mem e m);
   holdsKind = λ p k m. absurd (no-mem e m);
   holdsOnce = λ p q k m n h. absurd (no-mem e m);
   signing = λ p k m. absurd (no-mem e m);
@@ -131,6 +133,7 @@ unfolding withCommand kind term attributes roleOf
 setups-stay f section c s = record {
   learnsParty = s .learnsParty;
   learnsAllowed = λ p t m. learnable-stays f section (f .setup) (c ∷ f .commands) (λ P e. e) t (s .learnsAllowed p t m);
+  holdsParty = s .holdsParty;
   holdsKind = s .holdsKind;
   holdsOnce = s .holdsOnce;
   signing = λ p k m. let x = s .signing p k m in record { role = x .role; keyAttributes = x .keyAttributes };
@@ -203,9 +206,9 @@ module _ (f : File) (x : Setup) (s : Setups f) (fields : SetupFields f x) (allow
   unfolding allowedFault
   new-learns p t e =
       let a : allowedFault f (learns p t) ≡ 0 = subst (λ (y : Setup). allowedFault f y ≡ 0) (sym e) allowed in
-      (subst (SetupFields f) (sym e) fields, may-learn f t (refuse-zero 10 (mayLearn f t) (omega arith) a))
+      (subst (SetupFields f) (sym e) fields .0, may-learn f t (refuse-zero 10 (mayLearn f t) (omega arith) a))
 
-  new-holds : (p k : ℕ) → holds p k ≡ x → (kind f k ≡ privateKeyKind) × (mayHold f p k ≡ true)
+  new-holds : (p k : ℕ) → holds p k ≡ x → SetupFields f (holds p k) × (mayHold f p k ≡ true)
   unfolding allowedFault
   new-holds p k e =
       let a : allowedFault f (holds p k) ≡ 0 = subst (λ (y : Setup). allowedFault f y ≡ 0) (sym e) allowed in
@@ -228,8 +231,12 @@ module _ (f : File) (x : Setup) (s : Setups f) (fields : SetupFields f x) (allow
   learnable-go p t (inl e) = new-learns p t e .1
   learnable-go p t (inr m) = s .learnsAllowed p t m
 
+  holder-go : (p k : ℕ) → In (holds p k) → p < length (f .roles)
+  holder-go p k (inl e) = new-holds p k e .0 .0
+  holder-go p k (inr m) = s .holdsParty p k m
+
   kind-go : (p k : ℕ) → In (holds p k) → kind f k ≡ privateKeyKind
-  kind-go p k (inl e) = new-holds p k e .0
+  kind-go p k (inl e) = new-holds p k e .0 .2
   kind-go p k (inr m) = s .holdsKind p k m
 
   once-go : (p q k : ℕ) → In (holds p k) → In (holds q k) → has (attributes f k) fixedTpm ≡ true → p ≡ q
@@ -257,6 +264,7 @@ module _ (f : File) (x : Setup) (s : Setups f) (fields : SetupFields f x) (allow
   one-more = record {
     learnsParty = λ p t m. party-go p t (List·Memᴰ·cases-cons m);
     learnsAllowed = λ p t m. learnable-stays f setupSection (x ∷ f .setup) (f .commands) (some-more x (f .setup)) t (learnable-go p t (List·Memᴰ·cases-cons m));
+    holdsParty = λ p k m. holder-go p k (List·Memᴰ·cases-cons m);
     holdsKind = λ p k m. kind-go p k (List·Memᴰ·cases-cons m);
     holdsOnce = λ p q k m n h. once-go p q k (List·Memᴰ·cases-cons m) (List·Memᴰ·cases-cons n) h;
     signing = λ p k m. let g = signing-go p k (List·Memᴰ·cases-cons m) in record { role = g .role; keyAttributes = g .keyAttributes };

@@ -231,7 +231,7 @@ setup-found test (x ∷ xs) e = step (or-true _ _ e) (setup-found test xs)
     step (inr h) later = let (y, m, r) = later h in (y, List·Memᴰ·tail m, r)
 
 -- a search passes by a record that passes its test
-setup-finds : (test : Setup → Bool) {x : Setup} {xs : List Setup} → test x ≡ true → List·Memᴰ x xs → someSetup test xs ≡ true
+pub setup-finds : (test : Setup → Bool) {x : Setup} {xs : List Setup} → test x ≡ true → List·Memᴰ x xs → someSetup test xs ≡ true
 unfolding someSetup
 setup-finds test h (List·Memᴰ·head e) = rw (← e, h)
 setup-finds test h (List·Memᴰ·tail {x = y} m) = or-right (test y) _ (setup-finds test h m)

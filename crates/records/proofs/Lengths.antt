@@ -1,0 +1,77 @@
+-- The lengths of bodies and the numbers of their fields.
+use mathlib.Core.Path.{_≡_, refl}
+use mathlib.Core.Bool.{Bool, true, false, cond}
+use Prim.Native.Nat.{ℕ, zero, suc, _+_, _<_, _≤_}
+use native.Mathlib.Omega.{arith}
+use lib.Dec.{eqb, leb, ltb}
+use lib.ListN.{length}
+use borrow.Author.Tests.{leb-true, ltb-true, lt-ltb, eq-eqb}
+use Rattle.rules.specs.Record.{sectionOf, fieldsOf, termSection, bodyLength, width, widths}
+use Rattle.rules.specs.Term.{pairKind}
+use Rattle.records.proofs.EachKind.{values, each-kind, each-number, section-past}
+
+pub fields-end : (k : ℕ) → widths (fieldsOf k) ≡ bodyLength k
+unfolding bodyLength
+fields-end k = refl
+
+pub body-small : (k : ℕ) → bodyLength k ≤ 7
+unfolding bodyLength widths width sectionOf fieldsOf
+body-small k = leb-true (bodyLength k) 7 (each-kind (λ s fs. leb (widths fs) 7) (λ s fs. true) refl k)
+
+pub few-fields : (k : ℕ) → length (fieldsOf k) ≤ 4
+unfolding sectionOf fieldsOf
+few-fields k = leb-true (length (fieldsOf k)) 4 (each-kind (λ s fs. leb (length fs) 4) (λ s fs. true) refl k)
+
+-- what a test asks where another holds
+when-true : (t u : Bool) → cond t u true ≡ true → t ≡ true → u ≡ true
+when-true true u e h = e
+when-true false u e h = absurd (let z : _≡_ {A = ℕ} 0 1 = cc in omega arith)
+
+pub body-positive : (k : ℕ) → 0 < sectionOf k → 0 < bodyLength k
+unfolding bodyLength widths width sectionOf fieldsOf
+body-positive k h =
+    ltb-true 0 (bodyLength k)
+    (when-true (ltb 0 (sectionOf k)) (ltb 0 (bodyLength k))
+    (each-kind (λ s fs. cond (ltb 0 s) (ltb 0 (widths fs)) true) (λ s fs. true) refl k) (lt-ltb 0 (sectionOf k) h))
+
+-- a term has a word at the start
+pub term-body : (k : ℕ) → sectionOf k ≡ termSection → 1 < bodyLength k
+unfolding bodyLength widths width sectionOf fieldsOf
+term-body k h =
+    ltb-true 1 (bodyLength k)
+    (when-true (eqb (sectionOf k) termSection) (ltb 1 (bodyLength k))
+    (each-kind (λ s fs. cond (eqb s termSection) (ltb 1 (widths fs)) true) (λ s fs. true) refl k) (eq-eqb (sectionOf k) termSection h))
+
+term-test : (p : ℕ → Bool) → values (λ k. cond (eqb (sectionOf k) termSection) (p k) true) 0 0x41 ≡ values (λ k. true) 0 0x41 → (k : ℕ) → sectionOf k ≡ termSection → p k ≡ true
+term-test p e k h =
+    when-true (eqb (sectionOf k) termSection) (p k)
+    (each-number (λ k. cond (eqb (sectionOf k) termSection) (p k) true) (λ k. true) e (λ k h. rw (section-past k h)) k) (eq-eqb (sectionOf k) termSection h)
+
+-- the kinds of terms
+pub term-kinds : (k : ℕ) → sectionOf k ≡ termSection → (0x10 ≤ k) × (k ≤ 0x1A)
+unfolding sectionOf
+term-kinds k h = (leb-true 0x10 k (term-test (leb 0x10) refl k h), leb-true k 0x1A (term-test (λ k. leb k 0x1A) refl k h))
+
+-- none of the n numbers from m on
+abbrev pub NoneFrom : ℕ → ℕ → ℕ → Type 0
+NoneFrom k m zero = Unit
+NoneFrom k m (suc n) = NoneFrom k m n × (k ≡ m + n → ⊥)
+
+past-none : (k m n : ℕ) → NoneFrom k m n → m ≤ k → m + n ≤ k
+past-none k m zero r h = omega arith
+past-none k m (suc n) r h =
+    let l : m + n ≤ k = past-none k m n (r .0) h in
+    let d : k ≡ m + n → ⊥ = r .1 in
+    omega arith
+
+-- the last kind of terms
+pub last-term : (k : ℕ) → sectionOf k ≡ termSection → NoneFrom k 0x10 10 → k ≡ pairKind
+last-term k h r =
+    let t = term-kinds k h in
+    let l : pairKind ≤ k = past-none k 0x10 10 r (t .0) in
+    omega (arith, t .1)
+
+-- a kind of no section has no body
+pub no-section : (k : ℕ) → sectionOf k ≡ 0 → bodyLength k ≡ 0
+unfolding bodyLength fieldsOf widths
+no-section k e = rw e

@@ -1,0 +1,15 @@
+use mathlib.Core.Path.{ap}
+use borrow.Author.Needs.{needs}
+use Rattle.records.specs.Words.{wordsIn}
+use Rattle.records.proofs.signer_of.Statement.{statement}
+use Rattle.records.proofs.signer_of.Tie as tie
+
+words-of-requires : tie.Need-words-of-requires
+words-of-requires c κs = search needs
+
+returns : tie.Need-returns
+unfolding wordsIn
+returns c = ap (λ w. w .fourth) (c .words-of .ensures)
+
+pub signer-of-spec : {M : Type 1} → statement M
+signer-of-spec = tie.close (tie.spec words-of-requires returns)

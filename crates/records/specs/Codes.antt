@@ -1,0 +1,39 @@
+-- Fields as numbers: a field of one kind of term is that kind, another a number below 8; 0 is no field. A list of fields is packed a byte each, the first in the lowest.
+use mathlib.Core.Bool.{cond}
+use mathlib.Core.List.{List, [], _∷_}
+use Prim.Native.Nat.{ℕ, _+_, _*_, _%_}
+use lib.Dec.{eqb}
+use Rattle.rules.specs.declared.Field.{Field}
+use Rattle.rules.specs.declared.Field.the-variants.{RoleField, IdentifierField, AttributesField, SubjectField, PartyField, AnyTerm, TermOf, SignedAttest}
+use Rattle.rules.specs.Record.{width}
+
+unfoldable pub codeOf : Field → ℕ
+codeOf RoleField = 1
+codeOf IdentifierField = 2
+codeOf AttributesField = 3
+codeOf SubjectField = 4
+codeOf PartyField = 5
+codeOf AnyTerm = 6
+codeOf (TermOf k) = k
+codeOf SignedAttest = 7
+
+unfoldable pub packed : List Field → ℕ
+packed [] = 0
+packed (f ∷ fs) = codeOf f + 256 * packed fs
+
+-- the first of packed fields
+unfoldable pub lowField : ℕ → Field
+lowField n =
+    cond (eqb (n % 256) 0) AnyTerm
+    (cond (eqb (n % 256) 1) RoleField
+    (cond (eqb (n % 256) 2) IdentifierField
+    (cond (eqb (n % 256) 3) AttributesField
+    (cond (eqb (n % 256) 4) SubjectField
+    (cond (eqb (n % 256) 5) PartyField
+    (cond (eqb (n % 256) 6) AnyTerm
+    (cond (eqb (n % 256) 7) SignedAttest
+    (TermOf (n % 256)))))))))
+
+-- its bytes, 0 where there is none
+unfoldable pub lowWidth : ℕ → ℕ
+lowWidth n = cond (eqb (n % 256) 0) 0 (width (lowField n))
