@@ -1,0 +1,62 @@
+-- Refusals 3 to 9 by the bytes alone: the file, the places of the terms' records and the counts so far.
+use mathlib.Core.Path.{_≡_}
+use mathlib.Core.Bool.{Bool, true, false, cond, not, _&&_, _||_}
+use mathlib.Core.List.{List, [], _∷_, List·Memᴰ}
+use Prim.Native.Nat.{ℕ, zero, suc, _+_, _*_, _<_, _≤_}
+use lib.Dec.{eqb, ltb}
+use lib.ListN.{length, getD}
+use Rattle.rules.specs.declared.Field.{Field}
+use Rattle.rules.specs.declared.Field.the-variants.{RoleField, IdentifierField, AttributesField, SubjectField, PartyField, AnyTerm, TermOf, SignedAttest}
+use Rattle.rules.specs.declared.Term.{Term}
+use Rattle.rules.specs.Limits.{rowWidth, partyLimit, termLimit, roleCount}
+use Rattle.rules.specs.Attributes.{attributesLimit}
+use Rattle.rules.specs.Term.{signatureKind, attestKind, alike}
+use Rattle.rules.specs.Record.{sectionOf, bodyLength, partySection, termSection, word}
+use Rattle.rules.specs.Load.{first, refuseUnless}
+use Rattle.state.specs.View.{view}
+use Rattle.learning.specs.There.{TermRecord, kindThere, termThere, partsThere}
+
+-- 3 to 6 at a record: its kind, how many bytes follow its kind byte, the section and the counts so far
+unfoldable pub headFault : ℕ → ℕ → ℕ → ℕ → ℕ → ℕ
+headFault kind left section parties terms =
+    cond (eqb (sectionOf kind) 0) 3
+    (cond (ltb left (bodyLength kind)) 4
+    (cond (ltb (sectionOf kind) section) 5
+    (cond (eqb (sectionOf kind) partySection) (refuseUnless 6 (ltb parties partyLimit))
+    (cond (eqb (sectionOf kind) termSection) (refuseUnless 6 (ltb terms termLimit))
+    0))))
+
+-- a party's role stands in its record, of two bytes
+abbrev pub roleThere : List ℕ → ℕ → ℕ
+roleThere bs p = getD bs (2 * p + 1) 0
+
+-- the records of the first n terms stand whole at their places, their parts are lower, and there is room for all terms
+pub record TermsThere (bs s : List ℕ) (n : ℕ) : Type 0 where
+  pub few : n ≤ termLimit
+  pub room : rowWidth * termLimit ≤ length s
+  pub whole : (t : ℕ) → t < n → TermRecord bs (view s .place t)
+  pub lower : (t u : ℕ) → t < n → List·Memᴰ u (partsThere bs (view s .place) t) → u < t
+
+-- the kind of term t
+abbrev pub kindOfThere : List ℕ → (ℕ → ℕ) → ℕ → ℕ
+kindOfThere bs place t = kindThere bs (place t)
+
+-- 7, 8: what is wrong with a field at a place of a body
+unfoldable pub fieldFaultThere : List ℕ → (ℕ → ℕ) → ℕ → ℕ → Field → ℕ → List ℕ → ℕ
+fieldFaultThere bs place parties terms RoleField i body = refuseUnless 7 (ltb (getD body i 0) roleCount)
+fieldFaultThere bs place parties terms IdentifierField i body = 0
+fieldFaultThere bs place parties terms AttributesField i body = refuseUnless 7 (ltb (getD body i 0) attributesLimit)
+fieldFaultThere bs place parties terms SubjectField i body = refuseUnless 7 (ltb (getD body i 0) 2)
+fieldFaultThere bs place parties terms PartyField i body = refuseUnless 7 (ltb (getD body i 0) parties)
+fieldFaultThere bs place parties terms AnyTerm i body = refuseUnless 7 (ltb (word body i) terms)
+fieldFaultThere bs place parties terms (TermOf k) i body =
+    first (refuseUnless 7 (ltb (word body i) terms)) (refuseUnless 8 (eqb (kindOfThere bs place (word body i)) k))
+fieldFaultThere bs place parties terms SignedAttest i body =
+    first (refuseUnless 7 (ltb (word body i) terms))
+    (first (refuseUnless 8 (eqb (kindOfThere bs place (word body i)) signatureKind))
+    (refuseUnless 8 (eqb (kindOfThere bs place (word bs (place (word body i) + 1))) attestKind)))
+
+-- a term is alike one of the first n
+unfoldable pub anyAlikeThere : List ℕ → (ℕ → ℕ) → Term → ℕ → Bool
+anyAlikeThere bs place x zero = false
+anyAlikeThere bs place x (suc n) = alike x (termThere bs (place n)) || anyAlikeThere bs place x n
