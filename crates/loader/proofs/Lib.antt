@@ -1,0 +1,5 @@
+pub mod Faults
+pub mod Entering
+pub mod Final
+pub mod Scanning
+pub mod Bounds

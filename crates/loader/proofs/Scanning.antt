@@ -1,0 +1,308 @@
+-- The scan of a file, record by record: what holds at a record's place, and what each of its ends gives.
+-- Assumes nothing.
+use mathlib.Core.Path.{_≡_, refl, sym, ap, subst, subst⁻¹, _∙_}
+use mathlib.Core.Logic.{_⊎_, inl, inr}
+use mathlib.Core.Bool.{Bool, true, false, cond}
+use mathlib.Core.List.{List, [], _∷_}
+use Prim.Native.Nat.{ℕ, zero, suc, _+_, _-_, _*_, _<_, _≤_}
+use native.Mathlib.Omega.{arith}
+use native.Mathlib.Numerals.{add-one}
+use lib.Dec.{eqb}
+use lib.ListN.{length, getD, take, drop, length-set}
+use borrow.Author.Tests.{eq-eqb}
+use Rattle.rules.specs.declared.Field.{Field}
+use Rattle.rules.specs.declared.Field.the-variants.{AnyTerm}
+use Rattle.rules.specs.Limits.{fileLimit, partyLimit, stateBytes}
+use Rattle.rules.specs.Record.{sectionOf, bodyLength, fieldsOf, width, widths, partySection, termSection, setupSection}
+use Rattle.rules.specs.File.{File, Setup, learns, holds, signsWith}
+use Rattle.rules.specs.Load.{fieldFault, fieldsFault, recordFault, enter, setupAt, feed, load, loaded, refused, emptyFile}
+use Rattle.state.specs.View.{view}
+use Rattle.checks.specs.There.{headFault, fieldFaultThere}
+use Rattle.setup.specs.Allowed.{signersLeave}
+use Rattle.theorems.proofs.Loading.{Good, entered, empty-good}
+use Rattle.theorems.proofs.Pieces.{from, bodyAt, body-length, load-from, feed-end}
+use Rattle.loader.specs.declared.Tally.{Tally}
+use Rattle.loader.specs.declared.Scanned.{Scanned}
+use Rattle.loader.specs.Describes.{Describes, counted, lastFault, columnsAfter, signersAfter, EnterReady, ScanReady, ScanResult}
+use Rattle.loader.proofs.Faults.{field-same, head-zero, refuse-head, fields-next, fields-stop, refuse-fields, refuse-last, taken}
+use Rattle.loader.proofs.Entering.{described-empty, described-next, enter-ready}
+
+abbrev pub none : Tally
+none = record { section = 0; parties = 0; terms = 0; commands = 0 }
+
+abbrev pub refusal : ℕ → ℕ → Tally → Scanned
+refusal x at n = record { number = x; place = at; tally = n }
+
+-- what holds where the scan stands at the place of a record
+pub record At (bs s signers : List ℕ) (n : Tally) (at : ℕ) : Type 0 where
+  pub file : File
+  pub describes : Describes file bs s signers n at
+  pub good : Good file
+  pub inside : at ≤ length bs
+  pub short : length bs ≤ fileLimit
+  pub eight : length signers ≡ partyLimit
+  pub few : n .commands ≤ at
+  pub left : feed (loaded file) (from bs at) ≡ load bs
+
+pub at-start : (bs s signers : List ℕ) → ScanReady bs s signers → At bs s signers none 0
+at-start bs s signers r = record {
+  file = emptyFile;
+  describes = described-empty bs s signers r;
+  good = empty-good;
+  inside = omega arith;
+  short = r .short;
+  eight = r .eight;
+  few = omega arith;
+  left = sym (load-from bs (r .short));
+}
+
+-- a number that is not 0
+positive : (x : ℕ) → (x ≡ 0 → ⊥) → (m : ℕ) × (x ≡ suc m)
+positive zero h = absurd (h refl)
+positive (suc m) h = (m, refl)
+
+abbrev tallied : ℕ → Tally → Tally
+tallied k n = record { section = sectionOf k; parties = n .parties; terms = n .terms; commands = n .commands + 1 }
+
+-- a record adds at most one command
+one-more : (k : ℕ) (n : Tally) → counted k n .commands ≤ n .commands + 1
+unfolding counted
+one-more k n = go (eqb (sectionOf k) partySection) (eqb (sectionOf k) termSection) (eqb (sectionOf k) setupSection)
+  where
+    go : (a b c : Bool)
+        → (cond a (record { section = sectionOf k; parties = n .parties + 1; terms = n .terms; commands = n .commands })
+        (cond b (record { section = sectionOf k; parties = n .parties; terms = n .terms + 1; commands = n .commands })
+        (cond c (record { section = sectionOf k; parties = n .parties; terms = n .terms; commands = n .commands })
+        (tallied k n)))) .commands ≤ n .commands + 1
+    go true b c = omega arith
+    go false true c = omega arith
+    go false false true = omega arith
+    go false false false = omega arith
+
+-- the widths of the first fields
+widths-next : (fs : List Field) (i : ℕ) → i < length fs → widths (take (i + 1) fs) ≡ widths (take i fs) + width (getD fs i AnyTerm)
+unfolding widths
+widths-next [] i h = absurd (omega arith)
+widths-next (f ∷ fs) zero h = omega arith
+widths-next (f ∷ fs) (suc i) h =
+    let e = widths-next fs i (omega arith) in
+    let q : widths (take (i + 1) fs) ≡ widths (take (suc i) fs) = ap (λ (j : ℕ). widths (take j fs)) (add-one i) in
+    let r : widths (take (suc i + 1) (f ∷ fs)) ≡ width f + widths (take (suc i) fs) = ap (λ (j : ℕ). widths (take j (f ∷ fs))) (add-one (suc i)) in
+    omega arith
+
+widths-most : (fs : List Field) (i : ℕ) → widths (take i fs) ≤ widths fs
+unfolding widths
+widths-most [] zero = omega arith
+widths-most [] (suc i) = omega arith
+widths-most (f ∷ fs) zero = omega arith
+widths-most (f ∷ fs) (suc i) = let h = widths-most fs i in omega arith
+
+module _ (bs s signers : List ℕ) (n : Tally) (at : ℕ) (a : At bs s signers n at) where
+  -- the end of the file
+  pub at-end : length bs ≤ at → ScanResult bs s signers (refusal 0 0 n)
+  at-end h =
+      let e : at ≡ length bs = let i = a .inside in omega arith in
+      inl (refl, (a .file, sym (a .left) ∙ feed-end bs at (a .file) h, subst (Describes (a .file) bs s signers n) e (a .describes)))
+
+  refuses : (x : ℕ) → (x ≡ 0 → ⊥) → ((r : ℕ) → x ≡ suc r → feed (loaded (a .file)) (from bs at) ≡ refused (suc r) at) → (s′ signers′ : List ℕ) → ScanResult bs s′ signers′ (refusal x at n)
+  refuses x h f s′ signers′ = let w = positive x h in inr (w .0, w .1, sym (a .left) ∙ f (w .0) (w .1))
+
+  module _ (h : at < length bs) where
+    abbrev kind : ℕ
+    kind = getD bs at 0
+
+    abbrev Head : ℕ → Type 0
+    Head x = x ≡ headFault kind (length bs - (at + 1)) (n .section) (n .parties) (n .terms)
+
+    -- 3 to 6
+    pub at-head : (x : ℕ) → Head x → (x ≡ 0 → ⊥) → ScanResult bs s signers (refusal x at n)
+    at-head x e z = refuses x z (λ r q. refuse-head (a .file) bs s signers n at (a .describes) (a .good) h r (sym e ∙ q)) s signers
+
+    module _ (head : headFault (getD bs at 0) (length bs - (at + 1)) (n .section) (n .parties) (n .terms) ≡ 0) where
+      pub fits : at + 1 + bodyLength (getD bs at 0) ≤ length bs
+      fits = let w = head-zero (a .file) bs s signers n at (a .describes) (a .good) (getD bs at 0) (length bs - (at + 1)) head .1 in omega arith
+
+      known : 0 < sectionOf (getD bs at 0)
+      known = head-zero (a .file) bs s signers n at (a .describes) (a .good) (getD bs at 0) (length bs - (at + 1)) head .0
+
+      -- the fields so far are right, and the rest is what is left
+      pub record Fields (body : List ℕ) (i offset : ℕ) : Type 0 where
+        pub within : i ≤ length (fieldsOf (getD bs at 0))
+        pub offsetIs : offset ≡ widths (take i (fieldsOf (getD bs at 0)))
+        pub rest : fieldsFault (a .file) (drop i (fieldsOf (getD bs at 0))) offset body ≡ fieldsFault (a .file) (fieldsOf (getD bs at 0)) 0 body
+
+      pub fields-start : (body : List ℕ) → Fields body 0 0
+      unfolding widths
+      fields-start body = record { within = omega arith; offsetIs = refl; rest = refl }
+
+      -- a field lies in the body
+      pub field-inside : (body : List ℕ) (i offset : ℕ) → body ≡ bodyAt bs at → Fields body i offset → i < length (fieldsOf (getD bs at 0)) → offset + width (getD (fieldsOf (getD bs at 0)) i AnyTerm) ≤ length body
+      unfolding bodyLength
+      field-inside body i offset e w l =
+          let p = widths-next (fieldsOf (getD bs at 0)) i l in
+          let q = widths-most (fieldsOf (getD bs at 0)) (i + 1) in
+          let r : length body ≡ bodyLength (getD bs at 0) = ap length e ∙ body-length bs at fits in
+          let o = w .offsetIs in
+          omega arith
+
+      pub fields-more : (body : List ℕ) (i offset : ℕ) → Fields body i offset → i < length (fieldsOf (getD bs at 0))
+          → fieldFaultThere bs (view s .place) (n .parties) (n .terms) (getD (fieldsOf (getD bs at 0)) i AnyTerm) offset body ≡ 0
+          → Fields body (i + 1) (offset + width (getD (fieldsOf (getD bs at 0)) i AnyTerm))
+      fields-more body i offset w l e = record {
+        within = omega arith;
+        offsetIs = let p = widths-next (fieldsOf (getD bs at 0)) i l in let o = w .offsetIs in omega arith;
+        rest =
+            sym (fields-next (a .file) bs s signers n at (a .describes) (a .good) (getD bs at 0) i offset body l
+            (sym (field-same (a .file) bs s signers n at (a .describes) (a .good) (getD (fieldsOf (getD bs at 0)) i AnyTerm) offset body) ∙ e))
+            ∙ w .rest;
+      }
+
+      -- 7, 8
+      pub at-field : (body : List ℕ) (i offset x : ℕ) → body ≡ bodyAt bs at → Fields body i offset → i < length (fieldsOf (getD bs at 0))
+          → x ≡ fieldFaultThere bs (view s .place) (n .parties) (n .terms) (getD (fieldsOf (getD bs at 0)) i AnyTerm) offset body
+          → (x ≡ 0 → ⊥) → ScanResult bs s signers (refusal x at n)
+      at-field body i offset x b w l e z =
+          refuses x z
+          (λ r q. refuse-fields (a .file) bs s signers n at (a .describes) (a .good) h head r
+          (subst (λ (y : List ℕ). fieldsFault (a .file) (fieldsOf (getD bs at 0)) 0 y ≡ suc r) b
+          (sym (w .rest)
+          ∙ fields-stop (a .file) bs s signers n at (a .describes) (a .good) (getD bs at 0) i offset body r l
+          (sym (field-same (a .file) bs s signers n at (a .describes) (a .good) (getD (fieldsOf (getD bs at 0)) i AnyTerm) offset body) ∙ sym e ∙ q))))
+          s signers
+
+      all-right : (body : List ℕ) (i offset : ℕ) → body ≡ bodyAt bs at → Fields body i offset → length (fieldsOf (getD bs at 0)) ≤ i → fieldsFault (a .file) (fieldsOf (getD bs at 0)) 0 (bodyAt bs at) ≡ 0
+      unfolding fieldsFault
+      all-right body i offset b w l =
+          subst (λ (y : List ℕ). fieldsFault (a .file) (fieldsOf (getD bs at 0)) 0 y ≡ 0) b
+          (sym (w .rest) ∙ rw (lib.ListN.drop-of-length-le (fieldsOf (getD bs at 0)) l))
+
+      module _ (body : List ℕ) (i offset : ℕ) (b : body ≡ bodyAt bs at) (w : Fields body i offset) (l : length (fieldsOf (getD bs at 0)) ≤ i) where
+        -- what entering the record asks
+        pub at-enter : EnterReady bs s body (getD bs at 0) at n
+        at-enter =
+            let z = head-zero (a .file) bs s signers n at (a .describes) (a .good) (getD bs at 0) (length bs - (at + 1)) head in
+            subst⁻¹ (λ (y : List ℕ). EnterReady bs s y (getD bs at 0) at n) b
+            (enter-ready (a .file) bs s signers n at (a .describes) (a .good) h (a .short) known fits (z .2) (z .3) (all-right body i offset b w l))
+
+        -- 9 to 12
+        pub at-last : (x : ℕ) (s′ signers′ : List ℕ) → x ≡ lastFault bs (view s) signers n (getD bs at 0) body → (x ≡ 0 → ⊥) → ScanResult bs s′ signers′ (refusal x at n)
+        at-last x s′ signers′ e z =
+            refuses x z
+            (λ r q. refuse-last (a .file) bs s signers n at (a .describes) (a .good) h head (all-right body i offset b w l) r
+            (sym (ap (lastFault bs (view s) signers n (getD bs at 0)) b) ∙ sym e ∙ q))
+            s′ signers′
+
+        -- a record that is taken
+        pub at-next : (x : ℕ) (s′ signers′ : List ℕ) → x ≡ lastFault bs (view s) signers n (getD bs at 0) body → x ≡ 0 → length s′ ≡ length s → length signers′ ≡ length signers
+            → view s′ ≡ cond (eqb x 0) (columnsAfter bs (view s) n (getD bs at 0) body at) (view s)
+            → signers′ ≡ cond (eqb x 0) (signersAfter signers (getD bs at 0) body) signers
+            → At bs s′ signers′ (counted (getD bs at 0) n) (at + 1 + bodyLength (getD bs at 0))
+        at-next x s′ signers′ e z ls lg v k =
+            let t = taken (a .file) bs s signers n at (a .describes) (a .good) h head (all-right body i offset b w l) (sym (ap (lastFault bs (view s) signers n (getD bs at 0)) b) ∙ sym e ∙ z) in
+            record {
+              file = enter (a .file) at (getD bs at 0) (bodyAt bs at);
+              describes =
+                  described-next (a .file) bs s s′ signers signers′ n at (a .describes) (a .good) h (a .short) known fits (t .0) ls lg (a .eight)
+                  (v ∙ ap (λ (t : Bool). cond t (columnsAfter bs (view s) n (getD bs at 0) body at) (view s)) (eq-eqb x 0 z) ∙ ap (λ (y : List ℕ). columnsAfter bs (view s) n (getD bs at 0) y at) b)
+                  (k ∙ ap (λ (t : Bool). cond t (signersAfter signers (getD bs at 0) body) signers) (eq-eqb x 0 z) ∙ ap (signersAfter signers (getD bs at 0)) b);
+              good = entered (a .file) at (getD bs at 0) (bodyAt bs at) (a .good) known (t .0);
+              inside = fits;
+              short = a .short;
+              eight = lg ∙ a .eight;
+              few = let f = a .few in omega (arith, one-more (getD bs at 0) n);
+              left = sym (t .1) ∙ a .left;
+            }
+
+-- the part of the file that is handed on is the record's body
+pub body-same : (bs : List ℕ) (at x : ℕ) → x ≡ bodyLength (getD bs at 0) → take (at + 1 + x - (at + 1)) (drop (at + 1) bs) ≡ bodyAt bs at
+unfolding bodyAt
+body-same bs at x e = let q : at + 1 + x - (at + 1) ≡ bodyLength (getD bs at 0) = omega arith in ap (λ (m : ℕ). take m (drop (at + 1) bs)) q
+
+-- what holds where the scan stands at a field
+pub record InFields (bs s signers : List ℕ) (n : Tally) (at : ℕ) (body : List ℕ) (i offset : ℕ) : Type 0 where
+  pub here : At bs s signers n at
+  pub more : at < length bs
+  pub head : headFault (getD bs at 0) (length bs - (at + 1)) (n .section) (n .parties) (n .terms) ≡ 0
+  pub bodyIs : body ≡ bodyAt bs at
+  pub fields : Fields bs s signers n at here more head body i offset
+
+-- no signing key is added or lost
+leave-length : (signers : List ℕ) (x : Setup) → length (signersLeave signers x) ≡ length signers
+unfolding signersLeave
+leave-length signers (learns p t) = refl
+leave-length signers (holds p k) = refl
+leave-length signers (signsWith p k) = length-set signers p k
+
+cond-length : (b : Bool) (xs ys : List ℕ) → length xs ≡ length ys → length (cond b xs ys) ≡ length ys
+cond-length true xs ys e = e
+cond-length false xs ys e = refl
+
+keys-length : (b : Bool) (signers : List ℕ) (k : ℕ) (body : List ℕ) → length (cond b (signersAfter signers k body) signers) ≡ length signers
+unfolding signersAfter
+keys-length b signers k body = cond-length b _ signers (cond-length (eqb (sectionOf k) setupSection) _ signers (leave-length signers (setupAt k body)))
+
+-- the same, as the code's results give it: m fields, the i-th of them x
+module _ (bs s signers : List ℕ) (n : Tally) (at : ℕ) (body : List ℕ) (i offset : ℕ) (w : InFields bs s signers n at body i offset) (m : ℕ) (e : m ≡ length (fieldsOf (getD bs at 0))) where
+  module _ (l : i < m) (x : Field) (q : x ≡ getD (fieldsOf (getD bs at 0)) i AnyTerm) where
+    declared : i < length (fieldsOf (getD bs at 0))
+    declared = omega arith
+
+    pub field-ready : offset + width x ≤ length body
+    field-ready = subst⁻¹ (λ (y : Field). offset + width y ≤ length body) q (field-inside bs s signers n at (w .here) (w .more) (w .head) body i offset (w .bodyIs) (w .fields) declared)
+
+    pub field-small : offset + width x ≤ fileLimit
+    field-small =
+        let r : length body ≡ bodyLength (getD bs at 0) = ap length (w .bodyIs) ∙ body-length bs at (fits bs s signers n at (w .here) (w .more) (w .head)) in
+        let h = fits bs s signers n at (w .here) (w .more) (w .head) in
+        let k = w .here .short in
+        let o = field-ready in
+        omega arith
+
+    abbrev Fault : ℕ → Type 0
+    Fault y = y ≡ fieldFaultThere bs (view s .place) (n .parties) (n .terms) x offset body
+
+    pub field-refused : (y : ℕ) → Fault y → (y ≡ 0 → ⊥) → ScanResult bs s signers (refusal y at n)
+    field-refused y f z =
+        at-field bs s signers n at (w .here) (w .more) (w .head) body i offset y (w .bodyIs) (w .fields) declared
+        (f ∙ ap (λ (v : Field). fieldFaultThere bs (view s .place) (n .parties) (n .terms) v offset body) q) z
+
+    pub field-passed : (y : ℕ) → Fault y → y ≡ 0 → (v : ℕ) → v ≡ width x → InFields bs s signers n at body (i + 1) (offset + v)
+    field-passed y f z v r = record {
+      here = w .here;
+      more = w .more;
+      head = w .head;
+      bodyIs = w .bodyIs;
+      fields =
+          subst⁻¹ (λ (u : ℕ). Fields bs s signers n at (w .here) (w .more) (w .head) body (i + 1) (offset + u)) (r ∙ ap width q)
+          (fields-more bs s signers n at (w .here) (w .more) (w .head) body i offset (w .fields) declared
+          (sym (ap (λ (v : Field). fieldFaultThere bs (view s .place) (n .parties) (n .terms) v offset body) q) ∙ sym f ∙ z));
+    }
+
+  module _ (l : m ≤ i) where
+    all : length (fieldsOf (getD bs at 0)) ≤ i
+    all = omega arith
+
+    pub enter-asks : EnterReady bs s body (getD bs at 0) at n
+    enter-asks = at-enter bs s signers n at (w .here) (w .more) (w .head) body i offset (w .bodyIs) (w .fields) all
+
+    pub last-refused : (x : ℕ) (s′ signers′ : List ℕ) → x ≡ lastFault bs (view s) signers n (getD bs at 0) body → (x ≡ 0 → ⊥) → ScanResult bs s′ signers′ (refusal x at n)
+    last-refused x s′ signers′ f z = at-last bs s signers n at (w .here) (w .more) (w .head) body i offset (w .bodyIs) (w .fields) all x s′ signers′ f z
+
+    pub record-taken : (x : ℕ) (s′ signers′ : List ℕ) → x ≡ lastFault bs (view s) signers n (getD bs at 0) body → x ≡ 0 → length s′ ≡ length s
+        → view s′ ≡ cond (eqb x 0) (columnsAfter bs (view s) n (getD bs at 0) body at) (view s)
+        → signers′ ≡ cond (eqb x 0) (signersAfter signers (getD bs at 0) body) signers
+        → (n′ : Tally) → n′ ≡ counted (getD bs at 0) n → (y : ℕ) → y ≡ bodyLength (getD bs at 0) → At bs s′ signers′ n′ (at + 1 + y)
+    record-taken x s′ signers′ f z ls v k n′ c y b =
+        subst⁻¹ (λ (u : ℕ). At bs s′ signers′ n′ (at + 1 + u)) b
+        (subst⁻¹ (λ (t : Tally). At bs s′ signers′ t (at + 1 + bodyLength (getD bs at 0))) c
+        (at-next bs s signers n at (w .here) (w .more) (w .head) body i offset (w .bodyIs) (w .fields) all x s′ signers′ f z ls (ap length k ∙ keys-length (eqb x 0) signers (getD bs at 0) body) v k))
+
+-- the counts are small
+pub counts-small : (bs s signers : List ℕ) (n : Tally) (at : ℕ) → At bs s signers n at → (n .parties < 65536) × (n .terms < 65536) × (n .commands < 65536)
+counts-small bs s signers n at a =
+    let p = a .describes .fewParties in
+    let t = a .describes .there .few in
+    let f = a .few in
+    let i = a .inside in
+    let h = a .short in
+    (omega arith, omega arith, omega arith)
