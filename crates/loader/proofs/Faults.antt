@@ -29,13 +29,13 @@ use Rattle.state.specs.View.{view, inOther}
 use Rattle.learning.specs.There.{termThere}
 use Rattle.checks.specs.There.{headFault, roleThere, fieldFaultThere, anyAlikeThere}
 use Rattle.setup.specs.Allowed.{noKey, signsThere, mayLearnThere, mayHoldThere, maySignThere, allowedThere}
-use Rattle.theorems.proofs.LoadingTerms.{or-left, or-right}
 use Rattle.theorems.proofs.LoadingFields.{SetupFields, first-zero, Each, each, second, within, setup-passed}
 use Rattle.theorems.proofs.Loading.{Good, good-checked}
-use Rattle.theorems.proofs.Terms.{and-true, or-true, parts-signature, private-declared, setup-found, setup-finds, holds-given, given-holds, signs-role-given}
+use Rattle.theorems.proofs.Terms.{parts-signature, private-declared, setup-found, setup-finds, holds-given, given-holds, signs-role-given}
 use Rattle.theorems.proofs.Pieces.{from, bodyAt, feed-unknown, feed-short, feed-refusal, feed-taken}
 use Rattle.loader.specs.declared.Tally.{Tally}
 use Rattle.loader.specs.Describes.{Describes, signerOf, lastFault}
+use Rattle.theorems.proofs.Booleans.{and-true, or-true, or-left, or-right}
 
 -- Tests.
 -- two tests that pass together

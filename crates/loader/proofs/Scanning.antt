@@ -1,10 +1,10 @@
 -- The scan of a file, record by record: what holds at a record's place, and what each of its ends gives.
 -- Assumes nothing.
 use mathlib.Core.Path.{_≡_, refl, sym, ap, subst, subst⁻¹, _∙_}
-use mathlib.Core.Logic.{_⊎_, inl, inr}
+use mathlib.Core.Logic.{inl, inr}
 use mathlib.Core.Bool.{Bool, true, false, cond}
 use mathlib.Core.List.{List, [], _∷_}
-use Prim.Native.Nat.{ℕ, zero, suc, _+_, _-_, _*_, _<_, _≤_}
+use Prim.Native.Nat.{ℕ, zero, suc, _+_, _-_, _<_, _≤_}
 use native.Mathlib.Omega.{arith}
 use native.Mathlib.Numerals.{add-one}
 use lib.Dec.{eqb}
@@ -12,10 +12,10 @@ use lib.ListN.{length, getD, take, drop, length-set}
 use borrow.Author.Tests.{eq-eqb}
 use Rattle.rules.specs.declared.Field.{Field}
 use Rattle.rules.specs.declared.Field.the-variants.{AnyTerm}
-use Rattle.rules.specs.Limits.{fileLimit, partyLimit, stateBytes}
+use Rattle.rules.specs.Limits.{fileLimit, partyLimit}
 use Rattle.rules.specs.Record.{sectionOf, bodyLength, fieldsOf, width, widths, partySection, termSection, setupSection}
 use Rattle.rules.specs.File.{File, Setup, learns, holds, signsWith}
-use Rattle.rules.specs.Load.{fieldFault, fieldsFault, recordFault, enter, setupAt, feed, load, loaded, refused, emptyFile}
+use Rattle.rules.specs.Load.{fieldsFault, enter, setupAt, feed, load, loaded, refused, emptyFile}
 use Rattle.state.specs.View.{view}
 use Rattle.checks.specs.There.{headFault, fieldFaultThere}
 use Rattle.setup.specs.Allowed.{signersLeave}

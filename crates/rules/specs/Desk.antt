@@ -1,13 +1,12 @@
 -- Desk commands (document 01, "Desk commands"): what each asks, and what it changes.
-use mathlib.Core.Bool.{Bool, true, false, cond, not, _&&_, _||_}
+use mathlib.Core.Bool.{cond, not, _||_}
 use mathlib.Core.List.{List, [], _∷_, _++_}
 use Prim.Native.Nat.{ℕ, zero, suc, _+_}
 use lib.Dec.{eqb, leb}
-use Rattle.rules.specs.declared.Entry.{Entry}
 use Rattle.rules.specs.Limits.{device, tpmMaker, oemDesk, ownerDesk, partyLimit, depthLimit}
 use Rattle.rules.specs.Refusals.{Test, need}
 use Rattle.rules.specs.Attributes.{sameAttributes, iakAttributes, ekAttributes}
-use Rattle.rules.specs.Term.{publicKeyKind, hashKind, signatureKind, attestKind, idevidRequestKind, ldevidRequestKind, pairKind, sameSubject, isDeviceSubject, isTpmSubject}
+use Rattle.rules.specs.Term.{hashKind, signatureKind, attestKind, idevidRequestKind, ldevidRequestKind, pairKind, sameSubject, isDeviceSubject, isTpmSubject}
 use Rattle.rules.specs.File.{File, isRole, isKind, hashedTerm, message, signingKey, attestedKey, credentialTerm, credentialNumber, credentialKey, idevidCertificate, idevidKey, ldevidMessage, ldevidCertificate, certifiedKey, signer, leftOf, rightOf, subject, attributes, paired, signsFor, signsForRole}
 use Rattle.rules.specs.Learning.{Knowledge}
 use Rattle.rules.specs.State.{State, numberUsed, credentialOpen, listed, depthOf, learnt, opening, closing, entered}

@@ -1,14 +1,13 @@
 -- Device commands and checks (document 01, "Device commands", "Checks and listing"): what each asks, and what it changes.
-use mathlib.Core.Bool.{Bool, true, false, cond, not, _&&_, _||_}
+use mathlib.Core.Bool.{Bool, cond, not, _&&_, _||_}
 use mathlib.Core.List.{List, [], _∷_}
 use Prim.Native.Nat.{ℕ}
-use lib.Dec.{eqb}
 use Rattle.rules.specs.Limits.{device, oemDesk, ownerDesk}
 use Rattle.rules.specs.Refusals.{Test, need}
 use Rattle.rules.specs.Attributes as flag
 use Rattle.rules.specs.Attributes.{has}
 use Rattle.rules.specs.Term.{publicKeyKind, hashKind, attestKind, credentialKind, certificateKind}
-use Rattle.rules.specs.File.{File, isRole, isKind, hashedTerm, message, signingKey, attestedKey, credentialTerm, credentialNumber, credentialKey, idevidCertificate, idevidKey, ldevidMessage, ldevidCertificate, certifiedKey, signer, leftOf, rightOf, attributes, paired, halfIn}
+use Rattle.rules.specs.File.{File, isRole, isKind, hashedTerm, message, signingKey, attestedKey, credentialTerm, credentialNumber, credentialKey, certifiedKey, signer, attributes, halfIn}
 use Rattle.rules.specs.State.{State, learnt, ticketed}
 
 -- "Device commands (role 0)"

@@ -1,8 +1,8 @@
 -- What Run and Path answer, and what they leave in every lent place (document 01, "Run and Path", "When the desk says no").
-use mathlib.Core.Bool.{Bool, true, false, cond, _&&_}
+use mathlib.Core.Bool.{Bool, cond, _&&_}
 use mathlib.Core.List.{List, [], _∷_, _++_}
-use Prim.Native.Nat.{ℕ, zero, suc, _+_, _*_, _-_, _/_, _%_, _^_}
-use lib.Dec.{eqb, leb}
+use Prim.Native.Nat.{ℕ, zero, suc, _+_, _-_, _/_, _%_, _^_}
+use lib.Dec.{leb}
 use lib.ListN.{length, drop, replicate}
 use Rattle.rules.specs.declared.Entry.{Entry}
 use Rattle.rules.specs.declared.LoadAnswer.{LoadAnswer}
@@ -11,7 +11,7 @@ use Rattle.rules.specs.declared.RunAnswer.{RunAnswer}
 use Rattle.rules.specs.declared.RunAnswer.the-variants as ran
 use Rattle.rules.specs.declared.PathAnswer.{PathAnswer}
 use Rattle.rules.specs.declared.PathAnswer.the-variants as path
-use Rattle.rules.specs.Limits.{fileLimit, partyLimit, termLimit, commandLimit, rowWidth, stateBytes, pathPlaces}
+use Rattle.rules.specs.Limits.{fileLimit, partyLimit, termLimit, commandLimit, stateBytes, pathPlaces}
 use Rattle.rules.specs.File.{File}
 use Rattle.rules.specs.Load.{Load, loaded, refused, load as loadFile}
 use Rattle.rules.specs.State.{State, start, listed, depthOf, parentOf}

@@ -1,12 +1,11 @@
 -- The listing's lines as bytes (document 01, "Checks and listing").
-use mathlib.Core.Bool.{Bool, true, false, cond}
+use mathlib.Core.Bool.{cond}
 use mathlib.Core.List.{List, [], _∷_, _++_}
 use Prim.Native.Nat.{ℕ, zero, suc, _+_, _/_, _%_}
 use lib.Dec.{eqb, ltb}
 use lib.ListN.{length}
 use Rattle.rules.specs.declared.Entry.{Entry}
-use Rattle.rules.specs.Load.{Load, loaded, refused, load, commandsOf}
-use Rattle.rules.specs.File.{File}
+use Rattle.rules.specs.Load.{Load, loaded, refused, load}
 use Rattle.rules.specs.Run.{reached, outcomesOf, accepted, refusals, issued}
 
 -- decimal digits in front of some bytes; the first number bounds how many, and 20 are enough for 64 bits

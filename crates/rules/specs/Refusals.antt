@@ -1,5 +1,5 @@
 -- The refusals of a command (document 01, "When the desk says no"): tests with their numbers, and the order in which they are looked for.
-use mathlib.Core.Bool.{Bool, true, false, cond, not, _&&_, _||_}
+use mathlib.Core.Bool.{Bool, false, cond, not, _&&_, _||_}
 use mathlib.Core.List.{List, [], _∷_}
 use Prim.Native.Nat.{ℕ}
 use lib.Dec.{eqb}

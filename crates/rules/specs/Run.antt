@@ -1,5 +1,5 @@
 -- Commands and runs (document 01, "Run and Path"): outcomes, the state after the first n commands, the totals.
-use mathlib.Core.Bool.{Bool, true, false, cond, not}
+use mathlib.Core.Bool.{cond}
 use mathlib.Core.List.{List, [], _∷_}
 use Prim.Native.Nat.{ℕ, _+_}
 use lib.Dec.{eqb}

@@ -1,13 +1,12 @@
 -- The state's columns, and how the lent bytes hold them: rowWidth bytes a term (document 01, "Run and Path").
-use mathlib.Core.Bool.{Bool, true, false, cond, not, _&&_, _||_}
-use mathlib.Core.List.{List, [], _∷_}
+use mathlib.Core.Bool.{Bool, false, not, _&&_, _||_}
+use mathlib.Core.List.{List}
 use Prim.Native.Nat.{ℕ, zero, suc, _+_, _*_, _/_, _%_, _^_}
 use lib.Dec.{eqb}
 use lib.ListN.{getD}
 use Rattle.rules.specs.Limits.{rowWidth}
 use Rattle.rules.specs.Record.{word}
-use Rattle.rules.specs.Learning.{Knowledge, grant}
-use Rattle.rules.specs.State.{put}
+use Rattle.rules.specs.Learning.{Knowledge}
 
 -- where each column stands in a row
 abbrev pub knownOffset : ℕ

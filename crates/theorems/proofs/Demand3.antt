@@ -1,29 +1,25 @@
 -- Demand 3, proved: of every file that loads and every n.
 -- Assumes nothing.
 use mathlib.Core.Path.{_≡_, refl, sym, ap, subst, subst⁻¹, _∙_}
-use mathlib.Core.Logic.{_⊎_, inl, inr, ⊎-elim, _↔_}
-use mathlib.Core.Bool.{Bool, true}
+use mathlib.Core.Logic.{_⊎_, inl, inr, ⊎-elim}
+use mathlib.Core.Bool.{true}
 use mathlib.Core.List.{List, [], _∷_, List·Memᴰ, List·Memᴰ·cases-cons, List·Memᴰ·not-nil}
 use mathlib.Core.Option.{some}
-use Prim.Native.Nat.{ℕ, zero, suc, _<_, _≤_}
+use Prim.Native.Nat.{ℕ, zero, suc, _<_}
 use native.Mathlib.Omega.{arith}
 use native.Mathlib.Nat.{le-refl}
 use lib.ListN.{length, getElem?}
 use Rattle.rules.specs.declared.Attributes.{Attributes}
 use Rattle.rules.specs.declared.Entry.{Entry}
-use Rattle.rules.specs.declared.Subject.{Subject}
 use Rattle.rules.specs.declared.Subject.the-variants.{Device}
 use Rattle.rules.specs.Limits.{device, tpmMaker}
 use Rattle.rules.specs.Attributes.{has, fixedTpm}
-use Rattle.rules.specs.Term.{privateKeyKind, certificateKind}
-use Rattle.rules.specs.File.{File, Setup, holds, signsWith, roleOf, kind, term, subject, attributes, paired, certifiedKey, signer}
-use Rattle.rules.specs.Load.{load, loaded}
-use Rattle.rules.specs.State.{listed}
+use Rattle.rules.specs.File.{File, holds, roleOf, subject, attributes, certifiedKey}
 use Rattle.rules.specs.Run.{reached}
-use Rattle.theorems.specs.Residency.{Known, Held, Family, families, SignedBy, DeskSigned, EntryAt, Listed, Parent, Endorsement, Path, ends, step, All, AllButLast, Sound, Resident, Demand3}
+use Rattle.theorems.specs.Residency.{Known, Held, Family, families, DeskSigned, EntryAt, Listed, Endorsement, Path, ends, step, All, AllButLast, Sound, Resident, Demand3}
 use Rattle.theorems.proofs.Loading.{Checked, checked}
 use Rattle.theorems.proofs.Terms.{pair-kinds, pair-attributes, pair-term, private-declared}
-use Rattle.theorems.proofs.Ledgers.{at-listed, listed-found}
+use Rattle.theorems.proofs.Ledgers.{listed-found}
 use Rattle.theorems.proofs.Invariant.{DeviceHolds, EntryGood, Invariant}
 use Rattle.theorems.proofs.Reaching.{reached-invariant}
 use Rattle.theorems.proofs.History.{bits-known, known-bits, entry-parent}

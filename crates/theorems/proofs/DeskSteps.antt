@@ -2,36 +2,35 @@
 -- Assumes nothing.
 use mathlib.Core.Path.{_≡_, refl, sym, ap, subst, subst⁻¹, _∙_}
 use mathlib.Core.Logic.{_⊎_, inl, inr, ⊎-elim}
-use mathlib.Core.Bool.{Bool, true, false, false≢true, cond, not, _&&_, _||_}
-use mathlib.Core.List.{List, [], _∷_, _++_, List·Memᴰ, List·Memᴰ·head, List·Memᴰ·tail}
-use mathlib.Core.Option.{some}
-use Prim.Native.Nat.{ℕ, zero, suc, _+_, _<_, _≤_}
+use mathlib.Core.Bool.{true}
+use mathlib.Core.List.{List, [], _∷_, List·Memᴰ, List·Memᴰ·head, List·Memᴰ·tail}
+use Prim.Native.Nat.{ℕ, _+_, _<_}
 use native.Mathlib.Omega.{arith}
 use native.Mathlib.Decide.{ℕ-discrete}
-use lib.Dec.{T, eqb, leb}
-use lib.ListN.{length, getElem?}
+use lib.Dec.{eqb}
+use lib.ListN.{length}
 use borrow.Author.Tests.{eq-eqb, ne-eqb, eqb-true, leb-true}
 use Rattle.rules.specs.declared.Attributes.{Attributes}
 use Rattle.rules.specs.declared.Entry.{Entry}
 use Rattle.rules.specs.Limits.{device, tpmMaker, oemDesk, ownerDesk, partyLimit, depthLimit}
 use Rattle.rules.specs.Attributes as flag
-use Rattle.rules.specs.Attributes.{has, sameAttributes, iakAttributes, ekAttributes}
-use Rattle.rules.specs.Term.{publicKeyKind, privateKeyKind, hashKind, signatureKind, attestKind, credentialKind, numberKind, idevidRequestKind, ldevidRequestKind, certificateKind, pairKind}
-use Rattle.rules.specs.File.{File, Setup, holds, signsWith, Command, challenge, issueIak, issueLak, roleOf, isKind, isRole, kind, parts, attributes, subject, message, signingKey, certifiedKey, signer, hashedTerm, attestedKey, credentialTerm, credentialNumber, credentialKey, idevidCertificate, idevidKey, ldevidMessage, ldevidCertificate, leftOf, rightOf, paired}
-use Rattle.rules.specs.Learning.{Knowledge, learn}
+use Rattle.rules.specs.Attributes.{has, iakAttributes}
+use Rattle.rules.specs.Term.{signatureKind, attestKind, credentialKind, numberKind, idevidRequestKind, ldevidRequestKind, pairKind}
+use Rattle.rules.specs.File.{File, signsWith, challenge, issueIak, issueLak, roleOf, kind, attributes, subject, message, signingKey, certifiedKey, signer, credentialNumber, idevidCertificate, idevidKey, ldevidMessage, ldevidCertificate, leftOf, rightOf, paired}
 use Rattle.rules.specs.State.{State, numberUsed, credentialOpen, credentialClosed, listed, depthOf, put, learnt, opening, closing, entered}
-use Rattle.rules.specs.Desk.{requestBody, requestSignature, formTests, proofTests, numberTests, iakOf, ekCertificateOf, ekOf, challengeTests, challengeEffect, calledFor, issueIakTests, issueIakEffect, attestSignatureOf, lakOf, parentCertificateOf, issueLakTests, issueLakEffect}
+use Rattle.rules.specs.Desk.{requestBody, formTests, proofTests, numberTests, iakOf, ekCertificateOf, ekOf, challengeTests, challengeEffect, calledFor, issueIakTests, issueIakEffect, attestSignatureOf, lakOf, parentCertificateOf, issueLakTests, issueLakEffect}
 use Rattle.rules.specs.Run.{testsOf, effectOf, outcome}
-use Rattle.theorems.specs.Residency.{Inside, Held, Endorsement, SignedBy, iakFamily, lakFamily}
+use Rattle.theorems.specs.Residency.{Inside, Held, Endorsement, iakFamily, lakFamily}
 use Rattle.theorems.proofs.Passing.{Passed, passed}
-use Rattle.theorems.proofs.Inside.{inside-none, first-part, second-part}
+use Rattle.theorems.proofs.Inside.{inside-none, first-part}
 use Rattle.theorems.proofs.Learning.{learn-kept, learn-own, learn-only}
 use Rattle.theorems.proofs.Loading.{Checked, Wellformed}
-use Rattle.theorems.proofs.Terms.{not-both, isKind-kind, isRole-role, same-attributes, same-subject, device-subject, pair-kinds, pair-attributes, parts-credential, parts-idevidRequest, parts-ldevidRequest, parts-pair, signs-given, signs-role-given}
+use Rattle.theorems.proofs.Terms.{isKind-kind, isRole-role, same-attributes, same-subject, device-subject, pair-kinds, pair-attributes, parts-credential, parts-idevidRequest, parts-ldevidRequest, parts-pair, signs-given, signs-role-given}
 use Rattle.theorems.proofs.Ledgers.{Listing, at-kept, at-below, listed-kept, listed-last, listed-found}
 use Rattle.theorems.proofs.Knowers.{sole}
-use Rattle.theorems.proofs.Invariant.{DeviceHolds, KnownToDevice, Attested, Good, Secret, Open, Earlier, EntryGood, Invariant, Fresh, Grows, Gained, Step}
+use Rattle.theorems.proofs.Invariant.{DeviceHolds, KnownToDevice, Attested, Secret, Open, EntryGood, Invariant, Fresh, Gained, Step}
 use Rattle.theorems.proofs.DeviceSteps.{differ, credential-good, certificate-fresh, signer-alone}
+use Rattle.theorems.proofs.Booleans.{not-both}
 
 pub put-same : (column : ℕ → ℕ) (t x : ℕ) → put column t x t ≡ x
 unfolding put

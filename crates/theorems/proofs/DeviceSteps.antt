@@ -2,10 +2,9 @@
 -- Assumes nothing.
 use mathlib.Core.Path.{_≡_, refl, sym, ap, subst, subst⁻¹, _∙_}
 use mathlib.Core.Logic.{_⊎_, inl, inr, ⊎-elim}
-use mathlib.Core.Bool.{Bool, true, false, false≢true, cond, not, _&&_, _||_}
+use mathlib.Core.Bool.{Bool, true, false, cond, not, _&&_, _||_}
 use mathlib.Core.List.{List, [], _∷_, List·Memᴰ}
-use Prim.Native.Nat.{ℕ, zero, suc, _<_}
-use native.Mathlib.Omega.{arith}
+use Prim.Native.Nat.{ℕ, _<_}
 use lib.Dec.{T, T-not, eqb, eqb-refl}
 use lib.ListN.{length}
 use Rattle.rules.specs.declared.Attributes.{Attributes}
@@ -13,18 +12,18 @@ use Rattle.rules.specs.Limits.{device, tpmMaker, oemDesk, ownerDesk}
 use Rattle.rules.specs.Attributes as flag
 use Rattle.rules.specs.Attributes.{has, deskKeyAttributes}
 use Rattle.rules.specs.Term.{publicKeyKind, privateKeyKind, hashKind, signatureKind, attestKind, credentialKind, numberKind, idevidRequestKind, ldevidRequestKind, certificateKind, pairKind}
-use Rattle.rules.specs.File.{File, Setup, holds, signsWith, Command, hash, sign, certify, makeCredential, activateCredential, makeIdevidRequest, makeLdevidRequest, makePair, send, selfIssue, roleOf, isKind, isRole, kind, parts, attributes, message, signingKey, certifiedKey, signer, hashedTerm, attestedKey, credentialTerm, credentialNumber, credentialKey, idevidCertificate, idevidKey, ldevidMessage, ldevidCertificate, leftOf, rightOf}
-use Rattle.rules.specs.Learning.{Knowledge, learn}
-use Rattle.rules.specs.State.{State, numberUsed, credentialOpen, listed, learnt, ticketed}
-use Rattle.rules.specs.Device.{deviceRole, keyHas, holdsHalf, hashTests, hashEffect, signTests, certifyTests, makeCredentialTests, activateCredentialTests, bothKnownTests, mayBeSentByDesk, maySend, sendTests, selfIssueTests}
+use Rattle.rules.specs.File.{File, holds, signsWith, hash, sign, certify, makeCredential, activateCredential, makeIdevidRequest, makeLdevidRequest, makePair, send, selfIssue, roleOf, isKind, isRole, kind, parts, attributes, message, signingKey, certifiedKey, signer, hashedTerm, attestedKey, credentialTerm, credentialNumber, credentialKey, idevidCertificate, idevidKey, ldevidMessage, ldevidCertificate, leftOf, rightOf}
+use Rattle.rules.specs.State.{State, numberUsed, listed, learnt, ticketed}
+use Rattle.rules.specs.Device.{deviceRole, keyHas, holdsHalf, hashEffect, signTests, certifyTests, makeCredentialTests, activateCredentialTests, bothKnownTests, mayBeSentByDesk, maySend, sendTests, selfIssueTests}
 use Rattle.rules.specs.Run.{testsOf, effectOf, outcome}
 use Rattle.theorems.specs.Residency.{Inside, Held, Endorsement}
 use Rattle.theorems.proofs.Passing.{Passed, passed}
 use Rattle.theorems.proofs.Inside.{inside-none, inside-one, inside-two}
 use Rattle.theorems.proofs.Learning.{grant-kept, grant-only, learn-kept, inside-known}
 use Rattle.theorems.proofs.Loading.{Checked, Wellformed}
-use Rattle.theorems.proofs.Terms.{or-true, and-true, not-both, isKind-kind, isRole-role, pair-kinds, half-found, parts-publicKey, parts-hash, parts-credential, parts-number, parts-signature, parts-attest, parts-idevidRequest, parts-ldevidRequest, parts-certificate, parts-pair}
-use Rattle.theorems.proofs.Invariant.{DeviceHolds, KnownToDevice, Attested, Good, Invariant, Activated, Fresh, Grows, Step, good-grows}
+use Rattle.theorems.proofs.Terms.{isKind-kind, isRole-role, pair-kinds, half-found, parts-publicKey, parts-hash, parts-credential, parts-number, parts-signature, parts-attest, parts-idevidRequest, parts-ldevidRequest, parts-certificate, parts-pair}
+use Rattle.theorems.proofs.Invariant.{KnownToDevice, Attested, Good, Invariant, Fresh, Grows, Step, good-grows}
+use Rattle.theorems.proofs.Booleans.{and-true, or-true, not-both}
 
 pub desk-fixed : has deskKeyAttributes flag.fixedTpm ≡ true
 unfolding has

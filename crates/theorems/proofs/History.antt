@@ -3,23 +3,23 @@
 use mathlib.Core.Path.{_≡_, refl, sym, ap, subst, subst⁻¹, _∙_}
 use mathlib.Core.Logic.{_⊎_, inl, inr, ⊎-elim}
 use mathlib.Core.Bool.{Bool, true, false, cond}
-use mathlib.Core.List.{List, [], _∷_, _++_, List·Memᴰ}
+use mathlib.Core.List.{List, [], _∷_, _++_}
 use mathlib.Core.Option.{Option, none, some}
 use Prim.Native.Nat.{ℕ, zero, suc, _+_, _-_, _<_, _≤_}
 use native.Mathlib.Omega.{arith}
 use native.Mathlib.Nat.{le-refl}
 use native.Mathlib.Decide.{ℕ-discrete}
-use lib.ListN.{length, getElem?}
+use lib.ListN.{getElem?}
 use borrow.Author.Tests.{eqb-true}
 use Rattle.rules.specs.declared.Entry.{Entry}
 use Rattle.rules.specs.Term.{attestKind, credentialKind, numberKind}
-use Rattle.rules.specs.File.{File, Setup, learns, Command, hash, sign, certify, makeCredential, activateCredential, makeIdevidRequest, makeLdevidRequest, makePair, checkHash, checkSignature, checkCertificate, checkAttributes, send, selfIssue, challenge, issueIak, issueLak, kind, isKind, hashedTerm, credentialNumber}
+use Rattle.rules.specs.File.{File, Command, hash, sign, certify, makeCredential, activateCredential, makeIdevidRequest, makeLdevidRequest, makePair, checkHash, checkSignature, checkCertificate, checkAttributes, send, selfIssue, challenge, issueIak, issueLak, kind, isKind, hashedTerm, credentialNumber}
 use Rattle.rules.specs.Load.{commandsOf}
 use Rattle.rules.specs.Learning.{Knowledge, learn}
 use Rattle.rules.specs.State.{State, start, numberUsed, credentialOpen, credentialClosed, put, learnt, ticketed, opening, closing, entered}
 use Rattle.rules.specs.Device.{hashEffect}
 use Rattle.rules.specs.Desk.{challengeEffect, issueIakTests, calledFor, issueIakEffect, issueLakEffect, ekCertificateOf, parentCertificateOf}
-use Rattle.rules.specs.Run.{effectOf, outcome, after, reached}
+use Rattle.rules.specs.Run.{effectOf, outcome, reached}
 use Rattle.theorems.specs.Residency.{Inside, Teaches, Accepted, Known, bySetup, byCommand, EntryAt, Parent, ofIak, ofLak}
 use Rattle.theorems.proofs.Learning.{learn-kept, learn-only, learn-inside, taught-own, taught-closed, taught-only, inside-known}
 use Rattle.theorems.proofs.Loading.{Checked, Wellformed}

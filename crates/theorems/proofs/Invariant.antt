@@ -4,16 +4,16 @@ use mathlib.Core.Path.{_≡_, refl, sym, ap, subst, subst⁻¹, subst₂, _∙_}
 use mathlib.Core.Logic.{_⊎_, inl, inr, ⊎-elim}
 use mathlib.Core.Bool.{Bool, true, false, false≢true}
 use mathlib.Core.List.{List, [], _∷_, _++_, List·Memᴰ}
-use mathlib.Core.Option.{Option, none, some}
-use Prim.Native.Nat.{ℕ, zero, suc, _<_, _≤_}
+use mathlib.Core.Option.{some}
+use Prim.Native.Nat.{ℕ, suc, _<_, _≤_}
 use native.Mathlib.Omega.{arith}
 use lib.ListN.{length, getElem?}
 use Rattle.rules.specs.declared.Entry.{Entry}
 use Rattle.rules.specs.declared.Subject.the-variants.{Device}
 use Rattle.rules.specs.Limits.{device, tpmMaker, oemDesk, depthLimit}
 use Rattle.rules.specs.Attributes.{has, restricted, fixedTpm, iakAttributes, ekAttributes}
-use Rattle.rules.specs.Term.{publicKeyKind, privateKeyKind, hashKind, signatureKind, attestKind, credentialKind, numberKind, certificateKind, isDeviceSubject}
-use Rattle.rules.specs.File.{File, Setup, learns, holds, signsWith, roleOf, kind, subject, attributes, message, signingKey, certifiedKey, signer, hashedTerm, attestedKey, credentialTerm, credentialNumber, credentialKey}
+use Rattle.rules.specs.Term.{privateKeyKind, hashKind, signatureKind, attestKind, credentialKind, numberKind, certificateKind, isDeviceSubject}
+use Rattle.rules.specs.File.{File, holds, signsWith, roleOf, kind, subject, attributes, message, signingKey, certifiedKey, signer, hashedTerm, attestedKey, credentialTerm, credentialNumber, credentialKey}
 use Rattle.rules.specs.Learning.{Knowledge, learn}
 use Rattle.rules.specs.State.{State, numberUsed, credentialOpen, listed}
 use Rattle.rules.specs.Desk.{requestBody, iakOf, ekOf, ekCertificateOf}

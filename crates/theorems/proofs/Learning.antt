@@ -14,6 +14,7 @@ use Rattle.rules.specs.File.{File, Setup, learns, holds, signsWith, parts}
 use Rattle.rules.specs.Learning.{Knowledge, grant, each, opened, learn}
 use Rattle.rules.specs.State.{nothing, taught}
 use Rattle.theorems.specs.Residency.{Inside, itself, inPart}
+use Rattle.theorems.proofs.Booleans.{or-right}
 
 -- each part is a lower term
 abbrev pub Lower : File → Type 0
@@ -22,10 +23,6 @@ Lower f = (t u : ℕ) → List·Memᴰ u (parts f t) → u < t
 -- who knows a term knows its parts
 abbrev pub Closed : File → Knowledge → Type 0
 Closed f known = (q t u : ℕ) → known q t ≡ true → List·Memᴰ u (parts f t) → known q u ≡ true
-
-or-right : (a b : Bool) → b ≡ true → (a || b) ≡ true
-or-right true b e = refl
-or-right false b e = e
 
 or-cases : (a b c : Bool) → ((a && b) || c) ≡ true → (c ≡ true) ⊎ ((a ≡ true) × (b ≡ true))
 or-cases true true c e = inr (refl, refl)

@@ -1,10 +1,10 @@
 -- Laws of lists of ledger entries: places after an entry is appended, and what listed and depthOf find.
 -- Assumes nothing.
-use mathlib.Core.Path.{_≡_, refl, sym, ap, subst, _∙_}
+use mathlib.Core.Path.{_≡_, refl, ap}
 use mathlib.Core.Logic.{_⊎_, inl, inr, ⊎-elim}
-use mathlib.Core.Bool.{Bool, true, false, false≢true, cond, _||_}
+use mathlib.Core.Bool.{Bool, true, false, false≢true, _||_}
 use mathlib.Core.List.{List, [], _∷_, _++_}
-use mathlib.Core.Option.{Option, none, some}
+use mathlib.Core.Option.{some}
 use Prim.Native.Nat.{ℕ, zero, suc, _<_}
 use native.Mathlib.Omega.{arith}
 use lib.Dec.{eqb}
@@ -12,6 +12,7 @@ use lib.ListN.{length, getD, getElem?}
 use borrow.Author.Tests.{eq-eqb, eqb-true}
 use Rattle.rules.specs.declared.Entry.{Entry}
 use Rattle.rules.specs.State.{listed, depthOf}
+use Rattle.theorems.proofs.Booleans.{or-left, or-right, or-step}
 
 module _ {A : Type 0} where
   -- an element keeps its place
@@ -41,18 +42,6 @@ module _ {A : Type 0} where
   pub at-last : (xs : List A) (y : A) → getElem? (xs ++ (y ∷ [])) (length xs) ≡ some y
   at-last [] y = refl
   at-last (x ∷ xs) y = at-last xs y
-
-or-left : (a b : Bool) → a ≡ true → (a || b) ≡ true
-or-left true b e = refl
-or-left false b e = absurd (false≢true e)
-
-or-right : (a b : Bool) → b ≡ true → (a || b) ≡ true
-or-right true b e = refl
-or-right false b e = e
-
-or-step : (a : Bool) {b c : Bool} → (b ≡ true → c ≡ true) → (a || b) ≡ true → (a || c) ≡ true
-or-step true h e = refl
-or-step false h e = h e
 
 pub listed-kept : (xs ys : List Entry) (c : ℕ) → listed xs c ≡ true → listed (xs ++ ys) c ≡ true
 unfolding listed

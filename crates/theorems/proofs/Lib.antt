@@ -1,3 +1,4 @@
+pub mod Booleans
 pub mod Learning
 pub mod LoadingTerms
 pub mod LoadingFields

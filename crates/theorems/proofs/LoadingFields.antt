@@ -1,7 +1,7 @@
 -- The fields of a record that loads: what loading checked of them, and so of the term or the set-up record that they make.
 -- Assumes nothing.
 use mathlib.Core.Path.{_≡_, refl, subst}
-use mathlib.Core.Bool.{Bool, true, false, cond, _&&_, false≢true}
+use mathlib.Core.Bool.{Bool, true, false, cond, _&&_}
 use mathlib.Core.List.{List, [], _∷_}
 use Prim.Native.Nat.{ℕ, zero, suc, _+_, _<_, _≤_}
 use native.Mathlib.Omega.{arith}
@@ -18,6 +18,7 @@ use Rattle.rules.specs.Record.{width, fieldsOf, sectionOf, termSection, setupSe
 use Rattle.rules.specs.File.{File, Setup, learns, holds, signsWith, kind, isKind, term, message}
 use Rattle.rules.specs.Load.{first, refuseUnless, declaredFault, fieldFault, fieldsFault, subjectAt, termAt, setupAt}
 use Rattle.theorems.proofs.LoadingTerms.{Names}
+use Rattle.theorems.proofs.Booleans.{and-true}
 
 -- what loading checked of a set-up record's fields
 abbrev pub SetupFields : File → Setup → Type 0
@@ -36,10 +37,6 @@ pub refuse-zero : (n : ℕ) (t : Bool) → 0 < n → refuseUnless n t ≡ 0 → 
 unfolding refuseUnless
 refuse-zero n true h e = refl
 refuse-zero n false h e = absurd (omega arith)
-
-pub both-true : (p q : Bool) → (p && q) ≡ true → (p ≡ true) × (q ≡ true)
-both-true true q e = (refl, e)
-both-true false q e = absurd (false≢true e)
 
 -- what a field that passed tells
 abbrev pub Passed : File → Field → ℕ → List ℕ → Type 0
@@ -147,7 +144,7 @@ fourth false false false false e = absurd (omega arith)
 
 pub within : (lo k hi : ℕ) → (leb lo k && leb k hi) ≡ true → (lo ≤ k) × (k < suc hi)
 within lo k hi e =
-    let h = both-true (leb lo k) (leb k hi) e in
+    let h = and-true (leb lo k) (leb k hi) e in
     (leb-true lo k (h .0), (omega (arith, leb-true k hi (h .1))))
 
 abbrev TermNames : File → List ℕ → ℕ → Type 0

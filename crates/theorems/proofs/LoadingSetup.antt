@@ -16,8 +16,8 @@ use Rattle.rules.specs.Term.{publicKeyKind, privateKeyKind, numberKind, certifi
 use Rattle.rules.specs.Record.{setupSection}
 use Rattle.rules.specs.File.{File, Command, Setup, learns, holds, signsWith, roleOf, isRole, term, kind, isKind, field, subject, attributes, signer, someSetup, isHold, isOtherHold, isSigner, isSigningKeyFor, holdsKey, signsForRole}
 use Rattle.rules.specs.Load.{mayLearn, mayHold, maySign, allowedFault, withSetup, withCommand}
-use Rattle.theorems.proofs.LoadingTerms.{or-left, or-right}
-use Rattle.theorems.proofs.LoadingFields.{SetupFields, refuse-zero, both-true}
+use Rattle.theorems.proofs.LoadingFields.{SetupFields, refuse-zero}
+use Rattle.theorems.proofs.Booleans.{and-true, or-left, or-right}
 
 -- what a 20 may give
 abbrev pub Learnable : File → ℕ → Type 0
@@ -85,7 +85,7 @@ is-hold : (p k : ℕ) (x : Setup) → isHold p k x ≡ true → holds p k ≡ x
 unfolding isHold
 is-hold p k (learns q t) e = absurd (false≢true e)
 is-hold p k (holds q t) e =
-    let h = both-true (eqb q p) (eqb t k) e in
+    let h = and-true (eqb q p) (eqb t k) e in
     let a : q ≡ p = eqb-true q p (h .0) in
     let b : t ≡ k = eqb-true t k (h .1) in
     cc
@@ -152,8 +152,8 @@ may-learn f t e =
         | inr a ↦ inr (inl (eqb-true (kind f t) numberKind a))
       ]
       | inr h ↦
-          let a = both-true (isKind f certificateKind t && isTpmSubject (subject f t)) _ h in
-          let b = both-true (isKind f certificateKind t) _ (a .0) in
+          let a = and-true (isKind f certificateKind t && isTpmSubject (subject f t)) _ h in
+          let b = and-true (isKind f certificateKind t) _ (a .0) in
           inr (inr (eqb-true (kind f t) certificateKind (b .0), b .1, a .1))
     ]
 
@@ -186,9 +186,9 @@ pub record MaySign (f : File) (p k : ℕ) : Type 0 where
 may-sign : (f : File) (p k : ℕ) → maySign f p k ≡ true → MaySign f p k
 unfolding maySign isRole sameAttributes holdsKey isSigner
 may-sign f p k e =
-    let a = both-true _ _ e in
-    let b = both-true _ _ (a .0) in
-    let c = both-true (not (isRole f device p)) _ (b .0) in
+    let a = and-true _ _ e in
+    let b = and-true _ _ (a .0) in
+    let c = and-true (not (isRole f device p)) _ (b .0) in
     let bits : attributes f k .bits ≡ deskKeyAttributes .bits = eqb-true (attributes f k .bits) (deskKeyAttributes .bits) (b .1) in
     record {
       signing = record {

@@ -1,7 +1,7 @@
 -- The terms of a file that loads: what each of them names, and that no two are the same.
 -- Assumes nothing.
 use mathlib.Core.Path.{_≡_, refl, sym, ap, _∙_, subst, subst⁻¹}
-use mathlib.Core.Bool.{Bool, true, false, _||_, true≢false, false≢true}
+use mathlib.Core.Bool.{Bool, true, false, true≢false}
 use mathlib.Core.Logic.{_⊎_, inl, inr}
 use mathlib.Core.List.{List, [], _∷_, _++_, List·Memᴰ, List·Memᴰ·head, List·Memᴰ·tail, List·Memᴰ·not-nil}
 use Prim.Native.Nat.{ℕ, zero, suc, _+_, _<_, _≤_}
@@ -17,6 +17,7 @@ use Rattle.rules.specs.declared.Field.{Field}
 use Rattle.rules.specs.declared.Field.the-variants.{RoleField, IdentifierField, AttributesField, SubjectField, PartyField, AnyTerm, TermOf, SignedAttest}
 use Rattle.rules.specs.Term.{kindOf, fieldsIn, subjectFields, partsOf, namesOf, sameList, alike, anyAlike}
 use Rattle.rules.specs.Record.{fieldsOf, sectionOf}
+use Rattle.theorems.proofs.Booleans.{or-left, or-right}
 
 -- the term of a number, as `term` has it
 abbrev pub at : List Term → ℕ → Term
@@ -126,14 +127,6 @@ same-refl (x ∷ xs) = rw (eq-eqb x x refl) (same-refl xs)
 alike-refl : (t : Term) → alike t t ≡ true
 unfolding alike
 alike-refl t = rw (eq-eqb (kindOf t) (kindOf t) refl) (same-refl (fieldsIn t))
-
-pub or-right : (a b : Bool) → b ≡ true → (a || b) ≡ true
-or-right true b e = refl
-or-right false b e = e
-
-pub or-left : (a b : Bool) → a ≡ true → (a || b) ≡ true
-or-left true b e = refl
-or-left false b e = absurd (false≢true e)
 
 any-alike : (ts : List Term) (t : Term) (i : ℕ) → i < length ts → at ts i ≡ t → anyAlike t ts ≡ true
 unfolding anyAlike

@@ -3,7 +3,7 @@
 use mathlib.Core.Path.{_≡_, refl, sym, _∙_}
 use mathlib.Core.Logic.{⊎-elim}
 use mathlib.Core.Bool.{true, false, false≢true, not}
-use mathlib.Core.List.{List, [], _∷_}
+use mathlib.Core.List.{List, []}
 use Prim.Native.Nat.{ℕ}
 use native.Mathlib.Omega.{arith}
 use Rattle.rules.specs.Limits.{tpmMaker, oemDesk, ownerDesk}
@@ -17,9 +17,10 @@ use Rattle.rules.specs.Run.{testsOf, outcome}
 use Rattle.theorems.proofs.Passing.{Clear, earlier-passed, applied}
 use Rattle.theorems.proofs.Inside.{second-part}
 use Rattle.theorems.proofs.Loading.{Checked}
-use Rattle.theorems.proofs.Terms.{or-true, not-both, isKind-kind, parts-ldevidRequest, signs-role-given}
+use Rattle.theorems.proofs.Terms.{isKind-kind, parts-ldevidRequest, signs-role-given}
 use Rattle.theorems.proofs.Invariant.{Invariant}
 use Rattle.theorems.proofs.DeskSteps.{left-known}
+use Rattle.theorems.proofs.Booleans.{or-true, not-both}
 
 -- tests of which none is 22's
 no-such : (xs : List Test) → applies 22 xs ≡ false → refusalOf xs ≡ 22 → ⊥

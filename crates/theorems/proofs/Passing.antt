@@ -1,7 +1,7 @@
 -- What an outcome says of a command's tests: at 0 each passed; at a refusal one of that refusal failed, and those of earlier refusals passed.
 -- Assumes nothing.
 use mathlib.Core.Path.{_≡_, refl, sym, subst, _∙_}
-use mathlib.Core.Logic.{_⊎_, inl, inr, ⊎-elim}
+use mathlib.Core.Logic.{⊎-elim}
 use mathlib.Core.Bool.{Bool, true, false, false≢true, cond, not, _&&_, _||_}
 use mathlib.Core.List.{List, [], _∷_}
 use Prim.Native.Nat.{ℕ, _<_}
@@ -9,6 +9,7 @@ use native.Mathlib.Omega.{arith}
 use lib.Dec.{eqb}
 use borrow.Author.Tests.{eq-eqb, eqb-true, eqb-false}
 use Rattle.rules.specs.Refusals.{Test, order, applies, firstOf, refusalOf}
+use Rattle.theorems.proofs.Booleans.{and-true, or-true}
 
 -- each test passes
 abbrev pub Passed : List Test → Type 0
@@ -55,14 +56,6 @@ first-clear : (b : Bool) (k n rest : ℕ) → (k ≡ n → ⊥) → cond b k res
 first-clear true k n rest d e = absurd (d e)
 first-clear false k n rest d e = (refl, e)
 
-both-true : (a b : Bool) → (a && b) ≡ true → (a ≡ true) × (b ≡ true)
-both-true true b e = (refl, e)
-both-true false b e = absurd (false≢true e)
-
-one-true : (a b : Bool) → (a || b) ≡ true → (a ≡ true) ⊎ (b ≡ true)
-one-true true b e = inl refl
-one-true false b e = inr e
-
 earlier-clear : (ks : List ℕ) (xs : List Test) (n : ℕ) → firstOf ks xs ≡ n → (m : ℕ) → among m (before n ks) ≡ true → Clear m xs
 unfolding firstOf
 earlier-clear [] xs n e m h = absurd (false≢true h)
@@ -72,7 +65,7 @@ earlier-clear (k ∷ ks) xs n e m h = go (eqb k n) refl h (earlier-clear ks xs n
     go true d h more = absurd (false≢true h)
     go false d h more =
         let c = first-clear (applies k xs) k n (firstOf ks xs) (eqb-false k n d) e in
-        ⊎-elim (λ i. subst (λ (j : ℕ). Clear j xs) (eqb-true k m i) (clear k xs (c .0))) (more (c .1) m) (one-true (eqb k m) (among m (before n ks)) h)
+        ⊎-elim (λ i. subst (λ (j : ℕ). Clear j xs) (eqb-true k m i) (clear k xs (c .0))) (more (c .1) m) (or-true (eqb k m) (among m (before n ks)) h)
 
 -- the tests of the refusals that are looked for before the outcome's passed
 pub earlier-passed : (xs : List Test) (n : ℕ) → refusalOf xs ≡ n → (m : ℕ) → among m (before n order) ≡ true → Clear m xs
@@ -82,7 +75,7 @@ earlier-passed xs n e m h = earlier-clear order xs n e m h
 all-passed : (ns : List ℕ) (xs : List Test) → ((n : ℕ) → among n ns ≡ true → Clear n xs) → ordered ns xs ≡ true → Passed xs
 all-passed ns [] c o = tt
 all-passed ns (x ∷ xs) c o =
-    let oo = both-true (among (x .refusal) ns) (ordered ns xs) o in
+    let oo = and-true (among (x .refusal) ns) (ordered ns xs) o in
     (c (x .refusal) (oo .0) .0 refl, all-passed ns xs (λ n m. c n m .1) (oo .1))
 
 -- a command's tests, whose refusals are in the order

@@ -1,20 +1,19 @@
 -- The pieces of a file from a place on, one record at a time, and what loading makes of them.
 -- Assumes nothing.
-use mathlib.Core.Path.{_≡_, refl, sym, ap, subst, subst⁻¹, _∙_}
-use mathlib.Core.Bool.{Bool, true, false, cond}
+use mathlib.Core.Path.{_≡_, refl, sym, ap, _∙_}
+use mathlib.Core.Bool.{Bool, true}
 use mathlib.Core.List.{List, [], _∷_}
 use Prim.Native.Nat.{ℕ, zero, suc, _+_, _-_, _<_, _≤_}
 use native.Mathlib.Omega.{arith}
-use native.Mathlib.Nat.{le-refl}
 use native.Mathlib.Numerals.{add-one}
-use lib.Dec.{eqb, ltb, leb}
+use lib.Dec.{eqb, ltb}
 use lib.ListN.{length, getD, take, drop, length-take, length-drop, drop-of-length-le}
 use lib.Seq.{drop-cons, drop-drop}
-use borrow.Author.Tests.{eq-eqb, ne-eqb, lt-ltb, le-ltb, le-leb}
+use borrow.Author.Tests.{eq-eqb, ne-eqb, lt-ltb, le-leb}
 use Rattle.rules.specs.Limits.{fileLimit}
-use Rattle.rules.specs.Record.{sectionOf, bodyLength, Piece, whole, fault, cut, pieces}
+use Rattle.rules.specs.Record.{sectionOf, bodyLength, Piece, whole, cut, pieces}
 use Rattle.rules.specs.File.{File}
-use Rattle.rules.specs.Load.{Load, loaded, refused, recordFault, enter, settle, step, feed, emptyFile, load}
+use Rattle.rules.specs.Load.{loaded, refused, recordFault, enter, settle, step, feed, emptyFile, load}
 
 -- enough fuel is enough
 fuel : (n m at : ℕ) (bs : List ℕ) → length bs ≤ n → length bs ≤ m → pieces n at bs ≡ pieces m at bs

@@ -2,7 +2,7 @@
 -- Assumes nothing.
 use mathlib.Core.Path.{_≡_, refl, sym, ap, _∙_}
 use mathlib.Core.Logic.{_⊎_, inl, inr}
-use mathlib.Core.Bool.{Bool, true, false, _&&_, _||_, not, cond, false≢true}
+use mathlib.Core.Bool.{Bool, true, false, _&&_, cond, false≢true}
 use mathlib.Core.List.{List, [], _∷_, List·Memᴰ, List·Memᴰ·head, List·Memᴰ·tail, Memᴰ·cast}
 use Prim.Native.Nat.{ℕ, suc, _+_, _<_}
 use native.Mathlib.Omega.{arith}
@@ -18,6 +18,7 @@ use Rattle.rules.specs.declared.Term.the-variants.{PublicKey, PrivateKey, Hash,
 use Rattle.rules.specs.Attributes.{sameAttributes}
 use Rattle.rules.specs.Term.{publicKeyKind, privateKeyKind, hashKind, signatureKind, attestKind, credentialKind, numberKind, idevidRequestKind, ldevidRequestKind, certificateKind, pairKind, kindOf, fieldsIn, subjectFields, attributesOf, partsOf, sameSubject, isDeviceSubject, sameList, keyPair}
 use Rattle.rules.specs.File.{File, Setup, learns, holds, signsWith, roleOf, isRole, term, kind, isKind, parts, field, message, attestedKey, idevidCertificate, idevidKey, ldevidMessage, ldevidCertificate, certifiedKey, leftOf, rightOf, attributes, paired, someTerm, halfIn, someSetup, isHold, isSigningKey, isSigningKeyFor, holdsKey, signsFor, signsForRole}
+use Rattle.theorems.proofs.Booleans.{and-true, or-true, or-right}
 
 -- a term from its kind and its fields
 subjectAt : List ℕ → ℕ → ℕ → Subject
@@ -106,23 +107,6 @@ module _ (f : File) (t : ℕ) where
   pub parts-pair : kind f t ≡ pairKind → parts f t ≡ leftOf f t ∷ rightOf f t ∷ []
   unfolding rebuild partsOf leftOf rightOf field
   parts-pair e = parts-by pairKind e
-
--- tests of the rules as facts
-pub and-true : (a b : Bool) → (a && b) ≡ true → (a ≡ true) × (b ≡ true)
-and-true true b e = (refl, e)
-and-true false b e = absurd (false≢true e)
-
-pub or-true : (a b : Bool) → (a || b) ≡ true → (a ≡ true) ⊎ (b ≡ true)
-or-true true b e = inl refl
-or-true false b e = inr e
-
-or-right : (a b : Bool) → b ≡ true → (a || b) ≡ true
-or-right true b e = refl
-or-right false b e = e
-
-pub not-both : (a : Bool) → not a ≡ true → a ≡ true → ⊥
-not-both true n e = false≢true n
-not-both false n e = false≢true e
 
 pub isKind-kind : (f : File) (k t : ℕ) → isKind f k t ≡ true → kind f t ≡ k
 unfolding isKind

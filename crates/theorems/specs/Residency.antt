@@ -1,10 +1,10 @@
 -- Demand 3, its words and its statement (document 01, "The words of demand 3").
 use mathlib.Core.Path.{_≡_}
 use mathlib.Core.Logic.{_⊎_, _↔_}
-use mathlib.Core.Bool.{Bool, true}
+use mathlib.Core.Bool.{true}
 use mathlib.Core.List.{List, [], _∷_, List·Memᴰ}
-use mathlib.Core.Option.{Option, some}
-use Prim.Native.Nat.{ℕ, zero, suc, _+_, _≤_, _<_}
+use mathlib.Core.Option.{some}
+use Prim.Native.Nat.{ℕ, suc, _≤_, _<_}
 use lib.ListN.{length, getElem?}
 use Rattle.rules.specs.declared.Attributes.{Attributes}
 use Rattle.rules.specs.declared.Entry.{Entry}
@@ -12,10 +12,9 @@ use Rattle.rules.specs.declared.Subject.the-variants.{Device}
 use Rattle.rules.specs.Limits.{device, oemDesk, ownerDesk, depthLimit}
 use Rattle.rules.specs.Attributes.{iakAttributes}
 use Rattle.rules.specs.Term.{privateKeyKind, certificateKind}
-use Rattle.rules.specs.File.{File, Setup, learns, holds, signsWith, Command, hash, sign, certify, makeCredential, activateCredential, makeIdevidRequest, makeLdevidRequest, makePair, checkHash, checkSignature, checkCertificate, checkAttributes, send, selfIssue, challenge, issueIak, issueLak, roleOf, kind, parts, subject, attributes, paired, certifiedKey, signer, credentialNumber}
-use Rattle.rules.specs.Load.{Load, loaded, load, commandsOf}
+use Rattle.rules.specs.File.{File, learns, holds, signsWith, Command, hash, sign, certify, makeCredential, activateCredential, makeIdevidRequest, makeLdevidRequest, makePair, checkHash, checkSignature, checkCertificate, checkAttributes, send, selfIssue, challenge, issueIak, issueLak, roleOf, kind, parts, subject, attributes, paired, certifiedKey, signer, credentialNumber}
+use Rattle.rules.specs.Load.{loaded, load, commandsOf}
 use Rattle.rules.specs.Desk.{ekCertificateOf, parentCertificateOf}
-use Rattle.rules.specs.State.{State}
 use Rattle.rules.specs.Run.{outcome, reached}
 
 -- "everything in it": the second term is the first, or is in one of its parts
