@@ -1,5 +1,6 @@
 // Refusals 3 to 9 at a record of a scenario file.
 use learning::term_of;
+use rules::Attributes;
 use rules::Field;
 use rules::Term;
 ghost use mathlib.Core.Path.{_≡_};
@@ -31,13 +32,13 @@ pub fn head_fault(kind: u8, left: usize, section: u8, parties: usize, terms: usi
         return 5;
     }
     if own == 1 {
-        if 8 <= parties {
+        if rules::PARTY_LIMIT <= parties {
             return 6;
         }
         return 0;
     }
     if own == 2 {
-        if 1024 <= terms {
+        if rules::TERM_LIMIT <= terms {
             return 6;
         }
     }
@@ -130,9 +131,9 @@ pub fn field_fault(
     ensures { λ r. ⌜ r ≡ fieldFaultThere (now (file .entry)) (view (now (state .entry)) .place) parties terms field i (now (body .entry)) ⌝ }
 {
     match field {
-        Field::RoleField => byte_fault(body, i, 4),
+        Field::RoleField => byte_fault(body, i, rules::ROLE_COUNT),
         Field::IdentifierField => 0,
-        Field::AttributesField => byte_fault(body, i, 16),
+        Field::AttributesField => byte_fault(body, i, Attributes::LIMIT),
         Field::SubjectField => byte_fault(body, i, 2),
         Field::PartyField => byte_fault(body, i, parties),
         Field::AnyTerm => declared_fault(body, i, terms),

@@ -162,19 +162,19 @@ pub fn load(file: &[u8], state: &mut [u8]) -> LoadAnswer
     ensures answer { λ r. ⌜ r ≡ loadAnswer (now (file .entry)) (now (state .entry)) ⌝ }
     ensures left { λ r. ⌜ now (state .exit) ≡ loadLeaves (now (file .entry)) (now (state .entry)) ⌝ }
 {
-    if state.len() < 8192 {
+    if state.len() < rules::STATE_BYTES {
         return LoadAnswer::Refused(1, 0);
     }
-    if 32768 < file.len() {
+    if rules::FILE_LIMIT < file.len() {
         return LoadAnswer::Refused(2, 0);
     }
-    let mut signers = [65535u16; 8];
-    state::clear(&mut state[..8192]);
-    let found = scan(file, &mut state[..8192], &mut signers);
+    let mut signers = [setup::NO_KEY; 8];
+    state::clear(&mut state[..rules::STATE_BYTES]);
+    let found = scan(file, &mut state[..rules::STATE_BYTES], &mut signers);
     let number = found.number;
     let place = found.place;
     if number != 0 {
-        state::clear(&mut state[..8192]);
+        state::clear(&mut state[..rules::STATE_BYTES]);
         return LoadAnswer::Refused(number as u32, place as u32);
     }
     let n = found.tally;

@@ -5,7 +5,7 @@ use mathlib.Core.List.{List, [], _∷_}
 use Prim.Native.Nat.{ℕ, zero, suc, _-_, _≤_}
 use native.Mathlib.Omega.{arith}
 use lib.Dec.{eqb, lit≤}
-use lib.ListN.{length, getD, drop}
+use lib.ListN.{length, getD, drop, List·getD-eq-default}
 use lib.Seq.{getD-drop}
 use borrow.Author.Tests.{eq-eqb, ne-eqb}
 use Rattle.rules.specs.declared.Subject.{Subject}
@@ -48,6 +48,10 @@ sized (LdevidRequest t c) = (refl, lit≤ tt)
 sized (Certificate k (Tpm m) p) = (refl, lit≤ tt)
 sized (Certificate k (Device m) p) = (refl, lit≤ tt)
 sized (Pair t u) = (refl, lit≤ tt)
+
+-- no field past the fourth
+pub no-word : (t : Term) (i : ℕ) → 4 ≤ i → 0 ≡ getD (fieldsIn t) i 0
+no-word t i h = sym (List·getD-eq-default (fieldsIn t) 0 (omega (arith, sized t .1)))
 
 -- the first n numbers of two lists agree
 abbrev sameFirst : ℕ → List ℕ → List ℕ → Bool

@@ -471,3 +471,17 @@ pub fn signer_of(t: Term) -> u16
     let w = words_of(t);
     w.fourth
 }
+
+// A field of a term as a number, in the order of its body, 0 past the last.
+pub fn field_of(t: Term, i: usize) -> u16
+    ensures { λ r. ⌜ r ≡ getD (fieldsIn t) i 0 ⌝ }
+{
+    let w = words_of(t);
+    match i {
+        0 => w.first,
+        1 => w.second,
+        2 => w.third,
+        3 => w.fourth,
+        _ => 0,
+    }
+}

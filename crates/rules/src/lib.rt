@@ -3,6 +3,24 @@ ghost use mathlib.Core.Path.{_≡_};
 ghost use Rattle.rules.specs.Term.{kindOf, sameSubject};
 ghost use Rattle.rules.specs.Attributes.{has, iakAttributes, ekAttributes, deskKeyAttributes, sameAttributes};
 
+// The numbers of document 01.
+pub const FILE_LIMIT: usize = 32768;
+
+pub const PARTY_LIMIT: usize = 8;
+
+pub const TERM_LIMIT: usize = 1024;
+
+pub const ROW_WIDTH: usize = 8;
+
+pub const STATE_BYTES: usize = TERM_LIMIT * ROW_WIDTH;
+
+// Roles of parties.
+pub const DEVICE: u8 = 0;
+
+pub const TPM_MAKER: u8 = 1;
+
+pub const ROLE_COUNT: usize = 4;
+
 // What a key may do: a sum of the four constants.
 pub struct Attributes {
     pub bits: u8,
@@ -16,6 +34,8 @@ impl Attributes {
     pub const DECRYPT: u8 = 4;
 
     pub const FIXED_TPM: u8 = 8;
+
+    pub const LIMIT: usize = 16;
 
     // The attributes of an attestation key (IAK or LAK).
     pub fn iak() -> Attributes

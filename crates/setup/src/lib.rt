@@ -13,6 +13,9 @@ ghost use Rattle.state.specs.View.{view};
 ghost use Rattle.checks.specs.There.{TermsThere};
 ghost use Rattle.setup.specs.Allowed.{signsThere, mayLearnThere, mayHoldThere, maySignThere, EntersSetup, allowedThere, setupLeaves, signersLeave};
 
+// The signing key of a party that has none.
+pub const NO_KEY: u16 = 65535;
+
 // Whether a key is the signing key of one of the parties of a role.
 pub fn signs_for_role(file: &[u8], signers: &[u16; 8], role: u8, key: u16, parties: usize) -> bool
     requires { ⌜ (parties ≤ partyLimit) × (2 * parties ≤ length (now file)) ⌝ }
@@ -56,7 +59,7 @@ pub fn may_learn(
     let subject = records::subject_of(term);
     if records::is_tpm(subject) {
         let signer = records::signer_of(term);
-        return signs_for_role(file, signers, 1, signer, parties);
+        return signs_for_role(file, signers, rules::TPM_MAKER, signer, parties);
     }
     false
 }
@@ -68,7 +71,7 @@ pub fn may_hold(file: &[u8], state: &[u8], party: usize, key: usize, terms: usiz
 {
     let term = term_of(file, state, key);
     let attributes = records::attributes_of(term);
-    if records::has(attributes, 8) {
+    if records::has(attributes, Attributes::FIXED_TPM) {
         if state::in_other_table(state, party, key) {
             return false;
         }
@@ -89,10 +92,10 @@ pub fn may_sign(
     requires { ⌜ TermsThere (now file) (now state) terms × (key < terms) × (party < parties) × (parties ≤ partyLimit) × (2 * parties ≤ length (now file)) ⌝ }
     ensures { λ r. ⌜ r ≡ maySignThere (now (file .entry)) (view (now (state .entry))) (now (signers .entry)) party key ⌝ }
 {
-    if checks::role_of(file, party) == 0 {
+    if checks::role_of(file, party) == rules::DEVICE {
         return false;
     }
-    if signers[party] != 65535 {
+    if signers[party] != NO_KEY {
         return false;
     }
     let term = term_of(file, state, key);

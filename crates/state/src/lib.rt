@@ -8,7 +8,7 @@ ghost use Rattle.rules.specs.State.{put};
 ghost use Rattle.state.specs.View.{view, withKnows, withTable, withPlace, inOther};
 
 // Bytes of a term, and where each column stands among them.
-pub const ROW: usize = 8;
+pub const ROW: usize = rules::ROW_WIDTH;
 
 pub const KNOWN: usize = 0;
 
@@ -50,7 +50,7 @@ pub fn in_other_table(state: &[u8], party: usize, t: usize) -> bool
     ensures { λ r. ⌜ r ≡ inOther (view (now (state .entry)) .table) party t partyLimit ⌝ }
 {
     let mut q = 0;
-    while q < 8 {
+    while q < rules::PARTY_LIMIT {
         if q != party {
             if in_table(state, q, t) {
                 return true;
