@@ -1,4 +1,5 @@
 -- What is wrong with a record by the bytes is what the rules find wrong with it, where the bytes describe the file declared so far.
+--     signer-is, signer-given                              the signing key of a party
 --     field-same, allowed-same, alike-same, last-same      7 to 12, each by itself
 --     head-zero, refuse-head                               3 to 6
 --     fields-next, fields-stop                             7 and 8, one field after the other
@@ -30,7 +31,7 @@ use Rattle.learning.specs.There.{termThere}
 use Rattle.checks.specs.There.{headFault, roleThere, fieldFaultThere, anyAlikeThere}
 use Rattle.setup.specs.Allowed.{noKey, signsThere, mayLearnThere, mayHoldThere, maySignThere, allowedThere}
 use Rattle.theorems.proofs.LoadingFields.{SetupFields, first-zero, Each, each, second, within, setup-passed}
-use Rattle.theorems.proofs.Loading.{Good, good-checked}
+use Rattle.theorems.proofs.Loading.{Checked, Good, good-checked}
 use Rattle.theorems.proofs.Terms.{parts-signature, private-declared, setup-found, setup-finds, holds-given, given-holds, signs-role-given}
 use Rattle.theorems.proofs.Pieces.{from, bodyAt, feed-unknown, feed-short, feed-refusal, feed-taken}
 use Rattle.loader.specs.declared.Tally.{Tally}
@@ -39,7 +40,7 @@ use Rattle.theorems.proofs.Booleans.{and-true, or-true, or-left, or-right}
 
 -- Tests.
 -- two tests that pass together
-same-test : (a b : Bool) → (a ≡ true → b ≡ true) → (b ≡ true → a ≡ true) → a ≡ b
+pub same-test : (a b : Bool) → (a ≡ true → b ≡ true) → (b ≡ true → a ≡ true) → a ≡ b
 same-test true true p q = refl
 same-test true false p q = absurd (false≢true (p refl))
 same-test false true p q = absurd (false≢true (q refl))
@@ -223,6 +224,14 @@ signer-cases (signsWith q t ∷ xs) p = go (eqb q p) refl (signer-cases xs p)
     go true e h = let same : signsWith p t ≡ signsWith q t = ap (λ (r : ℕ). signsWith r t) (sym (eqb-true q p e)) in inl (List·Memᴰ·head same)
     go false e h = signer-skip (signsWith q t) xs p _ (λ j r. eqb-false q p e (cc)) h
 
+-- the key of a party's 22 is its signing key
+pub signer-is : (f : File) → Checked f → (p k : ℕ) → List·Memᴰ (signsWith p k) (f .setup) → signerOf (f .setup) p ≡ k
+signer-is f c p k m = elim (signer-cases (f .setup) p) [ inl h ↦ c .signsOne p _ k h m | inr h ↦ absurd (h .1 k m) ]
+
+pub signer-given : (f : File) (p k : ℕ) → k < noKey → signerOf (f .setup) p ≡ k → List·Memᴰ (signsWith p k) (f .setup)
+signer-given f p k l e =
+    elim (signer-cases (f .setup) p) [ inl h ↦ Memᴰ·cast (ap (λ (j : ℕ). signsWith p j) (sym e)) h | inr h ↦ let z = h .0 in absurd (omega arith) ]
+
 -- another party holds the key
 abbrev isOther : File → ℕ → ℕ → ℕ → Bool
 isOther f p k q = not (eqb q p) && holdsKey f q k
@@ -277,14 +286,6 @@ module _ (f : File) (bs s signers : List ℕ) (n : Tally) (at : ℕ) (d : Descri
       let c = good-checked f g in
       omega (arith, c .fewTerms, private-declared f k (c .holdsKind p k (c .signsHeld p k m)))
 
-  -- the key of a party's 22 is its signing key
-  signer-is : (p k : ℕ) → List·Memᴰ (signsWith p k) (f .setup) → signerOf (f .setup) p ≡ k
-  signer-is p k m = elim (signer-cases (f .setup) p) [ inl h ↦ good-checked f g .signsOne p _ k h m | inr h ↦ absurd (h .1 k m) ]
-
-  signer-given : (p k : ℕ) → k < noKey → signerOf (f .setup) p ≡ k → List·Memᴰ (signsWith p k) (f .setup)
-  signer-given p k l e =
-      elim (signer-cases (f .setup) p) [ inl h ↦ Memᴰ·cast (ap (λ (j : ℕ). signsWith p j) (sym e)) h | inr h ↦ let z = h .0 in absurd (omega arith) ]
-
   signs-same : (role k : ℕ) → k < noKey → signsThere bs signers role k (n .parties) ≡ signsForRole f role k
   unfolding signsForRole isSigningKeyFor isRole
   signs-same role k l = signs-below bs signers role k (n .parties) ∙ same-test _ _ to back
@@ -294,7 +295,7 @@ module _ (f : File) (bs s signers : List ℕ) (n : Tally) (at : ℕ) (d : Descri
           let (p, b, t) = below-found _ (n .parties) e in
           let h = and-true _ _ t in
           let few = d .fewParties in
-          let m = signer-given p k l (sym (d .signer p (omega arith)) ∙ eqb-true _ _ (h .0)) in
+          let m = signer-given f p k l (sym (d .signer p (omega arith)) ∙ eqb-true _ _ (h .0)) in
           setup-finds (isSigningKeyFor f role k) (both _ _ (eq-eqb _ _ (sym (d .role p b) ∙ eqb-true _ _ (h .1))) (eq-eqb k k refl)) m
 
       back : someSetup (isSigningKeyFor f role k) (f .setup) ≡ true → someBelow (λ p. eqb (getD signers p 0) k && eqb (roleThere bs p) role) (n .parties) ≡ true
@@ -303,7 +304,7 @@ module _ (f : File) (bs s signers : List ℕ) (n : Tally) (at : ℕ) (d : Descri
           let c = good-checked f g in
           let b : p < n .parties = omega (arith, c .holdsParty p k (c .signsHeld p k m), d .partiesAre) in
           let few = d .fewParties in
-          below-finds _ (n .parties) p b (both _ _ (eq-eqb _ _ (d .signer p (omega arith) ∙ signer-is p k m)) (eq-eqb _ _ (d .role p b ∙ t)))
+          below-finds _ (n .parties) p b (both _ _ (eq-eqb _ _ (d .signer p (omega arith) ∙ signer-is f c p k m)) (eq-eqb _ _ (d .role p b ∙ t)))
 
   learn-same : (t : ℕ) → t < n .terms → mayLearnThere bs (view s .place) signers (n .parties) t ≡ mayLearn f t
   unfolding mayLearnThere mayLearn isKind subject signer field

@@ -86,7 +86,7 @@ unfolding firstPart
 first-empty m old = let e : m ≡ m - 0 = omega arith in ap (λ (x : ℕ). replicate x 0 ++ drop m old) e
 
 -- what loading leaves where the buffer is long enough and the file is not too long
-both-pass {ℓ} : {A : Type ℓ} (a b : Bool) (x y : A) → a ≡ true → b ≡ true → cond (a && b) x y ≡ x
+pub both-pass {ℓ} : {A : Type ℓ} (a b : Bool) (x y : A) → a ≡ true → b ≡ true → cond (a && b) x y ≡ x
 both-pass a b x y p q = rw (p, q) refl
 
 leaves-written : (bytes old : List ℕ) (l : Load) → load bytes ≡ l → stateBytes ≤ length old → length bytes ≤ fileLimit → loadLeaves bytes old ≡ loadWritten old l
@@ -117,7 +117,7 @@ pub short-leaves : (bytes old : List ℕ) → length old < stateBytes → loadLe
 unfolding loadLeaves
 short-leaves bytes old h = rw (lt-leb stateBytes (length old) h) refl
 
-one-fails {ℓ} : {A : Type ℓ} (a b : Bool) (x y : A) → b ≡ false → cond (a && b) x y ≡ y
+pub one-fails {ℓ} : {A : Type ℓ} (a b : Bool) (x y : A) → b ≡ false → cond (a && b) x y ≡ y
 one-fails true b x y e = rw e refl
 one-fails false b x y e = refl
 

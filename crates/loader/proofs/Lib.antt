@@ -3,3 +3,4 @@ pub mod Entering
 pub mod Final
 pub mod Scanning
 pub mod Bounds
+pub mod Keys

@@ -102,7 +102,7 @@ module _ (bs s signers : List ℕ) (n : Tally) (at : ℕ) (a : At bs s signers n
   pub at-end : length bs ≤ at → ScanResult bs s signers (refusal 0 0 n)
   at-end h =
       let e : at ≡ length bs = let i = a .inside in omega arith in
-      inl (refl, (a .file, sym (a .left) ∙ feed-end bs at (a .file) h, subst (Describes (a .file) bs s signers n) e (a .describes)))
+      inl (refl, (a .file, sym (a .left) ∙ feed-end bs at (a .file) h, a .eight, subst (Describes (a .file) bs s signers n) e (a .describes)))
 
   refuses : (x : ℕ) → (x ≡ 0 → ⊥) → ((r : ℕ) → x ≡ suc r → feed (loaded (a .file)) (from bs at) ≡ refused (suc r) at) → (s′ signers′ : List ℕ) → ScanResult bs s′ signers′ (refusal x at n)
   refuses x h f s′ signers′ = let w = positive x h in inr (w .0, w .1, sym (a .left) ∙ f (w .0) (w .1))

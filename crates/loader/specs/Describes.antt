@@ -96,5 +96,5 @@ pub record ScanReady (bs s signers : List ℕ) : Type 0 where
 -- what the scan leaves: the file that the bytes declare, described; or the refusal
 abbrev pub ScanResult : List ℕ → List ℕ → List ℕ → Scanned → Type 0
 ScanResult bs s signers r =
-    ((r .number ≡ 0) × ((f : File) × (load bs ≡ loaded f) × Describes f bs s signers (r .tally) (length bs)))
+    ((r .number ≡ 0) × ((f : File) × (load bs ≡ loaded f) × (length signers ≡ partyLimit) × Describes f bs s signers (r .tally) (length bs)))
     ⊎ ((m : ℕ) × (r .number ≡ suc m) × (load bs ≡ refused (suc m) (r .place)))

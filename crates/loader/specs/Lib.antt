@@ -1,1 +1,2 @@
 pub mod Describes
+pub mod Keys

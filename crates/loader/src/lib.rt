@@ -11,6 +11,7 @@ ghost use lib.ListN.{length, getD, replicate};
 ghost use Rattle.rules.specs.Limits.{fileLimit, partyLimit, stateBytes};
 ghost use Rattle.rules.specs.Lent.{loadAnswer, loadLeaves};
 ghost use Rattle.loader.specs.Describes.{counted, EnterReady, lastFault, columnsAfter, signersAfter, ScanReady, ScanResult};
+ghost use Rattle.loader.specs.Keys.{keysLeft};
 
 // The section and the counts so far.
 pub struct Tally {
@@ -157,10 +158,11 @@ fn scan(file: &[u8], state: &mut [u8], signers: &mut [u16; 8]) -> Scanned
     }
 }
 
-// Loads a file into a lent state buffer.
-pub fn load(file: &[u8], state: &mut [u8]) -> LoadAnswer
+// Loads a file into a lent state buffer, and the parties' signing keys into a lent array.
+pub fn load_with_keys(file: &[u8], state: &mut [u8], signers: &mut [u16; 8]) -> LoadAnswer
     ensures answer { λ r. ⌜ r ≡ loadAnswer (now (file .entry)) (now (state .entry)) ⌝ }
     ensures left { λ r. ⌜ now (state .exit) ≡ loadLeaves (now (file .entry)) (now (state .entry)) ⌝ }
+    ensures keys { λ r. ⌜ now (signers .exit) ≡ keysLeft (now (file .entry)) (now (state .entry)) (now (signers .entry)) ⌝ }
 {
     if state.len() < rules::STATE_BYTES {
         return LoadAnswer::Refused(1, 0);
@@ -168,15 +170,25 @@ pub fn load(file: &[u8], state: &mut [u8]) -> LoadAnswer
     if rules::FILE_LIMIT < file.len() {
         return LoadAnswer::Refused(2, 0);
     }
-    let mut signers = [setup::NO_KEY; 8];
+    *signers = [setup::NO_KEY; 8];
     state::clear(&mut state[..rules::STATE_BYTES]);
-    let found = scan(file, &mut state[..rules::STATE_BYTES], &mut signers);
+    let found = scan(file, &mut state[..rules::STATE_BYTES], signers);
     let number = found.number;
     let place = found.place;
     if number != 0 {
         state::clear(&mut state[..rules::STATE_BYTES]);
+        *signers = [setup::NO_KEY; 8];
         return LoadAnswer::Refused(number as u32, place as u32);
     }
     let n = found.tally;
     LoadAnswer::Loaded(n.parties as u32, n.terms as u32, n.commands as u32)
+}
+
+// Loads a file into a lent state buffer.
+pub fn load(file: &[u8], state: &mut [u8]) -> LoadAnswer
+    ensures answer { λ r. ⌜ r ≡ loadAnswer (now (file .entry)) (now (state .entry)) ⌝ }
+    ensures left { λ r. ⌜ now (state .exit) ≡ loadLeaves (now (file .entry)) (now (state .entry)) ⌝ }
+{
+    let mut signers = [setup::NO_KEY; 8];
+    load_with_keys(file, state, &mut signers)
 }

@@ -1,4 +1,4 @@
-// What commands look up of a loaded file: fields of a term, the private half of a key, the next record.
+// What commands look up of a loaded file: fields of a term, the private half of a key, the first command, the next record.
 use learning::term_of;
 ghost use mathlib.Core.Path.{_≡_};
 ghost use Prim.Native.Nat.{_+_, _<_, _≤_};
@@ -10,6 +10,7 @@ ghost use Rattle.state.specs.View.{view};
 ghost use Rattle.learning.specs.There.{termThere, kindThere};
 ghost use Rattle.checks.specs.There.{TermsThere};
 ghost use Rattle.lookup.specs.Halves.{halfThere, nextPlace};
+ghost use Rattle.lookup.specs.Commands.{commandsFrom};
 
 // A field of a term, in the order of its body.
 pub fn field_of(file: &[u8], state: &[u8], t: usize, i: usize, terms: usize) -> u16
@@ -56,4 +57,23 @@ impl Cursor {
             at: at + 1 + records::body_length(kind),
         }
     }
+}
+
+// The place of the first command's record, or the end of the file.
+pub fn first_command(file: &[u8]) -> usize
+    ensures { λ r. ⌜ r ≡ commandsFrom (length (now (file .entry))) (now (file .entry)) 0 ⌝ }
+{
+    let mut at = 0;
+    while at < file.len() {
+        let kind = file[at];
+        if records::section_of(kind) == 4 {
+            return at;
+        }
+        let step = 1 + records::body_length(kind);
+        if file.len() - at < step {
+            return file.len();
+        }
+        at += step;
+    }
+    at
 }

@@ -1,14 +1,14 @@
 -- The lengths of bodies and the numbers of their fields.
-use mathlib.Core.Path.{_≡_, refl}
+use mathlib.Core.Path.{_≡_, refl, ap, _∙_}
 use mathlib.Core.Bool.{Bool, true, false, cond}
 use Prim.Native.Nat.{ℕ, zero, suc, _+_, _<_, _≤_}
 use native.Mathlib.Omega.{arith}
 use lib.Dec.{eqb, leb, ltb}
-use lib.ListN.{length}
+use lib.ListN.{length, getD}
 use borrow.Author.Tests.{leb-true, ltb-true, lt-ltb, eq-eqb}
 use Rattle.rules.specs.Record.{sectionOf, fieldsOf, termSection, bodyLength, width, widths}
 use Rattle.rules.specs.Term.{pairKind}
-use Rattle.records.proofs.EachKind.{values, each-kind, each-number, section-past}
+use Rattle.records.proofs.EachKind.{values, value-at, each-kind, each-number, section-past}
 
 pub fields-end : (k : ℕ) → widths (fieldsOf k) ≡ bodyLength k
 unfolding bodyLength
@@ -75,3 +75,10 @@ last-term k h r =
 pub no-section : (k : ℕ) → sectionOf k ≡ 0 → bodyLength k ≡ 0
 unfolding bodyLength fieldsOf widths
 no-section k e = rw e
+
+-- the table of the lengths, of which the code's is a copy
+pub length-at : (k : ℕ) → k ≤ 0x40 → getD (values bodyLength 0 0x41) k 0 ≡ bodyLength k
+length-at k h = value-at bodyLength 0 0x41 k 0 (omega arith) ∙ ap bodyLength (omega arith)
+
+pub length-past : (k : ℕ) → 0x40 < k → bodyLength k ≡ 0
+length-past k h = no-section k (section-past k h)

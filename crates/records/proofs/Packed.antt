@@ -1,23 +1,20 @@
--- What packed fields of a kind give back: its fields, their number and their bytes.
+-- What packed fields of a kind give back: its fields and their number.
 use mathlib.Core.Path.{_≡_, refl, ap, sym, _∙_}
 use mathlib.Core.Bool.{cond}
 use mathlib.Core.List.{List, [], _∷_}
-use Prim.Native.Nat.{ℕ, _+_, _/_, _<_, _≤_}
+use Prim.Native.Nat.{ℕ, _/_, _<_, _≤_}
 use native.Mathlib.Omega.{arith}
 use lib.Dec.{eqb, ltb}
 use lib.ListN.{length, getD, List·getD-eq-default}
 use Rattle.rules.specs.declared.Field.{Field}
 use Rattle.rules.specs.declared.Field.the-variants.{AnyTerm}
-use Rattle.rules.specs.Record.{sectionOf, fieldsOf, bodyLength, width, widths}
-use Rattle.records.specs.Codes.{codeOf, packed, lowField, lowWidth}
+use Rattle.rules.specs.Record.{sectionOf, fieldsOf}
+use Rattle.records.specs.Codes.{codeOf, packed, lowField}
 use Rattle.records.proofs.EachKind.{values, value-at, each-kind, fields-past}
-use Rattle.records.proofs.Lengths.{body-small, few-fields}
+use Rattle.records.proofs.Lengths.{few-fields}
 
 abbrev pub countIn : ℕ → ℕ
 countIn n = cond (eqb n 0) 0 (cond (ltb n 0x100) 1 (cond (ltb n 0x10000) 2 (cond (ltb n 0x1000000) 3 4)))
-
-abbrev pub widthIn : ℕ → ℕ
-widthIn n = lowWidth n + lowWidth (n / 0x100) + lowWidth (n / 0x10000) + lowWidth (n / 0x1000000)
 
 abbrev pub fieldsIn : ℕ → List Field
 fieldsIn n = lowField n ∷ lowField (n / 0x100) ∷ lowField (n / 0x10000) ∷ lowField (n / 0x1000000) ∷ []
@@ -30,16 +27,9 @@ module _ (k n : ℕ) (e : n ≡ packed (fieldsOf k)) where
   unfolding sectionOf fieldsOf packed codeOf
   count-law = ap countIn e ∙ each-kind (λ s fs. countIn (packed fs)) (λ s fs. length fs) refl k
 
-  pub width-law : widthIn n ≡ bodyLength k
-  unfolding sectionOf fieldsOf packed codeOf lowWidth lowField width widths bodyLength
-  width-law = ap widthIn e ∙ each-kind (λ s fs. widthIn (packed fs)) (λ s fs. widths fs) refl k
-
   pub fields-law : fieldsIn n ≡ firstFour (fieldsOf k)
   unfolding sectionOf fieldsOf packed codeOf lowField
   fields-law = ap fieldsIn e ∙ each-kind (λ s fs. fieldsIn (packed fs)) (λ s fs. firstFour fs) refl k
-
-  pub width-small : widthIn n ≤ 7
-  width-small = omega (arith, width-law, body-small k)
 
 pub no-field : (k i : ℕ) → 4 ≤ i → AnyTerm ≡ getD (fieldsOf k) i AnyTerm
 no-field k i h = sym (List·getD-eq-default (fieldsOf k) AnyTerm (omega (arith, few-fields k)))

@@ -5,7 +5,6 @@ use Prim.Native.Nat.{ℕ, _+_, _*_, _%_}
 use lib.Dec.{eqb}
 use Rattle.rules.specs.declared.Field.{Field}
 use Rattle.rules.specs.declared.Field.the-variants.{RoleField, IdentifierField, AttributesField, SubjectField, PartyField, AnyTerm, TermOf, SignedAttest}
-use Rattle.rules.specs.Record.{width}
 
 unfoldable pub codeOf : Field → ℕ
 codeOf RoleField = 1
@@ -33,7 +32,3 @@ lowField n =
     (cond (eqb (n % 256) 6) AnyTerm
     (cond (eqb (n % 256) 7) SignedAttest
     (TermOf (n % 256)))))))))
-
--- its bytes, 0 where there is none
-unfoldable pub lowWidth : ℕ → ℕ
-lowWidth n = cond (eqb (n % 256) 0) 0 (width (lowField n))

@@ -13,7 +13,7 @@ ghost use Rattle.rules.specs.Term.{kindOf, subjectFields, fieldsIn, signatureKi
 ghost use Rattle.rules.specs.Record.{sectionOf, bodyLength, fieldsOf, width as widthOf, termSection, word};
 ghost use Rattle.rules.specs.Load.{termAt, subjectAt};
 ghost use Rattle.records.specs.Parts.{listed};
-ghost use Rattle.records.specs.Codes.{packed, lowField, lowWidth};
+ghost use Rattle.records.specs.Codes.{packed, lowField};
 ghost use Rattle.records.specs.Words.{wordsIn, sameWords};
 
 // Two bytes, high byte first.
@@ -154,26 +154,81 @@ pub fn width(f: Field) -> usize
     }
 }
 
-// The bytes of the lowest of packed fields.
-fn low_width(fields: u32) -> usize
-    ensures { λ r. ⌜ r ≡ lowWidth fields ⌝ }
-{
-    if fields % 256 == 0 {
-        0
-    } else {
-        width(low_field(fields))
-    }
-}
+// The bytes of the bodies of the kinds from 00 to 40.
+const LENGTHS: [usize; 65] = [
+    0,
+    1,
+    0,
+    0,
+    0,
+    0,
+    0,
+    0,
+    0,
+    0,
+    0,
+    0,
+    0,
+    0,
+    0,
+    0,
+    3,
+    3,
+    2,
+    4,
+    2,
+    6,
+    2,
+    7,
+    4,
+    7,
+    4,
+    0,
+    0,
+    0,
+    0,
+    0,
+    3,
+    3,
+    3,
+    0,
+    0,
+    0,
+    0,
+    0,
+    0,
+    0,
+    0,
+    0,
+    0,
+    0,
+    0,
+    0,
+    3,
+    3,
+    3,
+    3,
+    3,
+    3,
+    3,
+    3,
+    5,
+    5,
+    5,
+    4,
+    4,
+    3,
+    5,
+    6,
+    5,
+];
 
-// The bytes of a kind's fields.
-fn fields_length(kind: u8) -> usize
+// The bytes of a kind's body, from the table.
+fn length_at(kind: u8) -> usize
     ensures { λ r. ⌜ r ≡ bodyLength kind ⌝ }
 {
-    let fields = packed_fields(kind);
-    low_width(fields)
-        + low_width(fields / 0x100)
-        + low_width(fields / 0x10000)
-        + low_width(fields / 0x1000000)
+    let k = kind as usize;
+    if k <= 0x40 { LENGTHS[k] } else { 0 }
 }
 
 // The bytes of a kind's body, which the kind byte alone decides.
@@ -182,9 +237,9 @@ pub fn body_length(kind: u8) -> usize
 {
     match kind {
         0x01 => 1,
-        0x10..=0x1A => fields_length(kind),
+        0x10..=0x1A => length_at(kind),
         0x20..=0x22 => 3,
-        0x30..=0x40 => fields_length(kind),
+        0x30..=0x40 => length_at(kind),
         _ => 0,
     }
 }
