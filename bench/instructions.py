@@ -32,6 +32,8 @@ def signature(t, key): return b'\x13' + u2(t) + u2(key)
 def attest(key): return b'\x14' + u2(key)
 def number(i): return b'\x16' + u2(i)
 def certificate(key, tpm, signer): return b'\x19' + u2(key) + b'\x00' + u2(tpm) + u2(signer)
+def device_certificate(key, n, signer): return b'\x19' + u2(key) + b'\x01' + u2(n) + u2(signer)
+def pair(t, u): return b'\x1A' + u2(t) + u2(u)
 def learns(p, t): return bytes([0x20, p]) + u2(t)
 def holds(p, t): return bytes([0x21, p]) + u2(t)
 def signs(p, t): return bytes([0x22, p]) + u2(t)
@@ -83,6 +85,10 @@ SHAPES = [
     ('1,024 terms, 1,022 certificates', certificates(1024)),
     ('1,024 terms, 1,021 IDevID requests', requests(1024)),
     ('1,024 hashes, each of the one before', number(0) + b''.join(digest(i) for i in range(1023))),
+    ('1,024 terms, 1,023 pairs with one term first', number(0) + b''.join(pair(0, i) for i in range(1023))),
+    ('1,024 terms, 682 certificates of one key and number',
+     public(1, 13) + b''.join(private(i, 10) for i in range(341))
+     + b''.join(certificate(0, 7, 1 + i) + device_certificate(0, 7, 1 + i) for i in range(341))),
     ('commands 30', full(party(0) + public(1, 11) + digest(0), b'\x30\x00\x00\x01')),
     ('commands 32',
      full(party(0) + public(1, 11) + private(1, 11) + attest(0) + signature(2, 1), b'\x32\x00\x00\x03')),

@@ -10,11 +10,13 @@ ghost use lib.Dec.{eqb, ltb};
 ghost use lib.ListN.{length, getD};
 ghost use Rattle.rules.specs.declared.Field.the-variants.{TermOf, SignedAttest};
 ghost use Rattle.rules.specs.Limits.{rowWidth, termLimit};
+ghost use Rattle.rules.specs.Term.{kindOf, fieldsIn, alike};
 ghost use Rattle.rules.specs.Record.{sectionOf, bodyLength, termSection, width as widthOf, word};
 ghost use Rattle.rules.specs.Load.{refuseUnless, termAt};
 ghost use Rattle.rules.specs.State.{put};
 ghost use Rattle.state.specs.View.{view, withPlace};
-ghost use Rattle.learning.specs.There.{kindThere};
+ghost use Rattle.learning.specs.There.{kindThere, termThere, TermRecord};
+ghost use Rattle.checks.specs.Telling.{tellingAt, tellingField, secondAt, secondField};
 ghost use Rattle.checks.specs.There.{headFault, roleThere, TermsThere, fieldFaultThere, anyAlikeThere};
 
 // 3 to 6 at a record: 0, or the refusal.
@@ -142,15 +144,95 @@ pub fn field_fault(
     }
 }
 
+// Where the word that tells terms of a kind apart starts in the body.
+fn telling_at(kind: u8) -> usize
+    ensures { λ r. ⌜ r ≡ tellingAt kind ⌝ }
+{
+    match kind {
+        0x17 => 1,
+        0x19 => 3,
+        _ => 0,
+    }
+}
+
+// Which field that word is.
+fn telling_field(kind: u8) -> usize
+    ensures { λ r. ⌜ r ≡ tellingField kind ⌝ }
+{
+    match kind {
+        0x17 => 1,
+        0x19 => 2,
+        _ => 0,
+    }
+}
+
+// Where another word starts that differs where the first may not.
+fn second_at(kind: u8) -> usize
+    ensures { λ r. ⌜ r ≡ secondAt kind ⌝ }
+{
+    match kind {
+        0x13 => 2,
+        0x15 => 2,
+        0x17 => 3,
+        0x18 => 2,
+        0x1A => 2,
+        _ => 0,
+    }
+}
+
+// Which field that word is.
+fn second_field(kind: u8) -> usize
+    ensures { λ r. ⌜ r ≡ secondField kind ⌝ }
+{
+    match kind {
+        0x13 => 1,
+        0x15 => 1,
+        0x17 => 2,
+        0x18 => 1,
+        0x1A => 1,
+        _ => 0,
+    }
+}
+
+// Whether a term is alike an earlier one, which is decoded only if its kind and two of its words are the term's.
+fn alike_at(
+    file: &[u8],
+    state: &[u8],
+    term: Term,
+    kind: u8,
+    offset: usize,
+    telling: u16,
+    t: usize,
+) -> bool
+    requires { ⌜ (rowWidth * t + rowWidth ≤ length (now state)) × TermRecord (now file) (view (now state) .place t) × (kind ≡ kindOf term) × (offset ≡ tellingAt kind) × (telling ≡ getD (fieldsIn term) (tellingField kind) 0) ⌝ }
+    ensures { λ r. ⌜ r ≡ alike term (termThere (now (file .entry)) (view (now (state .entry)) .place t)) ⌝ }
+{
+    let at = state::place_of(state, t);
+    if file[at] != kind {
+        return false;
+    }
+    if records::word_at(file, at + 1 + offset) != telling {
+        return false;
+    }
+    let second = records::field_of(term, second_field(kind));
+    if records::word_at(file, at + 1 + second_at(kind)) != second {
+        return false;
+    }
+    let earlier = term_of(file, state, t);
+    records::alike(term, earlier)
+}
+
 // Whether a term is alike one of the first terms. What loading spends here grows with the square of the terms.
 pub fn alike_before(file: &[u8], state: &[u8], term: Term, terms: usize) -> bool
     requires { ⌜ TermsThere (now file) (now state) terms ⌝ }
     ensures { λ r. ⌜ r ≡ anyAlikeThere (now (file .entry)) (view (now (state .entry)) .place) term terms ⌝ }
 {
+    let kind = rules::kind_of(term);
+    let offset = telling_at(kind);
+    let telling = records::field_of(term, telling_field(kind));
     let mut t = 0;
     while t < terms {
-        let earlier = term_of(file, state, t);
-        if records::alike(term, earlier) {
+        if alike_at(file, state, term, kind, offset, telling, t) {
             return true;
         }
         t += 1;

@@ -1,5 +1,5 @@
 -- Desk commands (document 01, "Desk commands"): what each asks, and what it changes.
-use mathlib.Core.Bool.{cond, not, _||_}
+use mathlib.Core.Bool.{true, cond, not, _&&_, _||_}
 use mathlib.Core.List.{List, [], _∷_, _++_}
 use Prim.Native.Nat.{ℕ, zero, suc, _+_}
 use lib.Dec.{eqb, leb}

@@ -1,5 +1,5 @@
 -- Device commands and checks (document 01, "Device commands", "Checks and listing"): what each asks, and what it changes.
-use mathlib.Core.Bool.{Bool, cond, not, _&&_, _||_}
+use mathlib.Core.Bool.{Bool, true, cond, not, _&&_, _||_}
 use mathlib.Core.List.{List, [], _∷_}
 use Prim.Native.Nat.{ℕ}
 use Rattle.rules.specs.Limits.{device, oemDesk, ownerDesk}

@@ -1,5 +1,5 @@
 -- Loading (document 01, "The scenario file", "Terms", "Set-up"): refusals 2 to 12, in the order that "When the desk says no" gives.
-use mathlib.Core.Bool.{Bool, cond, not, _&&_, _||_}
+use mathlib.Core.Bool.{Bool, true, cond, not, _&&_, _||_}
 use mathlib.Core.List.{List, [], _∷_, _++_, reverse}
 use Prim.Native.Nat.{ℕ, zero, suc, _+_}
 use lib.Dec.{eqb, ltb, leb}
