@@ -10,19 +10,19 @@ use Rattle.rules.specs.declared.Term.{Term}
 use Rattle.rules.specs.Limits.{rowWidth, partyLimit, termLimit, roleCount}
 use Rattle.rules.specs.Attributes.{attributesLimit}
 use Rattle.rules.specs.Term.{signatureKind, attestKind, alike}
-use Rattle.rules.specs.Record.{sectionOf, bodyLength, partySection, termSection, word}
+use Rattle.rules.specs.Record.{partySection, termSection, word}
 use Rattle.rules.specs.Load.{first, refuseUnless}
 use Rattle.state.specs.View.{view}
 use Rattle.learning.specs.There.{TermRecord, kindThere, termThere, partsThere}
 
--- 3 to 6 at a record: its kind, how many bytes follow its kind byte, the section and the counts so far
-unfoldable pub headFault : ℕ → ℕ → ℕ → ℕ → ℕ → ℕ
-headFault kind left section parties terms =
-    cond (eqb (sectionOf kind) 0) 3
-    (cond (ltb left (bodyLength kind)) 4
-    (cond (ltb (sectionOf kind) section) 5
-    (cond (eqb (sectionOf kind) partySection) (refuseUnless 6 (ltb parties partyLimit))
-    (cond (eqb (sectionOf kind) termSection) (refuseUnless 6 (ltb terms termLimit))
+-- 3 to 6 at a record: its section and the length of its body, how many bytes follow its kind byte, the section and the counts so far
+unfoldable pub headFault : ℕ → ℕ → ℕ → ℕ → ℕ → ℕ → ℕ
+headFault own size left section parties terms =
+    cond (eqb own 0) 3
+    (cond (ltb left size) 4
+    (cond (ltb own section) 5
+    (cond (eqb own partySection) (refuseUnless 6 (ltb parties partyLimit))
+    (cond (eqb own termSection) (refuseUnless 6 (ltb terms termLimit))
     0))))
 
 -- a party's role stands in its record, of two bytes

@@ -1,33 +1,33 @@
 // Refusals 3 to 9 at a record of a scenario file.
-use learning::term_of;
 use rules::Attributes;
 use rules::Field;
-use rules::Term;
 ghost use mathlib.Core.Path.{_≡_};
-ghost use mathlib.Core.Bool.{cond, not};
-ghost use Prim.Native.Nat.{ℕ, _+_, _*_, _<_, _≤_};
-ghost use lib.Dec.{eqb, ltb};
+ghost use Prim.Native.Nat.{_+_, _*_, _<_, _≤_};
+ghost use lib.Dec.{ltb};
 ghost use lib.ListN.{length, getD};
 ghost use Rattle.rules.specs.declared.Field.the-variants.{TermOf, SignedAttest};
-ghost use Rattle.rules.specs.Limits.{rowWidth, termLimit};
-ghost use Rattle.rules.specs.Term.{kindOf, fieldsIn, alike};
-ghost use Rattle.rules.specs.Record.{sectionOf, bodyLength, termSection, width as widthOf, word};
-ghost use Rattle.rules.specs.Load.{refuseUnless, termAt};
-ghost use Rattle.rules.specs.State.{put};
-ghost use Rattle.state.specs.View.{view, withPlace};
-ghost use Rattle.learning.specs.There.{kindThere, termThere, TermRecord};
-ghost use Rattle.checks.specs.Telling.{tellingAt, tellingField, secondAt, secondField};
-ghost use Rattle.checks.specs.There.{headFault, roleThere, TermsThere, fieldFaultThere, anyAlikeThere};
+ghost use Rattle.rules.specs.Limits.{rowWidth};
+ghost use Rattle.rules.specs.Record.{width as widthOf, word};
+ghost use Rattle.rules.specs.Load.{refuseUnless};
+ghost use Rattle.state.specs.View.{view};
+ghost use Rattle.learning.specs.There.{kindThere};
+ghost use Rattle.checks.specs.There.{headFault, roleThere, TermsThere, fieldFaultThere};
 
-// 3 to 6 at a record: 0, or the refusal.
-pub fn head_fault(kind: u8, left: usize, section: u8, parties: usize, terms: usize) -> u8
-    ensures { λ r. ⌜ r ≡ headFault kind left section parties terms ⌝ }
+// 3 to 6 at a record, by its kind's section and the length of its body: 0, or the refusal.
+pub fn head_fault(
+    own: u8,
+    length: usize,
+    left: usize,
+    section: u8,
+    parties: usize,
+    terms: usize,
+) -> u8
+    ensures { λ r. ⌜ r ≡ headFault own length left section parties terms ⌝ }
 {
-    let own = records::section_of(kind);
     if own == 0 {
         return 3;
     }
-    if left < records::body_length(kind) {
+    if left < length {
         return 4;
     }
     if own < section {
@@ -144,119 +144,27 @@ pub fn field_fault(
     }
 }
 
-// Where the word that tells terms of a kind apart starts in the body.
-fn telling_at(kind: u8) -> usize
-    ensures { λ r. ⌜ r ≡ tellingAt kind ⌝ }
-{
-    match kind {
-        0x17 => 1,
-        0x19 => 3,
-        _ => 0,
-    }
-}
-
-// Which field that word is.
-fn telling_field(kind: u8) -> usize
-    ensures { λ r. ⌜ r ≡ tellingField kind ⌝ }
-{
-    match kind {
-        0x17 => 1,
-        0x19 => 2,
-        _ => 0,
-    }
-}
-
-// Where another word starts that differs where the first may not.
-fn second_at(kind: u8) -> usize
-    ensures { λ r. ⌜ r ≡ secondAt kind ⌝ }
-{
-    match kind {
-        0x13 => 2,
-        0x15 => 2,
-        0x17 => 3,
-        0x18 => 2,
-        0x1A => 2,
-        _ => 0,
-    }
-}
-
-// Which field that word is.
-fn second_field(kind: u8) -> usize
-    ensures { λ r. ⌜ r ≡ secondField kind ⌝ }
-{
-    match kind {
-        0x13 => 1,
-        0x15 => 1,
-        0x17 => 2,
-        0x18 => 1,
-        0x1A => 1,
-        _ => 0,
-    }
-}
-
-// Whether a term is alike an earlier one, which is decoded only if its kind and two of its words are the term's.
-fn alike_at(
+// The same of a command's field: a party and a term of a kind at once, the rest as of any field.
+pub fn command_fault(
     file: &[u8],
     state: &[u8],
-    term: Term,
-    kind: u8,
-    offset: usize,
-    telling: u16,
-    t: usize,
-) -> bool
-    requires { ⌜ (rowWidth * t + rowWidth ≤ length (now state)) × TermRecord (now file) (view (now state) .place t) × (kind ≡ kindOf term) × (offset ≡ tellingAt kind) × (telling ≡ getD (fieldsIn term) (tellingField kind) 0) ⌝ }
-    ensures { λ r. ⌜ r ≡ alike term (termThere (now (file .entry)) (view (now (state .entry)) .place t)) ⌝ }
-{
-    let at = state::place_of(state, t);
-    if file[at] != kind {
-        return false;
-    }
-    if records::word_at(file, at + 1 + offset) != telling {
-        return false;
-    }
-    let second = records::field_of(term, second_field(kind));
-    if records::word_at(file, at + 1 + second_at(kind)) != second {
-        return false;
-    }
-    let earlier = term_of(file, state, t);
-    records::alike(term, earlier)
-}
-
-// Whether a term is alike one of the first terms. What loading spends here grows with the square of the terms.
-pub fn alike_before(file: &[u8], state: &[u8], term: Term, terms: usize) -> bool
-    requires { ⌜ TermsThere (now file) (now state) terms ⌝ }
-    ensures { λ r. ⌜ r ≡ anyAlikeThere (now (file .entry)) (view (now (state .entry)) .place) term terms ⌝ }
-{
-    let kind = rules::kind_of(term);
-    let offset = telling_at(kind);
-    let telling = records::field_of(term, telling_field(kind));
-    let mut t = 0;
-    while t < terms {
-        if alike_at(file, state, term, kind, offset, telling, t) {
-            return true;
-        }
-        t += 1;
-    }
-    false
-}
-
-// A term record: 9 where its term is alike an earlier one; else its place is noted.
-pub fn enter_term(
-    file: &[u8],
-    state: &mut [u8],
     body: &[u8],
-    kind: u8,
-    at: usize,
+    field: Field,
+    i: usize,
+    parties: usize,
     terms: usize,
 ) -> u8
-    requires { ⌜ TermsThere (now file) (now state) terms × (terms < termLimit) × (at < 65536) × (sectionOf kind ≡ termSection) × (bodyLength kind ≤ length (now body)) ⌝ }
-    ensures refusal { λ r. ⌜ r ≡ refuseUnless 9 (not (anyAlikeThere (now (file .entry)) (view (now (state .entry)) .place) (termAt kind (now (body .entry))) terms)) ⌝ }
-    ensures left { λ r. ⌜ view (now (state .exit)) ≡ cond (eqb r 0) (withPlace (view (now (state .entry))) (put (view (now (state .entry)) .place) terms at)) (view (now (state .entry))) ⌝ }
+    requires { ⌜ TermsThere (now file) (now state) terms × (i + widthOf field ≤ length (now body)) ⌝ }
+    ensures { λ r. ⌜ r ≡ fieldFaultThere (now (file .entry)) (view (now (state .entry)) .place) parties terms field i (now (body .entry)) ⌝ }
 {
-    let term = records::term_in(kind, body);
-    if alike_before(file, state, term, terms) {
-        return 9;
+    match field {
+        Field::RoleField => field_fault(file, state, body, field, i, parties, terms),
+        Field::IdentifierField => field_fault(file, state, body, field, i, parties, terms),
+        Field::AttributesField => field_fault(file, state, body, field, i, parties, terms),
+        Field::SubjectField => field_fault(file, state, body, field, i, parties, terms),
+        Field::PartyField => byte_fault(body, i, parties),
+        Field::AnyTerm => field_fault(file, state, body, field, i, parties, terms),
+        Field::TermOf(kind) => kind_fault(file, state, body, i, kind, terms),
+        Field::SignedAttest => field_fault(file, state, body, field, i, parties, terms),
     }
-    state::note_place(state, terms, at);
-    0
 }

@@ -11,7 +11,6 @@ use Prim.Native.Nat.{ℕ, zero, suc, _<_, _≤_}
 use native.Mathlib.Omega.{arith}
 use native.Mathlib.Nat.{le-refl}
 use lib.ListN.{length}
-use Rattle.rules.specs.declared.Term.{Term}
 use Rattle.rules.specs.Term.{partsOf}
 use Rattle.rules.specs.Learning.{Knowledge, grant, each, opened}
 use Rattle.state.specs.View.{Columns, view, withKnows}
@@ -114,6 +113,6 @@ pub ready-learned : {bs s s′ : List ℕ} {p t : ℕ} (a : ℕ) → Ready bs s 
 ready-learned {bs} {s = s} {p = p} a = ready-after (learnThere bs (view s .place) p a (view s .knows))
 
 -- the parts that were read are those of t
-pub seen : (bs : List ℕ) (place : ℕ → ℕ) (t : ℕ) {n : Term} {us : List ℕ} → n ≡ termThere bs (place t) → us ≡ partsOf n → partsThere bs place t ≡ us
+pub seen : (bs : List ℕ) (place : ℕ → ℕ) (t : ℕ) {at : ℕ} {us : List ℕ} → at ≡ place t → us ≡ partsOf (termThere bs at) → partsThere bs place t ≡ us
 unfolding partsThere
-seen bs place t e h = sym (h ∙ ap partsOf e)
+seen bs place t e h = sym (h ∙ ap (λ (x : ℕ). partsOf (termThere bs x)) e)

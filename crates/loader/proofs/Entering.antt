@@ -437,7 +437,7 @@ pub described-next : (f : File) (bs s s′ signers signers′ : List ℕ) (n : T
     → length s′ ≡ length s → length signers′ ≡ length signers → length signers ≡ partyLimit
     → view s′ ≡ columnsAfter bs (view s) n (getD bs at 0) (bodyAt bs at) at
     → signers′ ≡ signersAfter signers (getD bs at 0) (bodyAt bs at)
-    → Describes (enter f at (getD bs at 0) (bodyAt bs at)) bs s′ signers′ (counted (getD bs at 0) n) (at + 1 + bodyLength (getD bs at 0))
+    → Describes (enter f at (getD bs at 0) (bodyAt bs at)) bs s′ signers′ (counted (sectionOf (getD bs at 0)) n) (at + 1 + bodyLength (getD bs at 0))
 unfolding enter counted columnsAfter signersAfter
 described-next f bs s s′ signers signers′ n at d g first short known rest none size size′ eight v w =
     next-go f bs s s′ signers signers′ n at d g first known rest size eight (in-order f (getD bs at 0) (bodyAt bs at) none)

@@ -411,13 +411,13 @@ module _ (f : File) (bs s signers : List ℕ) (n : Tally) (at : ℕ) (d : Descri
       (λ a b. omega (arith, eqb-true (sectionOf k) termSection a, eqb-true (sectionOf k) setupSection b))
 
   head-same : (k left : ℕ)
-      → headFault k left (n .section) (n .parties) (n .terms)
+      → headFault (sectionOf k) (bodyLength k) left (n .section) (n .parties) (n .terms)
       ≡ cond (eqb (sectionOf k) 0) 3 (cond (ltb left (bodyLength k)) 4 (first (sectionFault f k) (countFault f k)))
   unfolding headFault sectionFault countFault
   head-same k left = rw (← d .sectionIs, ← d .partiesAre, ← d .termsAre, order-same)
 
   -- 3 to 6
-  pub head-zero : (k left : ℕ) → headFault k left (n .section) (n .parties) (n .terms) ≡ 0 → (0 < sectionOf k) × (bodyLength k ≤ left) × (sectionFault f k ≡ 0) × (countFault f k ≡ 0)
+  pub head-zero : (k left : ℕ) → headFault (sectionOf k) (bodyLength k) left (n .section) (n .parties) (n .terms) ≡ 0 → (0 < sectionOf k) × (bodyLength k ≤ left) × (sectionFault f k ≡ 0) × (countFault f k ≡ 0)
   head-zero k left e =
       let h = head-none (eqb (sectionOf k) 0) (ltb left (bodyLength k)) _ (sym (head-same k left) ∙ e) in
       let known : sectionOf k ≡ 0 → ⊥ = eqb-false (sectionOf k) 0 (h .0) in
@@ -437,7 +437,7 @@ module _ (f : File) (bs s signers : List ℕ) (n : Tally) (at : ℕ) (d : Descri
 
   -- the record at the place
   module _ (inside : at < length bs) where
-    pub refuse-head : (r : ℕ) → headFault (getD bs at 0) (length bs - (at + 1)) (n .section) (n .parties) (n .terms) ≡ suc r → feed (loaded f) (from bs at) ≡ refused (suc r) at
+    pub refuse-head : (r : ℕ) → headFault (sectionOf (getD bs at 0)) (bodyLength (getD bs at 0)) (length bs - (at + 1)) (n .section) (n .parties) (n .terms) ≡ suc r → feed (loaded f) (from bs at) ≡ refused (suc r) at
     refuse-head r e = go (eqb (sectionOf (getD bs at 0)) 0) (ltb (length bs - (at + 1)) (bodyLength (getD bs at 0))) refl refl (sym (head-same (getD bs at 0) (length bs - (at + 1))) ∙ e)
       where
         go : (a b : Bool) → eqb (sectionOf (getD bs at 0)) 0 ≡ a → ltb (length bs - (at + 1)) (bodyLength (getD bs at 0)) ≡ b
@@ -451,7 +451,7 @@ module _ (f : File) (bs s signers : List ℕ) (n : Tally) (at : ℕ) (d : Descri
             let fits = ltb-false (length bs - (at + 1)) (bodyLength (getD bs at 0)) q in
             feed-refusal bs at inside f (omega arith) (omega arith) r (fault-parts f (getD bs at 0) (bodyAt bs at) ∙ first-some _ _ r h)
 
-    module _ (right : headFault (getD bs at 0) (length bs - (at + 1)) (n .section) (n .parties) (n .terms) ≡ 0) where
+    module _ (right : headFault (sectionOf (getD bs at 0)) (bodyLength (getD bs at 0)) (length bs - (at + 1)) (n .section) (n .parties) (n .terms) ≡ 0) where
       fits : at + 1 + bodyLength (getD bs at 0) ≤ length bs
       fits = omega (arith, head-zero (getD bs at 0) (length bs - (at + 1)) right .1)
 

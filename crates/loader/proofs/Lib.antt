@@ -3,4 +3,6 @@ pub mod Entering
 pub mod Final
 pub mod Scanning
 pub mod Bounds
-pub mod Keys
+pub mod Commands
+pub mod Signing
+pub mod Filling

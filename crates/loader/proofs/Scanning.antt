@@ -13,17 +13,18 @@ use borrow.Author.Tests.{eq-eqb}
 use Rattle.rules.specs.declared.Field.{Field}
 use Rattle.rules.specs.declared.Field.the-variants.{AnyTerm}
 use Rattle.rules.specs.Limits.{fileLimit, partyLimit}
-use Rattle.rules.specs.Record.{sectionOf, bodyLength, fieldsOf, width, widths, partySection, termSection, setupSection}
+use Rattle.rules.specs.Record.{sectionOf, bodyLength, fieldsOf, width, widths, partySection, termSection, setupSection, commandSection}
 use Rattle.rules.specs.File.{File, Setup, learns, holds, signsWith}
 use Rattle.rules.specs.Load.{fieldsFault, enter, setupAt, feed, load, loaded, refused, emptyFile}
 use Rattle.state.specs.View.{view}
 use Rattle.checks.specs.There.{headFault, fieldFaultThere}
 use Rattle.setup.specs.Allowed.{signersLeave}
-use Rattle.theorems.proofs.Loading.{Good, entered, empty-good}
+use Rattle.records.proofs.Lengths.{section-most}
+use Rattle.theorems.proofs.Loading.{entered, empty-good}
 use Rattle.theorems.proofs.Pieces.{from, bodyAt, body-length, load-from, feed-end}
 use Rattle.loader.specs.declared.Tally.{Tally}
 use Rattle.loader.specs.declared.Scanned.{Scanned}
-use Rattle.loader.specs.Describes.{Describes, counted, lastFault, columnsAfter, signersAfter, EnterReady, ScanReady, ScanResult}
+use Rattle.loader.specs.Describes.{Describes, counted, lastFault, columnsAfter, signersAfter, EnterReady, At, ScanReady, ScanResult}
 use Rattle.loader.proofs.Faults.{field-same, head-zero, refuse-head, fields-next, fields-stop, refuse-fields, refuse-last, taken}
 use Rattle.loader.proofs.Entering.{described-empty, described-next, enter-ready}
 
@@ -33,16 +34,10 @@ none = record { section = 0; parties = 0; terms = 0; commands = 0 }
 abbrev pub refusal : ℕ → ℕ → Tally → Scanned
 refusal x at n = record { number = x; place = at; tally = n }
 
--- what holds where the scan stands at the place of a record
-pub record At (bs s signers : List ℕ) (n : Tally) (at : ℕ) : Type 0 where
-  pub file : File
-  pub describes : Describes file bs s signers n at
-  pub good : Good file
-  pub inside : at ≤ length bs
-  pub short : length bs ≤ fileLimit
-  pub eight : length signers ≡ partyLimit
-  pub few : n .commands ≤ at
-  pub left : feed (loaded file) (from bs at) ≡ load bs
+-- a refusal says nothing of the counts
+pub any-tally : {bs s signers : List ℕ} {x at : ℕ} (n m : Tally) → (x ≡ 0 → ⊥) → ScanResult bs s signers (refusal x at n) → ScanResult bs s signers (refusal x at m)
+any-tally n m z (inl (e, r)) = absurd (z e)
+any-tally n m z (inr r) = inr r
 
 pub at-start : (bs s signers : List ℕ) → ScanReady bs s signers → At bs s signers none 0
 at-start bs s signers r = record {
@@ -53,6 +48,7 @@ at-start bs s signers r = record {
   short = r .short;
   eight = r .eight;
   few = omega arith;
+  inOrder = omega arith;
   left = sym (load-from bs (r .short));
 }
 
@@ -61,23 +57,34 @@ positive : (x : ℕ) → (x ≡ 0 → ⊥) → (m : ℕ) × (x ≡ suc m)
 positive zero h = absurd (h refl)
 positive (suc m) h = (m, refl)
 
-abbrev tallied : ℕ → Tally → Tally
-tallied k n = record { section = sectionOf k; parties = n .parties; terms = n .terms; commands = n .commands + 1 }
-
 -- a record adds at most one command
-one-more : (k : ℕ) (n : Tally) → counted k n .commands ≤ n .commands + 1
+one-more : (own : ℕ) (n : Tally) → counted own n .commands ≤ n .commands + 1
 unfolding counted
-one-more k n = go (eqb (sectionOf k) partySection) (eqb (sectionOf k) termSection) (eqb (sectionOf k) setupSection)
+one-more own n = go (eqb own partySection) (eqb own termSection) (eqb own setupSection)
   where
     go : (a b c : Bool)
-        → (cond a (record { section = sectionOf k; parties = n .parties + 1; terms = n .terms; commands = n .commands })
-        (cond b (record { section = sectionOf k; parties = n .parties; terms = n .terms + 1; commands = n .commands })
-        (cond c (record { section = sectionOf k; parties = n .parties; terms = n .terms; commands = n .commands })
-        (tallied k n)))) .commands ≤ n .commands + 1
+        → (cond {A = Tally} a (record { section = own; parties = n .parties + 1; terms = n .terms; commands = n .commands })
+        (cond b (record { section = own; parties = n .parties; terms = n .terms + 1; commands = n .commands })
+        (cond c (record { section = own; parties = n .parties; terms = n .terms; commands = n .commands })
+        (record { section = own; parties = n .parties; terms = n .terms; commands = n .commands + 1 })))) .commands ≤ n .commands + 1
     go true b c = omega arith
     go false true c = omega arith
     go false false true = omega arith
     go false false false = omega arith
+
+counted-section : (own : ℕ) (n : Tally) → counted own n .section ≡ own
+unfolding counted
+counted-section own n = go (eqb own partySection) (eqb own termSection) (eqb own setupSection)
+  where
+    go : (a b c : Bool)
+        → (cond {A = Tally} a (record { section = own; parties = n .parties + 1; terms = n .terms; commands = n .commands })
+        (cond b (record { section = own; parties = n .parties; terms = n .terms + 1; commands = n .commands })
+        (cond c (record { section = own; parties = n .parties; terms = n .terms; commands = n .commands })
+        (record { section = own; parties = n .parties; terms = n .terms; commands = n .commands + 1 })))) .section ≡ own
+    go true b c = refl
+    go false true c = refl
+    go false false true = refl
+    go false false false = refl
 
 -- the widths of the first fields
 widths-next : (fs : List Field) (i : ℕ) → i < length fs → widths (take (i + 1) fs) ≡ widths (take i fs) + width (getD fs i AnyTerm)
@@ -112,13 +119,13 @@ module _ (bs s signers : List ℕ) (n : Tally) (at : ℕ) (a : At bs s signers n
     kind = getD bs at 0
 
     abbrev Head : ℕ → Type 0
-    Head x = x ≡ headFault kind (length bs - (at + 1)) (n .section) (n .parties) (n .terms)
+    Head x = x ≡ headFault (sectionOf kind) (bodyLength kind) (length bs - (at + 1)) (n .section) (n .parties) (n .terms)
 
     -- 3 to 6
     pub at-head : (x : ℕ) → Head x → (x ≡ 0 → ⊥) → ScanResult bs s signers (refusal x at n)
     at-head x e z = refuses x z (λ r q. refuse-head (a .file) bs s signers n at (a .describes) (a .good) h r (sym e ∙ q)) s signers
 
-    module _ (head : headFault (getD bs at 0) (length bs - (at + 1)) (n .section) (n .parties) (n .terms) ≡ 0) where
+    module _ (head : headFault (sectionOf (getD bs at 0)) (bodyLength (getD bs at 0)) (length bs - (at + 1)) (n .section) (n .parties) (n .terms) ≡ 0) where
       pub fits : at + 1 + bodyLength (getD bs at 0) ≤ length bs
       fits = let w = head-zero (a .file) bs s signers n at (a .describes) (a .good) (getD bs at 0) (length bs - (at + 1)) head .1 in omega arith
 
@@ -196,7 +203,7 @@ module _ (bs s signers : List ℕ) (n : Tally) (at : ℕ) (a : At bs s signers n
         pub at-next : (x : ℕ) (s′ signers′ : List ℕ) → x ≡ lastFault bs (view s) signers n (getD bs at 0) body → x ≡ 0 → length s′ ≡ length s → length signers′ ≡ length signers
             → view s′ ≡ cond (eqb x 0) (columnsAfter bs (view s) n (getD bs at 0) body at) (view s)
             → signers′ ≡ cond (eqb x 0) (signersAfter signers (getD bs at 0) body) signers
-            → At bs s′ signers′ (counted (getD bs at 0) n) (at + 1 + bodyLength (getD bs at 0))
+            → At bs s′ signers′ (counted (sectionOf (getD bs at 0)) n) (at + 1 + bodyLength (getD bs at 0))
         at-next x s′ signers′ e z ls lg v k =
             let t = taken (a .file) bs s signers n at (a .describes) (a .good) h head (all-right body i offset b w l) (sym (ap (lastFault bs (view s) signers n (getD bs at 0)) b) ∙ sym e ∙ z) in
             record {
@@ -209,9 +216,14 @@ module _ (bs s signers : List ℕ) (n : Tally) (at : ℕ) (a : At bs s signers n
               inside = fits;
               short = a .short;
               eight = lg ∙ a .eight;
-              few = let f = a .few in omega (arith, one-more (getD bs at 0) n);
+              few = let f = a .few in omega (arith, one-more (sectionOf (getD bs at 0)) n);
+              inOrder = omega (arith, counted-section (sectionOf (getD bs at 0)) n, section-most (getD bs at 0));
               left = sym (t .1) ∙ a .left;
             }
+
+-- a head's refusal, as the code's section and length give it
+pub head-is : {x own size : ℕ} (k left section parties terms : ℕ) → own ≡ sectionOf k → size ≡ bodyLength k → x ≡ headFault own size left section parties terms → x ≡ headFault (sectionOf k) (bodyLength k) left section parties terms
+head-is k left section parties terms eo es e = rw (← eo, ← es) e
 
 -- the part of the file that is handed on is the record's body
 pub body-same : (bs : List ℕ) (at x : ℕ) → x ≡ bodyLength (getD bs at 0) → take (at + 1 + x - (at + 1)) (drop (at + 1) bs) ≡ bodyAt bs at
@@ -222,7 +234,7 @@ body-same bs at x e = let q : at + 1 + x - (at + 1) ≡ bodyLength (getD bs at 0
 pub record InFields (bs s signers : List ℕ) (n : Tally) (at : ℕ) (body : List ℕ) (i offset : ℕ) : Type 0 where
   pub here : At bs s signers n at
   pub more : at < length bs
-  pub head : headFault (getD bs at 0) (length bs - (at + 1)) (n .section) (n .parties) (n .terms) ≡ 0
+  pub head : headFault (sectionOf (getD bs at 0)) (bodyLength (getD bs at 0)) (length bs - (at + 1)) (n .section) (n .parties) (n .terms) ≡ 0
   pub bodyIs : body ≡ bodyAt bs at
   pub fields : Fields bs s signers n at here more head body i offset
 
@@ -291,11 +303,18 @@ module _ (bs s signers : List ℕ) (n : Tally) (at : ℕ) (body : List ℕ) (i o
     pub record-taken : (x : ℕ) (s′ signers′ : List ℕ) → x ≡ lastFault bs (view s) signers n (getD bs at 0) body → x ≡ 0 → length s′ ≡ length s
         → view s′ ≡ cond (eqb x 0) (columnsAfter bs (view s) n (getD bs at 0) body at) (view s)
         → signers′ ≡ cond (eqb x 0) (signersAfter signers (getD bs at 0) body) signers
-        → (n′ : Tally) → n′ ≡ counted (getD bs at 0) n → (y : ℕ) → y ≡ bodyLength (getD bs at 0) → At bs s′ signers′ n′ (at + 1 + y)
+        → (n′ : Tally) → n′ ≡ counted (sectionOf (getD bs at 0)) n → (y : ℕ) → y ≡ bodyLength (getD bs at 0) → At bs s′ signers′ n′ (at + 1 + y)
     record-taken x s′ signers′ f z ls v k n′ c y b =
         subst⁻¹ (λ (u : ℕ). At bs s′ signers′ n′ (at + 1 + u)) b
         (subst⁻¹ (λ (t : Tally). At bs s′ signers′ t (at + 1 + bodyLength (getD bs at 0))) c
         (at-next bs s signers n at (w .here) (w .more) (w .head) body i offset (w .bodyIs) (w .fields) all x s′ signers′ f z ls (ap length k ∙ keys-length (eqb x 0) signers (getD bs at 0) body) v k))
+
+    -- a command leaves the state and the signing keys
+    pub command-taken : sectionOf (getD bs at 0) ≡ commandSection → At bs s signers (counted commandSection n) (at + 1 + bodyLength (getD bs at 0))
+    unfolding lastFault columnsAfter signersAfter
+    command-taken q =
+        subst (λ (own : ℕ). At bs s signers (counted own n) (at + 1 + bodyLength (getD bs at 0))) q
+        (at-next bs s signers n at (w .here) (w .more) (w .head) body i offset (w .bodyIs) (w .fields) all 0 s signers (rw q refl) refl refl refl (rw q refl) (rw q refl))
 
 -- the counts are small
 pub counts-small : (bs s signers : List ℕ) (n : Tally) (at : ℕ) → At bs s signers n at → (n .parties < 65536) × (n .terms < 65536) × (n .commands < 65536)

@@ -7,14 +7,17 @@ use Prim.Native.Nat.{ℕ, suc, _+_, _*_, _<_, _≤_}
 use lib.Dec.{eqb}
 use lib.ListN.{length, getD, replicate}
 use Rattle.rules.specs.Limits.{fileLimit, partyLimit, termLimit, stateBytes}
-use Rattle.rules.specs.Record.{sectionOf, bodyLength, partySection, termSection, setupSection, word}
+use Rattle.rules.specs.Record.{sectionOf, bodyLength, partySection, termSection, setupSection, commandSection, word}
 use Rattle.rules.specs.File.{File, Setup, learns, holds, signsWith, term, roleOf, holdsKey}
-use Rattle.rules.specs.Load.{refuseUnless, termAt, setupAt, load, loaded, refused}
+use Rattle.rules.specs.Load.{refuseUnless, termAt, setupAt, feed, load, loaded, refused}
 use Rattle.rules.specs.State.{taught, put}
+use Rattle.records.specs.Codes.{FieldRows}
 use Rattle.state.specs.View.{Columns, view, withPlace}
 use Rattle.learning.specs.There.{termThere}
 use Rattle.checks.specs.There.{TermsThere, roleThere, anyAlikeThere}
 use Rattle.setup.specs.Allowed.{noKey, allowedThere, setupLeaves, signersLeave}
+use Rattle.theorems.proofs.Loading.{Good}
+use Rattle.theorems.proofs.Pieces.{from}
 use Rattle.loader.specs.declared.Tally.{Tally}
 use Rattle.loader.specs.declared.Scanned.{Scanned}
 
@@ -49,13 +52,13 @@ pub record Describes (f : File) (bs s signers : List ℕ) (n : Tally) (at : ℕ)
   pub desk : (t : ℕ) → view s .desk t ≡ 0
   pub request : (t : ℕ) → view s .request t ≡ 0
 
--- the counts with one record more of a kind
+-- the counts with one record more of a section
 unfoldable pub counted : ℕ → Tally → Tally
-counted k n =
-    cond (eqb (sectionOf k) partySection) (record { section = sectionOf k; parties = n .parties + 1; terms = n .terms; commands = n .commands })
-    (cond (eqb (sectionOf k) termSection) (record { section = sectionOf k; parties = n .parties; terms = n .terms + 1; commands = n .commands })
-    (cond (eqb (sectionOf k) setupSection) (record { section = sectionOf k; parties = n .parties; terms = n .terms; commands = n .commands })
-    (record { section = sectionOf k; parties = n .parties; terms = n .terms; commands = n .commands + 1 })))
+counted own n =
+    cond (eqb own partySection) (record { section = own; parties = n .parties + 1; terms = n .terms; commands = n .commands })
+    (cond (eqb own termSection) (record { section = own; parties = n .parties; terms = n .terms + 1; commands = n .commands })
+    (cond (eqb own setupSection) (record { section = own; parties = n .parties; terms = n .terms; commands = n .commands })
+    (record { section = own; parties = n .parties; terms = n .terms; commands = n .commands + 1 })))
 
 -- 9 to 12 at a record whose fields are right
 unfoldable pub lastFault : List ℕ → Columns → List ℕ → Tally → ℕ → List ℕ → ℕ
@@ -85,6 +88,18 @@ pub record EnterReady (bs s body : List ℕ) (k at : ℕ) (n : Tally) : Type 0 w
   pub party : sectionOf k ≡ setupSection → getD body 0 0 < n .parties
   pub declared : sectionOf k ≡ setupSection → word body 1 < n .terms
 
+-- what holds where the scan stands at the place of a record: the file declared so far is described, and feeding it what is left is loading the file
+pub record At (bs s signers : List ℕ) (n : Tally) (at : ℕ) : Type 0 where
+  pub file : File
+  pub describes : Describes file bs s signers n at
+  pub good : Good file
+  pub inside : at ≤ length bs
+  pub short : length bs ≤ fileLimit
+  pub eight : length signers ≡ partyLimit
+  pub few : n .commands ≤ at
+  pub inOrder : n .section ≤ commandSection
+  pub left : feed (loaded file) (from bs at) ≡ load bs
+
 -- what the scan starts from
 pub record ScanReady (bs s signers : List ℕ) : Type 0 where
   pub short : length bs ≤ fileLimit
@@ -98,3 +113,15 @@ abbrev pub ScanResult : List ℕ → List ℕ → List ℕ → Scanned → Type 
 ScanResult bs s signers r =
     ((r .number ≡ 0) × ((f : File) × (load bs ≡ loaded f) × (length signers ≡ partyLimit) × Describes f bs s signers (r .tally) (length bs)))
     ⊎ ((m : ℕ) × (r .number ≡ suc m) × (load bs ≡ refused (suc m) (r .place)))
+
+-- what the scan of the commands starts from: the first of them, whatever the signing keys
+pub record CommandsReady (bs s table : List ℕ) (n : Tally) (at : ℕ) : Type 0 where
+  pub rows : FieldRows table
+  pub signers : List ℕ
+  pub here : At bs s signers n at
+  pub more : at < length bs
+  pub command : sectionOf (getD bs at 0) ≡ commandSection
+
+-- what it leaves, whatever the signing keys
+abbrev pub CommandsResult : List ℕ → List ℕ → Tally → ℕ → Scanned → Type 0
+CommandsResult bs s n at r = (signers : List ℕ) → At bs s signers n at → ScanResult bs s signers r

@@ -1,2 +1,2 @@
 pub mod Describes
-pub mod Keys
+pub mod Tabled

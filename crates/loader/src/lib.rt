@@ -1,17 +1,20 @@
 // Loading: a scenario file of any bytes and a lent state buffer of any length.
-use rules::Field;
 use rules::LoadAnswer;
 ghost use mathlib.Core.Path.{_≡_};
 ghost use mathlib.Core.Bool.{cond};
-ghost use mathlib.Core.List.{List};
+ghost use Prim.Native.Nat.{_<_};
 ghost use lib.Dec.{eqb};
-ghost use Rattle.state.specs.View.{view};
-ghost use Prim.Native.Nat.{ℕ, _+_, _*_, _<_, _≤_};
-ghost use lib.ListN.{length, getD, replicate};
-ghost use Rattle.rules.specs.Limits.{fileLimit, partyLimit, stateBytes};
+ghost use lib.ListN.{length, getD};
+ghost use Rattle.rules.specs.Limits.{partyLimit};
+ghost use Rattle.rules.specs.Record.{sectionOf};
+ghost use Rattle.rules.specs.Load.{termAt};
 ghost use Rattle.rules.specs.Lent.{loadAnswer, loadLeaves};
-ghost use Rattle.loader.specs.Describes.{counted, EnterReady, lastFault, columnsAfter, signersAfter, ScanReady, ScanResult};
-ghost use Rattle.loader.specs.Keys.{keysLeft};
+ghost use Rattle.state.specs.View.{view};
+ghost use Rattle.tables.specs.Regions.{tableWords, tablesIn};
+ghost use Rattle.learning.specs.There.{termThere};
+ghost use Rattle.index.specs.Indexed.{Indexed};
+ghost use Rattle.loader.specs.Describes.{counted, EnterReady, lastFault, columnsAfter, signersAfter, ScanReady, ScanResult, CommandsReady, CommandsResult};
+ghost use Rattle.loader.specs.Tabled.{FillReady, FillResult, Signed};
 
 // The section and the counts so far.
 pub struct Tally {
@@ -28,12 +31,11 @@ pub struct Scanned {
     pub tally: Tally,
 }
 
-// The counts with one record more of a kind.
-fn count(kind: u8, n: Tally) -> Tally
+// The counts with one record more of a section.
+fn count(section: u8, n: Tally) -> Tally
     requires { ⌜ (n .parties < 65536) × (n .terms < 65536) × (n .commands < 65536) ⌝ }
-    ensures { λ r. ⌜ r ≡ counted kind n ⌝ }
+    ensures { λ r. ⌜ r ≡ counted section n ⌝ }
 {
-    let section = records::section_of(kind);
     if section == 1 {
         return Tally {
             section: section,
@@ -71,20 +73,24 @@ fn enter(
     file: &[u8],
     state: &mut [u8],
     signers: &mut [u16; 8],
+    links: &mut [u16; index::LINKS],
+    keys: &mut [u64; rules::TERM_LIMIT],
+    tables: &mut [u16; tables::WORDS],
     body: &[u8],
     kind: u8,
+    section: u8,
     at: usize,
     n: Tally,
 ) -> u8
-    requires { ⌜ EnterReady (now file) (now state) (now body) kind at n ⌝ }
+    requires { ⌜ (section ≡ sectionOf kind) × EnterReady (now file) (now state) (now body) kind at n × Indexed (now file) (view (now state) .place) (now links) (now keys) (now tables) (n .terms) × (kind ≡ getD (now file) at 0) × (termThere (now file) at ≡ termAt kind (now body)) ⌝ }
     ensures refusal { λ r. ⌜ r ≡ lastFault (now (file .entry)) (view (now (state .entry))) (now (signers .entry)) n kind (now (body .entry)) ⌝ }
     ensures left { λ r. ⌜ view (now (state .exit)) ≡ cond (eqb r 0) (columnsAfter (now (file .entry)) (view (now (state .entry))) n kind (now (body .entry)) at) (view (now (state .entry))) ⌝ }
     ensures keys { λ r. ⌜ now (signers .exit) ≡ cond (eqb r 0) (signersAfter (now (signers .entry)) kind (now (body .entry))) (now (signers .entry)) ⌝ }
+    ensures indexed { λ r. ⌜ (r ≡ 0 → Indexed (now (file .entry)) (view (now (state .exit)) .place) (now (links .exit)) (now (keys .exit)) (now (tables .exit)) (counted section n .terms)) ⌝ }
 {
-    let section = records::section_of(kind);
     if section == 2 {
         let terms = n.terms;
-        return checks::enter_term(file, state, body, kind, at, terms);
+        return index::enter_term(file, state, links, keys, tables, body, kind, at, terms);
     }
     if section == 3 {
         let parties = n.parties;
@@ -94,11 +100,82 @@ fn enter(
     0
 }
 
-// The scan of the file: it ends at the first refusal, which a label carries out of both loops.
-fn scan(file: &[u8], state: &mut [u8], signers: &mut [u16; 8]) -> Scanned
-    requires { ⌜ ScanReady (now file) (now state) (now signers) ⌝ }
-    ensures { λ r. ⌜ ScanResult (now (file .entry)) (now (state .exit)) (now (signers .exit)) r ⌝ }
+// The scan of the commands, which come last: as that of the file, and nothing is noted.
+fn scan_commands(table: &[u32; 65], file: &[u8], state: &[u8], from: usize, n: Tally) -> Scanned
+    requires { ⌜ CommandsReady (now file) (now state) (now table) n from ⌝ }
+    ensures result { λ r. ⌜ CommandsResult (now (file .entry)) (now (state .entry)) n from r ⌝ }
+    ensures terms { λ r. ⌜ r .tally .terms ≡ n .terms ⌝ }
 {
+    let parties = n.parties;
+    let terms = n.terms;
+    let mut at = from;
+    let mut commands = n.commands;
+    'records: loop {
+        if at >= file.len() {
+            break 'records Scanned {
+                number: 0,
+                place: 0,
+                tally: Tally {
+                    section: 4,
+                    parties: parties,
+                    terms: terms,
+                    commands: commands,
+                },
+            };
+        }
+        let kind = file[at];
+        let start = at + 1;
+        let own = records::section_of(kind);
+        let length = records::body_length(kind);
+        let head = checks::head_fault(own, length, file.len() - start, 4, parties, terms);
+        if head != 0 {
+            break 'records Scanned {
+                number: head,
+                place: at,
+                tally: n,
+            };
+        }
+        let end = start + length;
+        let body = &file[start..end];
+        let mut fields = records::fields_in(table, kind);
+        let mut i: usize = 0;
+        let mut offset = 0;
+        while i < 4 {
+            if fields == 0 {
+                break;
+            }
+            let field = records::low_field(fields);
+            let bad = checks::command_fault(file, state, body, field, offset, parties, terms);
+            if bad != 0 {
+                break 'records Scanned {
+                    number: bad,
+                    place: at,
+                    tally: n,
+                };
+            }
+            offset += records::width(field);
+            fields = fields / 256;
+            i += 1;
+        }
+        commands += 1;
+        at = end;
+    }
+}
+
+// The scan of the file: it ends at the first refusal, which a label carries out of both loops.
+fn scan(
+    file: &[u8],
+    state: &mut [u8],
+    signers: &mut [u16; 8],
+    links: &mut [u16; index::LINKS],
+    keys: &mut [u64; rules::TERM_LIMIT],
+    tables: &mut [u16; tables::WORDS],
+) -> Scanned
+    requires { ⌜ ScanReady (now file) (now state) (now signers) × Indexed (now file) (view (now state) .place) (now links) (now keys) (now tables) 0 ⌝ }
+    ensures result { λ r. ⌜ ScanResult (now (file .entry)) (now (state .exit)) (now (signers .exit)) r ⌝ }
+    ensures indexed { λ r. ⌜ (r .number ≡ 0 → Indexed (now (file .entry)) (view (now (state .exit)) .place) (now (links .exit)) (now (keys .exit)) (now (tables .exit)) (r .tally .terms)) ⌝ }
+{
+    let table = records::field_table();
     let mut at = 0;
     let mut n = Tally {
         section: 0,
@@ -116,10 +193,15 @@ fn scan(file: &[u8], state: &mut [u8], signers: &mut [u16; 8]) -> Scanned
         }
         let kind = file[at];
         let start = at + 1;
+        let own = records::section_of(kind);
+        if own == 4 {
+            break 'records scan_commands(&table, file, state, at, n);
+        }
         let section = n.section;
         let parties = n.parties;
         let terms = n.terms;
-        let head = checks::head_fault(kind, file.len() - start, section, parties, terms);
+        let length = records::body_length(kind);
+        let head = checks::head_fault(own, length, file.len() - start, section, parties, terms);
         if head != 0 {
             break 'records Scanned {
                 number: head,
@@ -127,13 +209,16 @@ fn scan(file: &[u8], state: &mut [u8], signers: &mut [u16; 8]) -> Scanned
                 tally: n,
             };
         }
-        let end = start + records::body_length(kind);
+        let end = start + length;
         let body = &file[start..end];
-        let fields = records::field_count(kind);
-        let mut i = 0;
+        let mut fields = records::fields_in(&table, kind);
+        let mut i: usize = 0;
         let mut offset = 0;
-        while i < fields {
-            let field = records::field_at(kind, i);
+        while i < 4 {
+            if fields == 0 {
+                break;
+            }
+            let field = records::low_field(fields);
             let bad = checks::field_fault(file, state, body, field, offset, parties, terms);
             if bad != 0 {
                 break 'records Scanned {
@@ -143,9 +228,22 @@ fn scan(file: &[u8], state: &mut [u8], signers: &mut [u16; 8]) -> Scanned
                 };
             }
             offset += records::width(field);
+            fields = fields / 256;
             i += 1;
         }
-        let last = enter(file, state, signers, body, kind, at, n);
+        let last = enter(
+            file,
+            state,
+            signers,
+            links,
+            keys,
+            tables,
+            body,
+            kind,
+            own,
+            at,
+            n,
+        );
         if last != 0 {
             break 'records Scanned {
                 number: last,
@@ -153,35 +251,41 @@ fn scan(file: &[u8], state: &mut [u8], signers: &mut [u16; 8]) -> Scanned
                 tally: n,
             };
         }
-        n = count(kind, n);
+        n = count(own, n);
         at = end;
     }
 }
 
-// Loads a file into a lent state buffer, and the parties' signing keys into a lent array.
-pub fn load_with_keys(file: &[u8], state: &mut [u8], signers: &mut [u16; 8]) -> LoadAnswer
-    ensures answer { λ r. ⌜ r ≡ loadAnswer (now (file .entry)) (now (state .entry)) ⌝ }
-    ensures left { λ r. ⌜ now (state .exit) ≡ loadLeaves (now (file .entry)) (now (state .entry)) ⌝ }
-    ensures keys { λ r. ⌜ now (signers .exit) ≡ keysLeft (now (file .entry)) (now (state .entry)) (now (signers .entry)) ⌝ }
+// The signing keys go into the tables.
+fn note_signers(tables: &mut [u16; tables::WORDS], signers: &[u16; 8])
+    requires { ⌜ length (now tables) ≡ tableWords ⌝ }
+    ensures { λ _. ⌜ Signed (now (signers .entry)) (tablesIn (now (tables .entry))) (tablesIn (now (tables .exit))) partyLimit ⌝ }
 {
-    if state.len() < rules::STATE_BYTES {
-        return LoadAnswer::Refused(1, 0);
+    let mut p = 0;
+    while p < rules::PARTY_LIMIT {
+        tables::note_signer(tables, p, signers[p]);
+        p += 1;
     }
-    if rules::FILE_LIMIT < file.len() {
-        return LoadAnswer::Refused(2, 0);
-    }
-    *signers = [setup::NO_KEY; 8];
-    state::clear(&mut state[..rules::STATE_BYTES]);
-    let found = scan(file, &mut state[..rules::STATE_BYTES], signers);
+}
+
+// Fills the state and the tables of a file; where it is refused the state is cleared.
+pub fn fill(file: &[u8], state: &mut [u8], tables: &mut [u16; tables::WORDS]) -> Scanned
+    requires { ⌜ FillReady (now file) (now state) ⌝ }
+    ensures { λ r. ⌜ FillResult (now (file .entry)) (now (state .exit)) (now (tables .exit)) r ⌝ }
+{
+    let mut signers = [setup::NO_KEY; 8];
+    let mut links = [0u16; index::LINKS];
+    let mut keys = [0u64; rules::TERM_LIMIT];
+    *tables = [0u16; tables::WORDS];
+    state::clear(state);
+    let found = scan(file, state, &mut signers, &mut links, &mut keys, tables);
     let number = found.number;
-    let place = found.place;
     if number != 0 {
-        state::clear(&mut state[..rules::STATE_BYTES]);
-        *signers = [setup::NO_KEY; 8];
-        return LoadAnswer::Refused(number as u32, place as u32);
+        state::clear(state);
+        return found;
     }
-    let n = found.tally;
-    LoadAnswer::Loaded(n.parties as u32, n.terms as u32, n.commands as u32)
+    note_signers(tables, &signers);
+    found
 }
 
 // Loads a file into a lent state buffer.
@@ -189,6 +293,19 @@ pub fn load(file: &[u8], state: &mut [u8]) -> LoadAnswer
     ensures answer { λ r. ⌜ r ≡ loadAnswer (now (file .entry)) (now (state .entry)) ⌝ }
     ensures left { λ r. ⌜ now (state .exit) ≡ loadLeaves (now (file .entry)) (now (state .entry)) ⌝ }
 {
-    let mut signers = [setup::NO_KEY; 8];
-    load_with_keys(file, state, &mut signers)
+    if state.len() < rules::STATE_BYTES {
+        return LoadAnswer::Refused(1, 0);
+    }
+    if rules::FILE_LIMIT < file.len() {
+        return LoadAnswer::Refused(2, 0);
+    }
+    let mut tables = [0u16; tables::WORDS];
+    let found = fill(file, &mut state[..rules::STATE_BYTES], &mut tables);
+    let number = found.number;
+    let place = found.place;
+    if number != 0 {
+        return LoadAnswer::Refused(number as u32, place as u32);
+    }
+    let n = found.tally;
+    LoadAnswer::Loaded(n.parties as u32, n.terms as u32, n.commands as u32)
 }

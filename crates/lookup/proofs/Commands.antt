@@ -1,8 +1,8 @@
 -- The commands of a file that loads are the records from the first command's place on.
 -- Assumes nothing.
-use mathlib.Core.Path.{_≡_, refl, sym, ap, _∙_}
+use mathlib.Core.Path.{_≡_, refl, sym, ap, subst, subst⁻¹, _∙_}
 use mathlib.Core.Bool.{Bool, true, false, cond, _&&_}
-use mathlib.Core.List.{List, [], _∷_, _++_, append-assoc, append-nil, reverse-cons}
+use mathlib.Core.List.{List, [], _∷_, _++_, append-assoc, append-nil, reverse-cons, List·Memᴰ, List·Memᴰ·head, List·Memᴰ·tail}
 use Prim.Native.Nat.{ℕ, zero, suc, _+_, _<_, _≤_}
 use native.Mathlib.Omega.{arith}
 use lib.Dec.{eqb, ltb, leb}
@@ -13,14 +13,13 @@ use Rattle.rules.specs.Record.{sectionOf, partySection, termSection, setupSecti
 use Rattle.rules.specs.File.{File, Command}
 use Rattle.rules.specs.Load.{termAt, setupAt, commandAt, sectionFault, recordFault, withParty, withTerm, withSetup, withCommand, enter, loaded, refused, feed, emptyFile, load, commandsOf}
 use Rattle.learning.specs.There.{kindThere}
+use Rattle.records.proofs.Lengths.{section-most}
 use Rattle.theorems.proofs.LoadingFields.{first-zero, refuse-zero}
 use Rattle.theorems.proofs.Pieces.{from, bodyAt, load-from, feed-end, feed-unknown, feed-short, feed-refusal, feed-taken}
-use Rattle.lookup.specs.Halves.{nextPlace, commandThere}
-use Rattle.lookup.specs.Commands.{commandsThere, commandsFrom}
-
-next-later : (bs : List ℕ) (at : ℕ) → at < nextPlace bs at
-unfolding nextPlace
-next-later bs at = omega arith
+use Rattle.reader.specs.Place.{nextPlace}
+use Rattle.reader.proofs.Places.{next-later, record-at}
+use Rattle.lookup.specs.There.{commandThere}
+use Rattle.lookup.specs.Commands.{commandsThere, commandsFrom, Stand}
 
 -- enough fuel is enough
 fuel : (bs : List ℕ) (n m at : ℕ) → length bs ≤ at + n → length bs ≤ at + m → commandsFrom n bs at ≡ commandsFrom m bs at
@@ -67,17 +66,6 @@ module _ (bs : List ℕ) (at : ℕ) where
         ∙ fuel bs (some-fuel .0) (length bs) (nextPlace bs at) (omega arith) (omega arith)
 
 -- What a record adds to the commands.
-section-most : (k : ℕ) → sectionOf k ≤ commandSection
-unfolding sectionOf
-section-most k = go (eqb k 1) (leb 0x10 k && leb k 0x1A) (leb 0x20 k && leb k 0x22) (leb 0x30 k && leb k 0x40)
-  where
-    go : (a b c d : Bool) → cond a 1 (cond b 2 (cond c 3 (cond d 4 0))) ≤ 4
-    go true b c d = omega arith
-    go false true c d = omega arith
-    go false false true d = omega arith
-    go false false false true = omega arith
-    go false false false false = omega arith
-
 module _ (f : File) (at k : ℕ) (body : List ℕ) where
   enter-command : sectionOf k ≡ commandSection → enter f at k body ≡ withCommand f commandSection (commandAt k body)
   unfolding enter
@@ -141,27 +129,41 @@ commands-more : (f : File) (c : Command) → commandsOf (withCommand f commandSe
 unfolding commandsOf withCommand
 commands-more f c = reverse-cons c (f .commands)
 
+in-middle : (xs ys : List Command) (c : Command) → List·Memᴰ c (xs ++ (c ∷ ys))
+in-middle [] ys c = List·Memᴰ·head refl
+in-middle (x ∷ xs) ys c = List·Memᴰ·tail (in-middle xs ys c)
+
+-- a command is one of the file's
+abbrev pub CommandOf : File → Command → Type 0
+CommandOf g c = List·Memᴰ c (commandsOf g)
+
 -- after a command come commands alone
 module _ (bs : List ℕ) (g : File) where
   -- m commands more from a place on
   abbrev More : File → ℕ → Type 0
-  More f at = (m : ℕ) × (length (g .commands) ≡ length (f .commands) + m) × (commandsOf g ≡ commandsOf f ++ commandsThere bs at m)
+  More f at = (m : ℕ) × (length (g .commands) ≡ length (f .commands) + m) × (commandsOf g ≡ commandsOf f ++ commandsThere bs at m) × Stand (CommandOf g) bs at m
 
   no-more : (f : File) (at : ℕ) → length bs ≤ at → feed (loaded f) (from bs at) ≡ loaded g → More f at
-  unfolding commandsThere
+  unfolding commandsThere Stand
   no-more f at h e =
       let q : g ≡ f = cc (feed-end bs at f h) in
-      (0, rw q (omega arith), rw q (sym (append-nil (commandsOf f))))
+      (0, rw q (omega arith), rw q (sym (append-nil (commandsOf f))), h)
 
-  one-more : (f : File) (at : ℕ) → More (withCommand f commandSection (commandThere bs at)) (nextPlace bs at) → More f at
-  unfolding commandsThere withCommand
-  one-more f at w = (
-    suc (w .0),
-    (let e = w .1 in omega arith),
-    w .2
-        ∙ ap (λ (l : List Command). l ++ commandsThere bs (nextPlace bs at) (w .0)) (commands-more f (commandThere bs at))
-        ∙ append-assoc (commandsOf f) (commandThere bs at ∷ []) (commandsThere bs (nextPlace bs at) (w .0)),
-  )
+  one-more : (f : File) (at : ℕ) → at + 1 + bodyLength (kindThere bs at) ≤ length bs → sectionOf (kindThere bs at) ≡ commandSection
+      → More (withCommand f commandSection (commandThere bs at)) (nextPlace bs at) → More f at
+  unfolding commandsThere withCommand Stand
+  one-more f at l s w =
+      let rest = commandsThere bs (nextPlace bs at) (w .0) in
+      let q : commandsOf g ≡ commandsOf f ++ (commandThere bs at ∷ rest) =
+      w .2
+      ∙ ap (λ (l : List Command). l ++ rest) (commands-more f (commandThere bs at))
+      ∙ append-assoc (commandsOf f) (commandThere bs at ∷ []) rest
+      in (
+        suc (w .0),
+        (let e = w .1 in omega arith),
+        q,
+        (record { whole = record-at bs at l; isCommand = s; known = subst⁻¹ (λ (l : List Command). List·Memᴰ (commandThere bs at) l) q (in-middle (commandsOf f) rest (commandThere bs at)) }, w .3),
+      )
 
   more : (n : ℕ) (f : File) (at : ℕ) → length bs ≤ at + n → f .section ≡ commandSection → feed (loaded f) (from bs at) ≡ loaded g → More f at
   unfolding withCommand
@@ -175,24 +177,26 @@ module _ (bs : List ℕ) (g : File) where
           let l = ltb-true _ _ q in
           let o = in-order bs at l f g e in
           let m = section-most (kindThere bs at) in
-          one-more f at (again l (omega arith))
+          let s : sectionOf (kindThere bs at) ≡ commandSection = omega arith in
+          one-more f at (fits bs at l f g e) s (again l s)
 
   -- without commands before them they are all of them
-  alone : (f : File) (at : ℕ) → f .commands ≡ [] → More f at → commandsOf g ≡ commandsThere bs at (length (g .commands))
+  alone : (f : File) (at : ℕ) → f .commands ≡ [] → More f at → (commandsOf g ≡ commandsThere bs at (length (g .commands))) × Stand (CommandOf g) bs at (length (g .commands))
   unfolding commandsOf
   alone f at none w =
       let e : length (g .commands) ≡ w .0 = let l = w .1 in omega (arith, ap length none) in
-      w .2 ∙ rw (none, e) refl
+      (w .2 ∙ rw (none, e) refl, subst⁻¹ (Stand (CommandOf g) bs at) e (w .3))
 
   -- all the commands from the first one's place on
   abbrev All : ℕ → Type 0
-  All at = commandsOf g ≡ commandsThere bs (commandsFrom (length bs) bs at) (length (g .commands))
+  All at = (commandsOf g ≡ commandsThere bs (commandsFrom (length bs) bs at) (length (g .commands))) × Stand (CommandOf g) bs (commandsFrom (length bs) bs at) (length (g .commands))
 
   all-none : (f : File) (at : ℕ) → length bs ≤ at → f .commands ≡ [] → feed (loaded f) (from bs at) ≡ loaded g → All at
-  unfolding commandsOf commandsThere
+  unfolding commandsOf commandsThere Stand
   all-none f at h none e =
       let q : g ≡ f = cc (feed-end bs at f h) in
-      rw (q, none) refl
+      let z : length (g .commands) ≡ 0 = ap (λ (x : File). length (x .commands)) q ∙ ap length none in
+      (rw (q, none) refl, subst⁻¹ (Stand (CommandOf g) bs (commandsFrom (length bs) bs at)) z (omega (arith, commands-end bs at h)))
 
   all-from : (n : ℕ) (f : File) (at : ℕ) → length bs ≤ at + n → f .commands ≡ [] → feed (loaded f) (from bs at) ≡ loaded g → All at
   unfolding withCommand
@@ -210,16 +214,16 @@ module _ (bs : List ℕ) (g : File) where
           let s = eqb-true (sectionOf (kindThere bs at)) commandSection t in
           let i = next-later bs at in
           rw (commands-here bs at l s)
-          (alone f at none (one-more f at (more n (withCommand f commandSection (commandThere bs at)) (nextPlace bs at) (omega arith) refl (left-command bs at l f g e s))))
+          (alone f at none (one-more f at (fits bs at l f g e) s (more n (withCommand f commandSection (commandThere bs at)) (nextPlace bs at) (omega arith) refl (left-command bs at l f g e s))))
       go true false q t again =
           let l = ltb-true at (length bs) q in
           let s = eqb-false (sectionOf (kindThere bs at)) commandSection t in
           rw (commands-later bs at l s)
           (again (enter-other f at (kindThere bs at) (bodyAt bs at) (known bs at l f g e) s ∙ none) (left bs at l f g e))
 
-pub commands-there : (bytes : List ℕ) (f : File) → load bytes ≡ loaded f → commandsOf f ≡ commandsThere bytes (commandsFrom (length bytes) bytes 0) (length (f .commands))
+all-commands : (bytes : List ℕ) (f : File) → load bytes ≡ loaded f → All bytes f 0
 unfolding emptyFile load
-commands-there bytes f e = all-from bytes f (length bytes) emptyFile 0 (omega arith) refl (sym (load-from bytes short) ∙ e)
+all-commands bytes f e = all-from bytes f (length bytes) emptyFile 0 (omega arith) refl (sym (load-from bytes short) ∙ e)
   where
     go : (b : Bool) → leb (length bytes) fileLimit ≡ b → length bytes ≤ fileLimit
     go true q = leb-true (length bytes) fileLimit q
@@ -230,3 +234,10 @@ commands-there bytes f e = all-from bytes f (length bytes) emptyFile 0 (omega ar
 
     short : length bytes ≤ fileLimit
     short = go (leb (length bytes) fileLimit) refl
+
+module _ (bytes : List ℕ) (f : File) (e : load bytes ≡ loaded f) where
+  pub commands-there : commandsOf f ≡ commandsThere bytes (commandsFrom (length bytes) bytes 0) (length (f .commands))
+  commands-there = all-commands bytes f e .0
+
+  pub commands-stand : Stand (CommandOf f) bytes (commandsFrom (length bytes) bytes 0) (length (f .commands))
+  commands-stand = all-commands bytes f e .1

@@ -15,10 +15,13 @@ abbrev pub values : {A : Type 0} → (ℕ → A) → ℕ → ℕ → List A
 values f m zero = []
 values f m (suc n) = f m ∷ values f (suc m) n
 
-pub value-at : {A : Type 0} (f : ℕ → A) (m n i : ℕ) (d : A) → i < n → getD (values f m n) i d ≡ f (m + i)
+value-at : {A : Type 0} (f : ℕ → A) (m n i : ℕ) (d : A) → i < n → getD (values f m n) i d ≡ f (m + i)
 value-at f m zero i d h = absurd (omega arith)
 value-at f m (suc n) zero d h = ap f (omega arith)
 value-at f m (suc n) (suc i) d h = value-at f (suc m) n i d (omega arith) ∙ ap f (omega arith)
+
+pub value-below : {A : Type 0} (f : ℕ → A) (n k : ℕ) (d : A) → k < n → getD (values f 0 n) k d ≡ f k
+value-below f n k d h = value-at f 0 n k d h ∙ ap f (omega arith)
 
 value-of : {A : Type 0} (f : ℕ → A) (m n k : ℕ) (d : A) → m ≤ k → k < m + n → getD (values f m n) (k - m) d ≡ f k
 value-of f m n k d l h = value-at f m n (k - m) d (omega arith) ∙ ap f (omega arith)

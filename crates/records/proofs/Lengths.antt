@@ -1,14 +1,19 @@
 -- The lengths of bodies and the numbers of their fields.
-use mathlib.Core.Path.{_≡_, refl, ap, _∙_}
+use mathlib.Core.Path.{_≡_, refl}
 use mathlib.Core.Bool.{Bool, true, false, cond}
 use Prim.Native.Nat.{ℕ, zero, suc, _+_, _<_, _≤_}
 use native.Mathlib.Omega.{arith}
 use lib.Dec.{eqb, leb, ltb}
-use lib.ListN.{length, getD}
+use lib.ListN.{length}
 use borrow.Author.Tests.{leb-true, ltb-true, lt-ltb, eq-eqb}
-use Rattle.rules.specs.Record.{sectionOf, fieldsOf, termSection, bodyLength, width, widths}
+use Rattle.rules.specs.Record.{sectionOf, fieldsOf, termSection, commandSection, bodyLength, width, widths}
 use Rattle.rules.specs.Term.{pairKind}
-use Rattle.records.proofs.EachKind.{values, value-at, each-kind, each-number, section-past}
+use Rattle.records.proofs.EachKind.{values, each-kind, each-number, section-past}
+
+-- sections are at most that of commands
+pub section-most : (k : ℕ) → sectionOf k ≤ commandSection
+unfolding sectionOf fieldsOf
+section-most k = leb-true (sectionOf k) commandSection (each-kind (λ s fs. leb s commandSection) (λ s fs. true) refl k)
 
 pub fields-end : (k : ℕ) → widths (fieldsOf k) ≡ bodyLength k
 unfolding bodyLength
@@ -64,21 +69,14 @@ past-none k m (suc n) r h =
     let d : k ≡ m + n → ⊥ = r .1 in
     omega arith
 
--- the last kind of terms
+-- the last of a run of kinds
+pub last-kind : (k m n : ℕ) → NoneFrom k m n → m ≤ k → k ≤ m + n → k ≡ m + n
+last-kind k m n r l h = omega (arith, past-none k m n r l)
+
 pub last-term : (k : ℕ) → sectionOf k ≡ termSection → NoneFrom k 0x10 10 → k ≡ pairKind
-last-term k h r =
-    let t = term-kinds k h in
-    let l : pairKind ≤ k = past-none k 0x10 10 r (t .0) in
-    omega (arith, t .1)
+last-term k h r = last-kind k 0x10 10 r (term-kinds k h .0) (term-kinds k h .1)
 
 -- a kind of no section has no body
 pub no-section : (k : ℕ) → sectionOf k ≡ 0 → bodyLength k ≡ 0
 unfolding bodyLength fieldsOf widths
 no-section k e = rw e
-
--- the table of the lengths, of which the code's is a copy
-pub length-at : (k : ℕ) → k ≤ 0x40 → getD (values bodyLength 0 0x41) k 0 ≡ bodyLength k
-length-at k h = value-at bodyLength 0 0x41 k 0 (omega arith) ∙ ap bodyLength (omega arith)
-
-pub length-past : (k : ℕ) → 0x40 < k → bodyLength k ≡ 0
-length-past k h = no-section k (section-past k h)

@@ -2,3 +2,4 @@ pub mod EachKind
 pub mod Lengths
 pub mod Packed
 pub mod Terms
+pub mod Keys

@@ -1,45 +1,55 @@
--- What packed fields of a kind give back: its fields and their number.
+-- What packed fields of a kind give back when they are taken from the low end; the table of them.
 use mathlib.Core.Path.{_≡_, refl, ap, sym, _∙_}
-use mathlib.Core.Bool.{cond}
-use mathlib.Core.List.{List, [], _∷_}
-use Prim.Native.Nat.{ℕ, _/_, _<_, _≤_}
+use mathlib.Core.Bool.{not}
+use mathlib.Core.List.{List}
+use Prim.Native.Nat.{ℕ, _+_, _/_, _<_, _≤_}
 use native.Mathlib.Omega.{arith}
 use lib.Dec.{eqb, ltb}
-use lib.ListN.{length, getD, List·getD-eq-default}
+use lib.ListN.{length, getD, drop}
+use borrow.Author.Tests.{ne-eqb, ltb-true, ltb-false}
 use Rattle.rules.specs.declared.Field.{Field}
 use Rattle.rules.specs.declared.Field.the-variants.{AnyTerm}
 use Rattle.rules.specs.Record.{sectionOf, fieldsOf}
-use Rattle.records.specs.Codes.{codeOf, packed, lowField}
-use Rattle.records.proofs.EachKind.{values, value-at, each-kind, fields-past}
-use Rattle.records.proofs.Lengths.{few-fields}
+use Rattle.records.specs.Codes.{codeOf, packed, lowField, FieldRows}
+use Rattle.records.proofs.EachKind.{values, value-below, agree, given, each-kind, fields-past}
 
-abbrev pub countIn : ℕ → ℕ
-countIn n = cond (eqb n 0) 0 (cond (ltb n 0x100) 1 (cond (ltb n 0x10000) 2 (cond (ltb n 0x1000000) 3 4)))
+-- what is computed at the first four places of each kind's fields holds there of every kind
+each-place : {A : Type 0} (f g : List Field → ℕ → A) → values (given (λ s fs. values (f fs) 0 4)) 0 0x41 ≡ values (given (λ s fs. values (g fs) 0 4)) 0 0x41 → (k i : ℕ) → i < 4 → f (fieldsOf k) i ≡ g (fieldsOf k) i
+each-place f g e k i h =
+    agree (f (fieldsOf k)) (g (fieldsOf k)) 0 4 (each-kind (λ s fs. values (f fs) 0 4) (λ s fs. values (g fs) 0 4) e k) i (omega arith) h
 
-abbrev pub fieldsIn : ℕ → List Field
-fieldsIn n = lowField n ∷ lowField (n / 0x100) ∷ lowField (n / 0x10000) ∷ lowField (n / 0x1000000) ∷ []
+some-left : (k i : ℕ) → i < 4 → ltb i (length (fieldsOf k)) ≡ not (eqb (packed (drop i (fieldsOf k))) 0)
+unfolding sectionOf fieldsOf packed codeOf
+some-left = each-place (λ fs i. ltb i (length fs)) (λ fs i. not (eqb (packed (drop i fs)) 0)) refl
 
-abbrev pub firstFour : List Field → List Field
-firstFour fs = getD fs 0 AnyTerm ∷ getD fs 1 AnyTerm ∷ getD fs 2 AnyTerm ∷ getD fs 3 AnyTerm ∷ []
+low-left : (k i : ℕ) → i < 4 → lowField (packed (drop i (fieldsOf k))) ≡ getD (fieldsOf k) i AnyTerm
+unfolding sectionOf fieldsOf packed codeOf lowField
+low-left = each-place (λ fs i. lowField (packed (drop i fs))) (λ fs i. getD fs i AnyTerm) refl
 
-module _ (k n : ℕ) (e : n ≡ packed (fieldsOf k)) where
-  pub count-law : countIn n ≡ length (fieldsOf k)
-  unfolding sectionOf fieldsOf packed codeOf
-  count-law = ap countIn e ∙ each-kind (λ s fs. countIn (packed fs)) (λ s fs. length fs) refl k
+next-left : (k i : ℕ) → i < 4 → packed (drop i (fieldsOf k)) / 256 ≡ packed (drop (i + 1) (fieldsOf k))
+unfolding sectionOf fieldsOf packed codeOf
+next-left = each-place (λ fs i. packed (drop i fs) / 256) (λ fs i. packed (drop (i + 1) fs)) refl
 
-  pub fields-law : fieldsIn n ≡ firstFour (fieldsOf k)
-  unfolding sectionOf fieldsOf packed codeOf lowField
-  fields-law = ap fieldsIn e ∙ each-kind (λ s fs. fieldsIn (packed fs)) (λ s fs. firstFour fs) refl k
+-- i fields are taken, and what is left is the packed rest
+module _ (k i fields : ℕ) (e : fields ≡ packed (drop i (fieldsOf k))) (h : i < 4) where
+  pub field-left : (fields ≡ 0 → ⊥) → (i < length (fieldsOf k)) × (lowField fields ≡ getD (fieldsOf k) i AnyTerm)
+  field-left n =
+      (ltb-true i (length (fieldsOf k)) (some-left k i h ∙ ap (λ m. not (eqb m 0)) (sym e) ∙ ap not (ne-eqb fields 0 n)), ap lowField e ∙ low-left k i h)
 
-pub no-field : (k i : ℕ) → 4 ≤ i → AnyTerm ≡ getD (fieldsOf k) i AnyTerm
-no-field k i h = sym (List·getD-eq-default (fieldsOf k) AnyTerm (omega (arith, few-fields k)))
+  pub field-next : fields / 256 ≡ packed (drop (i + 1) (fieldsOf k))
+  field-next = ap (λ m. m / 256) e ∙ next-left k i h
+
+  pub none-left : fields ≡ 0 → length (fieldsOf k) ≤ i
+  none-left z = ltb-false i (length (fieldsOf k)) (some-left k i h ∙ ap (λ m. not (eqb m 0)) (sym e ∙ z))
 
 -- the table of the packed fields, of which the code's is a copy
-abbrev pub table : List ℕ
-table = values (λ k. packed (fieldsOf k)) 0 0x41
+unfoldable pub fieldTable : List ℕ
+unfolding sectionOf fieldsOf packed codeOf
+fieldTable = values (λ k. packed (fieldsOf k)) 0 0x41
 
-pub packed-at : (k : ℕ) → k ≤ 0x40 → getD table k 0 ≡ packed (fieldsOf k)
-packed-at k h = value-at (λ k. packed (fieldsOf k)) 0 0x41 k 0 (omega arith) ∙ ap (λ k. packed (fieldsOf k)) (omega arith)
+pub field-rows : FieldRows fieldTable
+unfolding fieldTable
+field-rows k h = value-below (λ k. packed (fieldsOf k)) 0x41 k 0 (omega arith)
 
 pub packed-past : (k : ℕ) → 0x40 < k → 0 ≡ packed (fieldsOf k)
 unfolding packed

@@ -1,10 +1,13 @@
 -- Fields as numbers: a field of one kind of term is that kind, another a number below 8; 0 is no field. A list of fields is packed a byte each, the first in the lowest.
+use mathlib.Core.Path.{_≡_}
 use mathlib.Core.Bool.{cond}
 use mathlib.Core.List.{List, [], _∷_}
-use Prim.Native.Nat.{ℕ, _+_, _*_, _%_}
+use Prim.Native.Nat.{ℕ, _+_, _*_, _%_, _≤_}
 use lib.Dec.{eqb}
+use lib.ListN.{getD}
 use Rattle.rules.specs.declared.Field.{Field}
 use Rattle.rules.specs.declared.Field.the-variants.{RoleField, IdentifierField, AttributesField, SubjectField, PartyField, AnyTerm, TermOf, SignedAttest}
+use Rattle.rules.specs.Record.{fieldsOf}
 
 unfoldable pub codeOf : Field → ℕ
 codeOf RoleField = 1
@@ -32,3 +35,7 @@ lowField n =
     (cond (eqb (n % 256) 6) AnyTerm
     (cond (eqb (n % 256) 7) SignedAttest
     (TermOf (n % 256)))))))))
+
+-- a table of the packed fields of each kind from 00 to 40
+abbrev pub FieldRows : List ℕ → Type 0
+FieldRows table = (k : ℕ) → k ≤ 0x40 → getD table k 0 ≡ packed (fieldsOf k)

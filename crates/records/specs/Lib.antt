@@ -1,3 +1,3 @@
 pub mod Codes
 pub mod Parts
-pub mod Words
+pub mod Keys

@@ -1,24 +1,25 @@
--- The terms of records.
---     certificate-there    a certificate stands at a record of its kind
---     ready                each term that is there can be learnt
+-- The terms that are there.
+--     stands              the record of each stands whole at its place
+--     certificate-ends    where that of a certificate ends
+--     ready               each can be learnt
 -- Assumes nothing.
-use mathlib.Core.Path.{_≡_, refl}
+use mathlib.Core.Path.{_≡_, subst⁻¹}
 use mathlib.Core.List.{List}
-use Prim.Native.Nat.{ℕ, _<_}
+use Prim.Native.Nat.{ℕ, _+_, _<_, _≤_}
 use native.Mathlib.Omega.{arith}
+use lib.ListN.{length}
 use Rattle.rules.specs.Limits.{partyLimit}
-use Rattle.rules.specs.Term.{kindOf, certificateKind}
-use Rattle.rules.specs.Load.{termAt}
-use Rattle.learning.specs.There.{kindThere, termThere, Ready}
+use Rattle.rules.specs.Term.{certificateKind}
+use Rattle.state.specs.View.{view}
+use Rattle.learning.specs.There.{kindThere, TermRecord, Ready}
+use Rattle.learning.proofs.Words.{inside}
 use Rattle.checks.specs.There.{TermsThere}
 
-certificate-at : (k : ℕ) (b : List ℕ) → k ≡ certificateKind → kindOf (termAt k b) ≡ certificateKind
-unfolding termAt kindOf
-certificate-at k b e = rw e refl
+pub stands : {bs s : List ℕ} {n t at : ℕ} → TermsThere bs s n → t < n → at ≡ view s .place t → TermRecord bs at
+stands {bs} {t = t} there h e = subst⁻¹ (TermRecord bs) e (there .whole t h)
 
-pub certificate-there : (bs : List ℕ) (at : ℕ) → kindThere bs at ≡ certificateKind → kindOf (termThere bs at) ≡ certificateKind
-unfolding termThere
-certificate-there bs at e = certificate-at (kindThere bs at) _ e
+pub certificate-ends : {bs s : List ℕ} {n t at : ℕ} → TermsThere bs s n → t < n → at ≡ view s .place t → kindThere bs at ≡ certificateKind → at + 8 ≤ length bs
+certificate-ends there h e k = omega (arith, inside _ _ certificateKind k (stands there h e))
 
 pub ready : {bs s : List ℕ} {n p t : ℕ} → TermsThere bs s n → p < partyLimit → t < n → Ready bs s p t
 ready there h l = record {

@@ -1,6 +1,6 @@
 // Set-up records 20 to 22: refusals 10 to 12, and what an allowed record leaves.
+use learning::attributes_at;
 use learning::learn_term;
-use learning::term_of;
 use rules::Attributes;
 ghost use mathlib.Core.Path.{_≡_};
 ghost use mathlib.Core.Bool.{cond};
@@ -45,7 +45,8 @@ pub fn may_learn(
     requires { ⌜ TermsThere (now file) (now state) terms × (t < terms) × (parties ≤ partyLimit) × (2 * parties ≤ length (now file)) ⌝ }
     ensures { λ r. ⌜ r ≡ mayLearnThere (now (file .entry)) (view (now (state .entry)) .place) (now (signers .entry)) parties t ⌝ }
 {
-    let kind = checks::kind_there(file, state, t);
+    let at = state::place_of(state, t);
+    let kind = file[at];
     if kind == 0x10 {
         return true;
     }
@@ -55,13 +56,11 @@ pub fn may_learn(
     if kind != 0x19 {
         return false;
     }
-    let term = term_of(file, state, t);
-    let subject = records::subject_of(term);
-    if records::is_tpm(subject) {
-        let signer = records::signer_of(term);
-        return signs_for_role(file, signers, rules::TPM_MAKER, signer, parties);
+    if file[at + 3] != 0 {
+        return false;
     }
-    false
+    let signer = records::word_at(file, at + 6);
+    signs_for_role(file, signers, rules::TPM_MAKER, signer, parties)
 }
 
 // Whether a 21 may give a private key to a party's TPM: a FixedTPM key is held by one TPM only.
@@ -69,8 +68,8 @@ pub fn may_hold(file: &[u8], state: &[u8], party: usize, key: usize, terms: usiz
     requires { ⌜ TermsThere (now file) (now state) terms × (key < terms) × (party < partyLimit) ⌝ }
     ensures { λ r. ⌜ r ≡ mayHoldThere (now (file .entry)) (view (now (state .entry))) party key ⌝ }
 {
-    let term = term_of(file, state, key);
-    let attributes = records::attributes_of(term);
+    let at = state::place_of(state, key);
+    let attributes = attributes_at(file, at);
     if records::has(attributes, Attributes::FIXED_TPM) {
         if state::in_other_table(state, party, key) {
             return false;
@@ -98,8 +97,8 @@ pub fn may_sign(
     if signers[party] != NO_KEY {
         return false;
     }
-    let term = term_of(file, state, key);
-    let attributes = records::attributes_of(term);
+    let at = state::place_of(state, key);
+    let attributes = attributes_at(file, at);
     if attributes.same(Attributes::desk_key()) {
         return state::in_table(state, party, key);
     }
@@ -126,6 +125,9 @@ pub fn enter_setup(
     let t = key as usize;
     if kind == 0x20 {
         if may_learn(file, state, signers, parties, t, terms) {
+            if state::knows(state, party, t) {
+                return 0;
+            }
             learn_term(file, state, party, t);
             return 0;
         }

@@ -1,9 +1,8 @@
 -- What a store to a byte of the state does to its columns.
---     view-known, view-table, view-place     a store to the byte or bytes of a column is one to the column
---     other-found, other-own, other-next     another party's table has the term, or none of the parties passed
---     cleared                                one more zero byte
+--     view-known, -table, -mark, -desk, -request, -place     a store to the byte or bytes of a column is one to the column
+--     cleared                                                one more zero byte
 -- Assumes nothing.
-use mathlib.Core.Bool.{Bool, true, false, cond, not, _&&_, _||_}
+use mathlib.Core.Bool.{Bool, true, false, cond, _&&_, _||_}
 use mathlib.Core.Path.{_≡_, refl, ap, ap₂, sym, _∙_}
 use mathlib.Core.List.{List, _∷_, _++_}
 use Prim.Native.Nat.{ℕ, zero, suc, _+_, _*_, _/_, _%_, _^_, _<_}
@@ -13,11 +12,11 @@ use lib.ListN.{length, getD, set, drop, replicate, length-replicate, length-set}
 use lib.Seq.{getD-set-same, getD-set-other, drop-cons, set-at}
 use lib.Bits.{bitOr}
 use lib.Dec.{eqb}
-use borrow.Author.Tests.{eqb-true, eqb-false, eq-eqb, ne-eqb}
+use borrow.Author.Tests.{eqb-true, eqb-false}
 use Rattle.rules.specs.Record.{word}
 use Rattle.rules.specs.Learning.{Knowledge, grant}
 use Rattle.rules.specs.State.{put}
-use Rattle.state.specs.View.{view, withKnows, withTable, withPlace, bit, inOther}
+use Rattle.state.specs.View.{view, withKnows, withTable, withMark, withDesk, withRequest, withPlace, wordPut, bit}
 use Rattle.state.proofs.Bits.{bit-same, bit-other}
 
 -- the knowledge that bit p of the bytes at an offset holds
@@ -55,6 +54,15 @@ word-kept : (s : List ℕ) (a x i : ℕ) → (i ≡ a → ⊥) → (i + 1 ≡ a 
 unfolding word
 word-kept s a x i n m = ap₂ (λ (h l : ℕ). h * 256 + l) (getD-set-other s a i x 0 n) (getD-set-other s a (i + 1) x 0 m)
 
+-- a store to the byte of term t at an offset, in that column of bytes
+byte-put : (s : List ℕ) (o t x : ℕ) → 8 * t + o < length s → (u : ℕ) → getD (set s (8 * t + o) x) (8 * u + o) 0 ≡ put (λ v. getD s (8 * v + o) 0) t x u
+unfolding put
+byte-put s o t x h u = go (eqb u t) refl
+  where
+    go : (d : Bool) → eqb u t ≡ d → getD (set s (8 * t + o) x) (8 * u + o) 0 ≡ cond d x (getD s (8 * u + o) 0)
+    go true e = rw (eqb-true u t e) (getD-set-same s (8 * t + o) x 0 h)
+    go false e = let n = eqb-false u t e in getD-set-other s (8 * t + o) (8 * u + o) x 0 (λ q. n (omega arith))
+
 pub view-known : (s : List ℕ) (p t : ℕ) → 8 * t + 0 < length s → view (marked s 0 p t) ≡ withKnows (view s) (grant (view s .knows) p t)
 view-known s p t h = let x = bitOr (getD s (8 * t + 0) 0) (2 ^ p) in λ i. record {
   knows = λ q u. granted s 0 p t h q u i;
@@ -75,72 +83,72 @@ view-table s p t h = let x = bitOr (getD s (8 * t + 1) 0) (2 ^ p) in λ i. recor
   place = λ u. word-kept s (8 * t + 1) x (8 * u + 6) (omega arith) (omega arith) i;
 }
 
--- the bytes with two of them replaced, from a place on
-abbrev paired : List ℕ → ℕ → ℕ → ℕ → List ℕ
-paired s a h l = set (set s a h) (a + 1) l
-
-byte-kept : (s : List ℕ) (a h l j : ℕ) → (j ≡ a → ⊥) → (j ≡ a + 1 → ⊥) → getD (paired s a h l) j 0 ≡ getD s j 0
-byte-kept s a h l j n m = getD-set-other (set s a h) (a + 1) j l 0 m ∙ getD-set-other s a j h 0 n
-
-pair-kept : (s : List ℕ) (a h l j : ℕ) → (j ≡ a → ⊥) → (j ≡ a + 1 → ⊥) → (j + 1 ≡ a → ⊥) → (j + 1 ≡ a + 1 → ⊥) → word (paired s a h l) j ≡ word s j
-pair-kept s a h l j n m n′ m′ = word-kept (set s a h) (a + 1) l j m m′ ∙ word-kept s a h j n n′
-
-pair-same : (s : List ℕ) (a x : ℕ) → x < 65536 → a + 1 < length s → word (paired s a (x / 256 % 256) (x % 256)) a ≡ x
-unfolding word
-pair-same s a x b r =
-    let h : getD (paired s a (x / 256 % 256) (x % 256)) a 0 ≡ x / 256 % 256 = getD-set-other (set s a (x / 256 % 256)) (a + 1) a (x % 256) 0 (omega arith) ∙ getD-set-same s a (x / 256 % 256) 0 (omega arith) in
-    let l : getD (paired s a (x / 256 % 256) (x % 256)) (a + 1) 0 ≡ x % 256 = getD-set-same (set s a (x / 256 % 256)) (a + 1) (x % 256) 0 (rw length-set r) in
-    let e : x / 256 % 256 * 256 + x % 256 ≡ x = omega arith in
-    ap₂ (λ (m n : ℕ). m * 256 + n) h l ∙ e
-
-placed : (s : List ℕ) (t x : ℕ) → x < 65536 → 8 * t + 6 + 1 < length s → (u : ℕ) → word (paired s (8 * t + 6) (x / 256 % 256) (x % 256)) (8 * u + 6) ≡ put (λ v. word s (8 * v + 6)) t x u
-unfolding put
-placed s t x b r u = go (eqb u t) refl
-  where
-    go : (d : Bool) → eqb u t ≡ d → word (paired s (8 * t + 6) (x / 256 % 256) (x % 256)) (8 * u + 6) ≡ cond d x (word s (8 * u + 6))
-    go true e = rw (eqb-true u t e) (pair-same s (8 * t + 6) x b r)
-    go false e =
-        let n = eqb-false u t e in
-        pair-kept s (8 * t + 6) (x / 256 % 256) (x % 256) (8 * u + 6) (λ q. n (omega arith)) (omega arith) (omega arith) (λ q. n (omega arith))
-
-pub view-place : (s : List ℕ) (t x : ℕ) → x < 65536 → 8 * t + 6 + 1 < length s → view (paired s (8 * t + 6) (x / 256 % 256) (x % 256)) ≡ withPlace (view s) (put (view s .place) t x)
-view-place s t x b r = let h = x / 256 % 256 in let l = x % 256 in λ i. record {
-  knows = λ q u. eqb (bit (byte-kept s (8 * t + 6) h l (8 * u + 0) (omega arith) (omega arith) i) q) 1;
-  table = λ q u. eqb (bit (byte-kept s (8 * t + 6) h l (8 * u + 1) (omega arith) (omega arith) i) q) 1;
-  mark = λ u. byte-kept s (8 * t + 6) h l (8 * u + 2) (omega arith) (omega arith) i;
-  desk = λ u. byte-kept s (8 * t + 6) h l (8 * u + 3) (omega arith) (omega arith) i;
-  request = λ u. pair-kept s (8 * t + 6) h l (8 * u + 4) (omega arith) (omega arith) (omega arith) (omega arith) i;
-  place = λ u. placed s t x b r u i;
+pub view-mark : (s : List ℕ) (t x : ℕ) → 8 * t + 2 < length s → view (set s (8 * t + 2) x) ≡ withMark (view s) (put (view s .mark) t x)
+view-mark s t x h = λ i. record {
+  knows = λ q u. eqb (bit (getD-set-other s (8 * t + 2) (8 * u + 0) x 0 (omega arith) i) q) 1;
+  table = λ q u. eqb (bit (getD-set-other s (8 * t + 2) (8 * u + 1) x 0 (omega arith) i) q) 1;
+  mark = λ u. byte-put s 2 t x h u i;
+  desk = λ u. getD-set-other s (8 * t + 2) (8 * u + 3) x 0 (omega arith) i;
+  request = λ u. word-kept s (8 * t + 2) x (8 * u + 4) (omega arith) (omega arith) i;
+  place = λ u. word-kept s (8 * t + 2) x (8 * u + 6) (omega arith) (omega arith) i;
 }
 
--- another party's table
-or-true : (b : Bool) → b || true ≡ true
-or-true true = refl
-or-true false = refl
+pub view-desk : (s : List ℕ) (t x : ℕ) → 8 * t + 3 < length s → view (set s (8 * t + 3) x) ≡ withDesk (view s) (put (view s .desk) t x)
+view-desk s t x h = λ i. record {
+  knows = λ q u. eqb (bit (getD-set-other s (8 * t + 3) (8 * u + 0) x 0 (omega arith) i) q) 1;
+  table = λ q u. eqb (bit (getD-set-other s (8 * t + 3) (8 * u + 1) x 0 (omega arith) i) q) 1;
+  mark = λ u. getD-set-other s (8 * t + 3) (8 * u + 2) x 0 (omega arith) i;
+  desk = λ u. byte-put s 3 t x h u i;
+  request = λ u. word-kept s (8 * t + 3) x (8 * u + 4) (omega arith) (omega arith) i;
+  place = λ u. word-kept s (8 * t + 3) x (8 * u + 6) (omega arith) (omega arith) i;
+}
 
-pub other-found : (T : Knowledge) (p t q n : ℕ) → q < n → (q ≡ p → ⊥) → T q t ≡ true → inOther T p t n ≡ true
-unfolding inOther
-other-found T p t q zero h d e = absurd (omega arith)
-other-found T p t q (suc n) h d e = go (λ l. other-found T p t q n l d e) (eqb q n) refl
+-- a number in two bytes, from a place on
+module _ (s : List ℕ) (a x : ℕ) where
+  byte-kept : (j : ℕ) → (j ≡ a → ⊥) → (j ≡ a + 1 → ⊥) → getD (wordPut s a x) j 0 ≡ getD s j 0
+  byte-kept j n m = getD-set-other (set s a (x / 256 % 256)) (a + 1) j (x % 256) 0 m ∙ getD-set-other s a j (x / 256 % 256) 0 n
+
+  pair-kept : (j : ℕ) → (j ≡ a → ⊥) → (j ≡ a + 1 → ⊥) → (j + 1 ≡ a → ⊥) → word (wordPut s a x) j ≡ word s j
+  pair-kept j n m n′ = word-kept (set s a (x / 256 % 256)) (a + 1) (x % 256) j m (λ e. n (omega arith)) ∙ word-kept s a (x / 256 % 256) j n n′
+
+  pair-same : x < 65536 → a + 1 < length s → word (wordPut s a x) a ≡ x
+  unfolding word
+  pair-same b r =
+      let h : getD (wordPut s a x) a 0 ≡ x / 256 % 256 = getD-set-other (set s a (x / 256 % 256)) (a + 1) a (x % 256) 0 (omega arith) ∙ getD-set-same s a (x / 256 % 256) 0 (omega arith) in
+      let l : getD (wordPut s a x) (a + 1) 0 ≡ x % 256 = getD-set-same (set s a (x / 256 % 256)) (a + 1) (x % 256) 0 (rw length-set r) in
+      let e : x / 256 % 256 * 256 + x % 256 ≡ x = omega arith in
+      ap₂ (λ (m n : ℕ). m * 256 + n) h l ∙ e
+
+-- the same for term t at an offset, in that column of words
+word-put : (s : List ℕ) (o t x : ℕ) → x < 65536 → 8 * t + o + 1 < length s → (u : ℕ) → word (wordPut s (8 * t + o) x) (8 * u + o) ≡ put (λ v. word s (8 * v + o)) t x u
+unfolding put
+word-put s o t x b r u = go (eqb u t) refl
   where
-    go : (q < n → inOther T p t n ≡ true) → (b : Bool) → eqb q n ≡ b → inOther T p t (suc n) ≡ true
-    go more true f = rw (← eqb-true q n f, ne-eqb q p d, e) refl
-    go more false f =
-        let m = eqb-false q n f in
-        let l : q < n = omega arith in
-        rw (more l) (or-true (not (eqb n p) && T n t))
+    go : (d : Bool) → eqb u t ≡ d → word (wordPut s (8 * t + o) x) (8 * u + o) ≡ cond d x (word s (8 * u + o))
+    go true e = rw (eqb-true u t e) (pair-same s (8 * t + o) x b r)
+    go false e =
+        let n = eqb-false u t e in
+        pair-kept s (8 * t + o) x (8 * u + o) (λ q. n (omega arith)) (omega arith) (omega arith)
 
-pub other-own : (T : Knowledge) (p t : ℕ) → inOther T p t p ≡ false → inOther T p t (p + 1) ≡ false
-unfolding inOther
-other-own T p t e = rw (add-one, eq-eqb p p refl, e) refl
+pub view-request : (s : List ℕ) (t x : ℕ) → x < 65536 → 8 * t + 4 + 1 < length s → view (wordPut s (8 * t + 4) x) ≡ withRequest (view s) (put (view s .request) t x)
+view-request s t x b r = λ i. record {
+  knows = λ q u. eqb (bit (byte-kept s (8 * t + 4) x (8 * u + 0) (omega arith) (omega arith) i) q) 1;
+  table = λ q u. eqb (bit (byte-kept s (8 * t + 4) x (8 * u + 1) (omega arith) (omega arith) i) q) 1;
+  mark = λ u. byte-kept s (8 * t + 4) x (8 * u + 2) (omega arith) (omega arith) i;
+  desk = λ u. byte-kept s (8 * t + 4) x (8 * u + 3) (omega arith) (omega arith) i;
+  request = λ u. word-put s 4 t x b r u i;
+  place = λ u. pair-kept s (8 * t + 4) x (8 * u + 6) (omega arith) (omega arith) (omega arith) i;
+}
 
-pub other-next : (T : Knowledge) (p t q : ℕ) → T q t ≡ false → inOther T p t q ≡ false → inOther T p t (q + 1) ≡ false
-unfolding inOther
-other-next T p t q f e = rw (add-one, f, e) (and-false (not (eqb q p)))
-  where
-    and-false : (b : Bool) → (b && false) || false ≡ false
-    and-false true = refl
-    and-false false = refl
+pub view-place : (s : List ℕ) (t x : ℕ) → x < 65536 → 8 * t + 6 + 1 < length s → view (wordPut s (8 * t + 6) x) ≡ withPlace (view s) (put (view s .place) t x)
+view-place s t x b r = λ i. record {
+  knows = λ q u. eqb (bit (byte-kept s (8 * t + 6) x (8 * u + 0) (omega arith) (omega arith) i) q) 1;
+  table = λ q u. eqb (bit (byte-kept s (8 * t + 6) x (8 * u + 1) (omega arith) (omega arith) i) q) 1;
+  mark = λ u. byte-kept s (8 * t + 6) x (8 * u + 2) (omega arith) (omega arith) i;
+  desk = λ u. byte-kept s (8 * t + 6) x (8 * u + 3) (omega arith) (omega arith) i;
+  request = λ u. pair-kept s (8 * t + 6) x (8 * u + 4) (omega arith) (omega arith) (omega arith) i;
+  place = λ u. word-put s 6 t x b r u i;
+}
 
 -- one more zero byte
 zero-more : (i : ℕ) (l : List ℕ) → replicate i 0 ++ 0 ∷ l ≡ replicate (suc i) 0 ++ l

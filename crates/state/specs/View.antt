@@ -3,7 +3,7 @@ use mathlib.Core.Bool.{Bool, false, not, _&&_, _||_}
 use mathlib.Core.List.{List}
 use Prim.Native.Nat.{ℕ, zero, suc, _+_, _*_, _/_, _%_, _^_}
 use lib.Dec.{eqb}
-use lib.ListN.{getD}
+use lib.ListN.{getD, set}
 use Rattle.rules.specs.Limits.{rowWidth}
 use Rattle.rules.specs.Record.{word}
 use Rattle.rules.specs.Learning.{Knowledge}
@@ -57,6 +57,15 @@ withKnows v k = record { knows = k; table = v .table; mark = v .mark; desk = v .
 abbrev pub withTable : Columns → Knowledge → Columns
 withTable v k = record { knows = v .knows; table = k; mark = v .mark; desk = v .desk; request = v .request; place = v .place }
 
+abbrev pub withMark : Columns → (ℕ → ℕ) → Columns
+withMark v c = record { knows = v .knows; table = v .table; mark = c; desk = v .desk; request = v .request; place = v .place }
+
+abbrev pub withDesk : Columns → (ℕ → ℕ) → Columns
+withDesk v c = record { knows = v .knows; table = v .table; mark = v .mark; desk = c; request = v .request; place = v .place }
+
+abbrev pub withRequest : Columns → (ℕ → ℕ) → Columns
+withRequest v c = record { knows = v .knows; table = v .table; mark = v .mark; desk = v .desk; request = c; place = v .place }
+
 abbrev pub withPlace : Columns → (ℕ → ℕ) → Columns
 withPlace v c = record { knows = v .knows; table = v .table; mark = v .mark; desk = v .desk; request = v .request; place = c }
 
@@ -64,3 +73,7 @@ withPlace v c = record { knows = v .knows; table = v .table; mark = v .mark; des
 unfoldable pub inOther : Knowledge → ℕ → ℕ → ℕ → Bool
 inOther table p t zero = false
 inOther table p t (suc q) = (not (eqb q p) && table q t) || inOther table p t q
+
+-- the bytes with a number in two of them, high byte first
+abbrev pub wordPut : List ℕ → ℕ → ℕ → List ℕ
+wordPut s a x = set (set s a (x / 256 % 256)) (a + 1) (x % 256)

@@ -124,7 +124,7 @@ unfolding sameList
 same-refl [] = refl
 same-refl (x ∷ xs) = rw (eq-eqb x x refl) (same-refl xs)
 
-alike-refl : (t : Term) → alike t t ≡ true
+pub alike-refl : (t : Term) → alike t t ≡ true
 unfolding alike
 alike-refl t = rw (eq-eqb (kindOf t) (kindOf t) refl) (same-refl (fieldsIn t))
 

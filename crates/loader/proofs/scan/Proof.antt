@@ -1,40 +1,60 @@
--- `loader::scan` meets its contract. The outer invariant: the file declared by the records before `at` is described, and feeding it the pieces from
--- `at` on is loading the file. The inner one: the fields so far are right, and the rest is what is left. Assumes nothing.
-use mathlib.Core.Path.{_≡_, refl, sym, ap, subst, subst⁻¹, _∙_}
+-- `loader::scan` meets its contract. The outer invariant: the file declared by the records before `at` is described, its terms are indexed, and feeding it
+-- the pieces from `at` on is loading the file. The inner one: the fields so far are right, and the rest is what is left. Assumes nothing.
+use mathlib.Core.Path.{_≡_, refl, sym, ap, subst⁻¹, _∙_}
+use mathlib.Core.Logic.{⊎-elim}
 use mathlib.Core.List.{List}
-use Prim.Native.Nat.{ℕ, _+_, _-_, _<_, _≤_}
+use Prim.Native.Nat.{ℕ, _+_, _-_, _≤_}
 use native.Mathlib.Omega.{arith}
 use borrow.Author.Needs.{needs}
-use lib.ListN.{length, getD, take, drop}
-use Rattle.rules.specs.declared.Field.{Field}
-use Rattle.rules.specs.declared.Field.the-variants.{AnyTerm}
-use Rattle.rules.specs.Record.{bodyLength, fieldsOf, width}
+use lib.ListN.{length, getD, drop}
+use Rattle.rules.specs.Record.{fieldsOf}
+use Rattle.rules.specs.Load.{termAt}
+use Rattle.records.specs.Codes.{packed}
+use Rattle.records.proofs.Lengths.{few-fields}
+use Rattle.records.proofs.Packed.{field-left, field-next, none-left}
 use Rattle.state.specs.View.{view}
-use Rattle.checks.specs.There.{headFault, fieldFaultThere}
+use Rattle.learning.specs.There.{termThere}
+use Rattle.index.specs.Indexed.{Indexed}
 use Rattle.theorems.proofs.Pieces.{bodyAt}
 use Rattle.loader.specs.declared.Tally.{Tally}
-use Rattle.loader.specs.Describes.{counted}
-use Rattle.loader.proofs.Scanning.{At, at-start, at-end, at-head, fits, Fields, fields-start, field-inside, fields-more, at-field, at-enter, at-last, at-next, InFields, body-same, field-ready, field-small, field-refused, field-passed, enter-asks, last-refused, record-taken, counts-small}
-use Rattle.records.proofs.Lengths.{few-fields}
+use Rattle.loader.specs.Describes.{counted, At}
+use Rattle.loader.proofs.Scanning.{head-is, at-start, at-end, at-head, fits, fields-start, InFields, body-same, field-ready, field-small, field-refused, field-passed, enter-asks, last-refused, record-taken, counts-small}
 use Rattle.loader.proofs.scan.Statement.{statement}
 use Rattle.loader.proofs.scan.Tie as tie
 use Rattle.loader.proofs.scan.Reads as reads
 use Rattle.loader.proofs.scan.Lts as lts
 
+-- the term of the record at a place is that of its body
+body-stands : (bs : List ℕ) (at : ℕ) (body : List ℕ) → body ≡ bodyAt bs at → termThere bs at ≡ termAt (getD bs at 0) body
+unfolding termThere bodyAt
+body-stands bs at body e = ap (termAt (getD bs at 0)) (sym e)
+
+-- the same count
+indexed-terms : {bs : List ℕ} {place : ℕ → ℕ} {links keys tables : List ℕ} {n m : ℕ} → m ≡ n → Indexed bs place links keys tables n → Indexed bs place links keys tables m
+indexed-terms {bs} {place} {links} {keys} {tables} e i = subst⁻¹ (Indexed bs place links keys tables) e i
+
+indexed-counted : {bs : List ℕ} {place : ℕ → ℕ} {links keys tables : List ℕ} {n m : Tally} → m ≡ n → Indexed bs place links keys tables (n .terms) → Indexed bs place links keys tables (m .terms)
+indexed-counted e i = indexed-terms (ap (λ (t : Tally). t .terms) e) i
+
 abbrev Inv-loop : tie.InvT-loop
-Inv-loop file state signers at n kind start section parties terms head end body fields i₀ offset₀ i offset = InFields file state signers n at body i offset
+Inv-loop file state signers links keys tables table at n kind start own section parties terms length head end body fields₀ i₀ offset₀ fields i offset =
+    InFields file state signers n at body i offset × (fields ≡ packed (drop i (fieldsOf (getD file at 0))))
 
 abbrev μ-loop : tie.MeasureT-loop
-μ-loop file state signers at n kind start section parties terms head end body fields i₀ offset₀ i offset = fields - i
+μ-loop file state signers links keys tables table at n kind start own section parties terms length head end body fields₀ i₀ offset₀ fields i offset = 4 - i
 
 abbrev Inv-records : tie.InvT-records
-Inv-records file state₀ signers₀ at₀ n₀ state signers at n = (length state ≡ length state₀) × At file state signers n at
+Inv-records file state₀ signers₀ links₀ keys₀ tables₀ table at₀ n₀ state signers links keys tables at n =
+    (length state ≡ length state₀) × At file state signers n at × Indexed file (view state .place) links keys tables (n .terms)
 
 abbrev μ-records : tie.MeasureT-records
-μ-records file state₀ signers₀ at₀ n₀ state signers at n = length file - at
+μ-records file state₀ signers₀ links₀ keys₀ tables₀ table at₀ n₀ state signers links keys tables at n = length file - at
+
+field-table-requires : tie.Need-field-table-requires Inv-loop μ-loop Inv-records μ-records
+field-table-requires c κs = search needs
 
 records-holds : tie.Need-records-holds Inv-loop μ-loop Inv-records μ-records
-records-holds c = (refl, at-start _ _ _ (c .before .before .pre))
+records-holds c = (refl, at-start _ _ _ (c .before .before .before .pre .0), c .before .before .before .pre .1)
 
 shared-slice-read-kind : tie.Need-shared-slice-read-kind Inv-loop μ-loop Inv-records μ-records
 shared-slice-read-kind c = search needs
@@ -42,20 +62,27 @@ shared-slice-read-kind c = search needs
 add-start : tie.Need-add-start Inv-loop μ-loop Inv-records μ-records
 add-start c = omega arith
 
+section-of-requires : tie.Need-section-of-requires Inv-loop μ-loop Inv-records μ-records
+section-of-requires c κs = search needs
+
+scan-commands-requires : tie.Need-scan-commands-requires Inv-loop μ-loop Inv-records μ-records
+scan-commands-requires c κs =
+    let i = c .before .before .before .before .before .before .records .inv in
+    record { rows = c .before .before .before .before .before .before .before .field-table .ensures; signers = _; here = i .1; more = c .before .before .before .before .before .if1 .left; command = sym (c .before .before .before .section-of .ensures) ∙ c .before .before .if2 .taken }
+
+body-length-requires : tie.Need-body-length-requires Inv-loop μ-loop Inv-records μ-records
+body-length-requires c κs = search needs
+
 sub-head-fault : tie.Need-sub-head-fault Inv-loop μ-loop Inv-records μ-records
 sub-head-fault c = omega arith
 
 head-fault-requires : tie.Need-head-fault-requires Inv-loop μ-loop Inv-records μ-records
 head-fault-requires c κs = search needs
 
-body-length-requires : tie.Need-body-length-requires Inv-loop μ-loop Inv-records μ-records
-body-length-requires c κs = search needs
-
 add-end : tie.Need-add-end Inv-loop μ-loop Inv-records μ-records
 add-end c =
-    let a = c .before .before .before .before .before .records .inv .1 in
-    let l = c .before .before .before .before .if1 .left in
-    omega (arith, a .short, fits _ _ _ _ _ a l (sym (c .before .before .head-fault .ensures) ∙ c .before .if2 .left), c .body-length .ensures)
+    let a = c .before .before .before .before .before .before .before .records .inv .1 in
+    omega (arith, a .short, fits _ _ _ _ _ a (c .before .before .before .before .before .before .if1 .left) (sym (head-is _ _ _ _ _ (c .before .before .before .before .section-of .ensures) (c .before .before .body-length .ensures) (c .before .head-fault .ensures)) ∙ c .if3 .left), c .before .before .body-length .ensures)
 
 sub-body : tie.Need-sub-body Inv-loop μ-loop Inv-records μ-records
 sub-body c = omega arith
@@ -65,94 +92,107 @@ part-body-start c = search needs
 
 part-body-end : tie.Need-part-body-end Inv-loop μ-loop Inv-records μ-records
 part-body-end c =
-    let a = c .before .before .before .before .before .records .inv .1 in
-    let l = c .before .before .before .before .if1 .left in
-    omega (arith, fits _ _ _ _ _ a l (sym (c .before .before .head-fault .ensures) ∙ c .before .if2 .left), c .body-length .ensures)
+    let a = c .before .before .before .before .before .before .before .records .inv .1 in
+    omega (arith, fits _ _ _ _ _ a (c .before .before .before .before .before .before .if1 .left) (sym (head-is _ _ _ _ _ (c .before .before .before .before .section-of .ensures) (c .before .before .body-length .ensures) (c .before .head-fault .ensures)) ∙ c .if3 .left), c .before .before .body-length .ensures)
 
-field-count-requires : tie.Need-field-count-requires Inv-loop μ-loop Inv-records μ-records
-field-count-requires c κs = search needs
+fields-in-requires : tie.Need-fields-in-requires Inv-loop μ-loop Inv-records μ-records
+fields-in-requires c κs = search needs
 
 loop-holds : tie.Need-loop-holds Inv-loop μ-loop Inv-records μ-records
 loop-holds c =
-    let a = c .before .before .before .before .before .before .before .records .inv .1 in
-    let l = c .before .before .before .before .before .before .if1 .left in
-    let z = sym (c .before .before .before .before .head-fault .ensures) ∙ c .before .before .before .if2 .left in
-    record { here = a; more = l; head = z; bodyIs = body-same _ _ _ (c .before .before .body-length .ensures); fields = fields-start _ _ _ _ _ a l z _ }
+    let a = c .before .before .before .before .before .before .before .before .before .before .records .inv .1 in
+    let l = c .before .before .before .before .before .before .before .before .before .if1 .left in
+    let z = sym (head-is _ _ _ _ _ (c .before .before .before .before .before .before .before .section-of .ensures) (c .before .before .before .before .before .body-length .ensures) (c .before .before .before .before .head-fault .ensures)) ∙ c .before .before .before .if3 .left in
+    (record { here = a; more = l; head = z; bodyIs = body-same _ _ _ (c .before .before .before .before .before .body-length .ensures); fields = fields-start _ _ _ _ _ a l z _ }, c .fields-in .ensures)
 
-field-at-requires : tie.Need-field-at-requires Inv-loop μ-loop Inv-records μ-records
-field-at-requires c κs = search needs
+low-field-requires : tie.Need-low-field-requires Inv-loop μ-loop Inv-records μ-records
+low-field-requires c κs = search needs
 
 field-fault-requires : tie.Need-field-fault-requires Inv-loop μ-loop Inv-records μ-records
 field-fault-requires c κs =
-    let w = c .before .before .before .loop .inv in
-    (w .here .describes .there, field-ready _ _ _ _ _ _ _ _ w _ (c .before .before .before .before .field-count .ensures) (c .before .before .loop-test .taken) _ (c .before .field-at .ensures))
+    let w = c .before .before .before .before .loop .inv .0 in
+    let l = field-left _ _ _ (c .before .before .before .before .loop .inv .1) (c .before .before .before .loop-test .taken) (c .before .before .if4 .left) in
+    (w .here .describes .there, field-ready _ _ _ _ _ _ _ _ w _ refl (l .0) _ (c .before .low-field .ensures ∙ l .1))
 
 width-requires : tie.Need-width-requires Inv-loop μ-loop Inv-records μ-records
 width-requires c κs = search needs
 
 add-offset : tie.Need-add-offset Inv-loop μ-loop Inv-records μ-records
 add-offset c =
-    let w = c .before .before .before .before .before .before .loop .inv in
-    omega (arith, field-small _ _ _ _ _ _ _ _ w _ (c .before .before .before .before .before .before .before .field-count .ensures) (c .before .before .before .before .before .loop-test .taken) _ (c .before .before .before .before .field-at .ensures), c .width .ensures)
+    let w = c .before .before .before .before .before .before .before .loop .inv .0 in
+    let l = field-left _ _ _ (c .before .before .before .before .before .before .before .loop .inv .1) (c .before .before .before .before .before .before .loop-test .taken) (c .before .before .before .before .before .if4 .left) in
+    omega (arith, field-small _ _ _ _ _ _ _ _ w _ refl (l .0) _ (c .before .before .before .before .low-field .ensures ∙ l .1), c .width .ensures)
 
 add-i : tie.Need-add-i Inv-loop μ-loop Inv-records μ-records
-add-i c = omega (arith, c .before .before .before .before .before .loop-test .taken, c .before .before .before .before .before .before .before .field-count .ensures, few-fields (getD (c .before .before .before .before .before .before .before .before .before .before .before .before .before .before .before .before .before .args .file .now) (c .before .before .before .before .before .before .before .before .before .before .before .before .before .before .records .at) 0))
+add-i c = omega arith
 
 loop-less : tie.Need-loop-less Inv-loop μ-loop Inv-records μ-records
 loop-less c = omega arith
 
 loop-again : tie.Need-loop-again Inv-loop μ-loop Inv-records μ-records
 loop-again c =
-    let w = c .before .before .before .before .before .before .loop .inv in
-    field-passed _ _ _ _ _ _ _ _ w _ (c .before .before .before .before .before .before .before .field-count .ensures) (c .before .before .before .before .before .loop-test .taken) _ (c .before .before .before .before .field-at .ensures) _ (c .before .before .field-fault .ensures) (c .before .if3 .left) _ (c .width .ensures)
+    let w = c .before .before .before .before .before .before .before .loop .inv in
+    let l = field-left _ _ _ (c .before .before .before .before .before .before .before .loop .inv .1) (c .before .before .before .before .before .before .loop-test .taken) (c .before .before .before .before .before .if4 .left) in
+    (field-passed _ _ _ _ _ _ _ _ (w .0) _ refl (l .0) _ (c .before .before .before .before .low-field .ensures ∙ l .1) _ (c .before .before .field-fault .ensures) (c .before .if5 .left) _ (c .width .ensures), field-next _ _ _ (w .1) (c .before .before .before .before .before .before .loop-test .taken))
 
 enter-requires : tie.Need-enter-requires Inv-loop μ-loop Inv-records μ-records
 enter-requires c κs =
-    let w = c .before .before .before .loop .inv in
-    enter-asks _ _ _ _ _ _ _ _ w _ (c .before .before .before .before .field-count .ensures) (c .before .before .loop-test .left)
+    let w = c .before .before .before .before .before .before .loop .inv .0 in
+    let l : length (fieldsOf (getD (c .before .before .before .before .before .before .before .before .before .before .before .before .before .before .before .before .before .before .before .before .before .args .file .now) (c .before .before .before .before .before .before .before .before .before .before .before .before .before .before .before .before .before .records .at) 0)) ≤ c .before .before .before .before .before .before .loop .i = ⊎-elim (λ u. omega (arith, few-fields (getD (c .before .before .before .before .before .before .before .before .before .before .before .before .before .before .before .before .before .before .before .before .before .args .file .now) (c .before .before .before .before .before .before .before .before .before .before .before .before .before .before .before .before .before .records .at) 0), u .left)) (λ u. none-left _ _ _ (c .before .before .before .before .before .before .loop .inv .1) (u .0 .taken) (u .1 .taken)) (c .before .before .before .before .before .loop-test .came) in
+    (c .before .before .before .before .before .before .before .before .before .before .before .before .before .before .section-of .ensures, enter-asks _ _ _ _ _ _ _ _ w _ refl l, c .before .before .before .before .before .before .before .before .before .before .before .before .before .before .before .before .before .records .inv .2, refl, body-stands _ _ _ (w .bodyIs))
 
 count-requires : tie.Need-count-requires Inv-loop μ-loop Inv-records μ-records
-count-requires c κs = counts-small _ _ _ _ _ (c .before .before .before .before .before .before .before .before .before .before .before .before .before .before .before .records .inv .1)
+count-requires c κs = counts-small _ _ _ _ _ (c .before .before .before .before .before .before .before .before .before .before .before .before .before .before .before .before .before .before .before .before .before .records .inv .1)
 
 records-less : tie.Need-records-less Inv-loop μ-loop Inv-records μ-records
-records-less c =
-    let a = c .before .before .before .before .before .before .before .before .before .before .before .before .before .before .before .before .records .inv .1 in
-    omega (arith, c .before .before .before .before .before .before .before .before .before .before .before .before .before .before .before .if1 .left)
+records-less c = omega (arith, c .before .before .before .before .before .before .before .before .before .before .before .before .before .before .before .before .before .before .before .before .before .if1 .left)
 
 records-again : tie.Need-records-again Inv-loop μ-loop Inv-records μ-records
 records-again c =
-    let w = c .before .before .before .before .before .before .before .before .loop .inv in (
-      c .before .before .before .before .enter .kept .1 .0 ∙ c .before .before .before .before .before .before .before .before .before .before .before .before .before .before .before .before .records .inv .0,
-      record-taken _ _ _ _ _ _ _ _ w _ (c .before .before .before .before .before .before .before .before .before .field-count .ensures) (c .before .before .before .before .before .before .before .loop-test .left) _ _ _ (c .before .before .before .before .enter .ensures .0) (c .before .if4 .left) (c .before .before .before .before .enter .kept .1 .0) (c .before .before .before .before .enter .ensures .1 .0) (c .before .before .before .before .enter .ensures .1 .1) _ (c .count .ensures) _ (c .before .before .before .before .before .before .before .before .before .before .before .body-length .ensures),
+    let w = c .before .before .before .before .before .before .before .before .before .before .before .loop .inv .0 in
+    let l : length (fieldsOf (getD (c .before .before .before .before .before .before .before .before .before .before .before .before .before .before .before .before .before .before .before .before .before .before .before .before .before .before .args .file .now) (c .before .before .before .before .before .before .before .before .before .before .before .before .before .before .before .before .before .before .before .before .before .before .records .at) 0)) ≤ c .before .before .before .before .before .before .before .before .before .before .before .loop .i = ⊎-elim (λ u. omega (arith, few-fields (getD (c .before .before .before .before .before .before .before .before .before .before .before .before .before .before .before .before .before .before .before .before .before .before .before .before .before .before .args .file .now) (c .before .before .before .before .before .before .before .before .before .before .before .before .before .before .before .before .before .before .before .before .before .before .records .at) 0), u .left)) (λ u. none-left _ _ _ (c .before .before .before .before .before .before .before .before .before .before .before .loop .inv .1) (u .0 .taken) (u .1 .taken)) (c .before .before .before .before .before .before .before .before .before .before .loop-test .came) in
+    let e = c .before .before .before .before .enter in
+    let k = c .count .ensures ∙ ap (λ (own : ℕ). counted own (c .before .before .before .before .before .before .before .before .before .before .before .before .before .before .before .before .before .before .before .before .before .before .records .n)) (c .before .before .before .before .before .before .before .before .before .before .before .before .before .before .before .before .before .before .before .section-of .ensures) in (
+      e .kept .1 .0 ∙ c .before .before .before .before .before .before .before .before .before .before .before .before .before .before .before .before .before .before .before .before .before .before .records .inv .0,
+      record-taken _ _ _ _ _ _ _ _ w _ refl l _ _ _ (e .ensures .0) (c .before .if6 .left) (e .kept .1 .0) (e .ensures .1 .0) (e .ensures .1 .1 .0) _ k _ (c .before .before .before .before .before .before .before .before .before .before .before .before .before .before .before .before .before .body-length .ensures),
+      indexed-counted (c .count .ensures) (e .ensures .1 .1 .1 (c .before .if6 .left)),
     )
 
 same-length : tie.Need-same-length Inv-loop μ-loop Inv-records μ-records
 same-length c = c .before .records .inv .0
 
 returns : tie.Need-returns Inv-loop μ-loop Inv-records μ-records
-returns c = at-end _ _ _ _ _ (c .before .records .inv .1) (c .if1 .taken)
+returns c = (at-end _ _ _ _ _ (c .before .records .inv .1) (c .if1 .taken), λ _. c .before .records .inv .2)
 
 same-length-2 : tie.Need-same-length-2 Inv-loop μ-loop Inv-records μ-records
-same-length-2 c = c .before .before .before .before .records .inv .0
+same-length-2 c = c .before .before .before .before .before .before .before .records .inv .0
 
 returns-2 : tie.Need-returns-2 Inv-loop μ-loop Inv-records μ-records
-returns-2 c = at-head _ _ _ _ _ (c .before .before .before .before .records .inv .1) (c .before .before .before .if1 .left) _ (c .before .head-fault .ensures) (c .if2 .taken)
+returns-2 c = (c .scan-commands .ensures .0 _ (c .before .before .before .before .before .before .before .records .inv .1), λ _. indexed-terms (c .scan-commands .ensures .1) (c .before .before .before .before .before .before .before .records .inv .2))
 
 same-length-3 : tie.Need-same-length-3 Inv-loop μ-loop Inv-records μ-records
-same-length-3 c = c .before .before .before .before .before .before .before .before .before .before .before .before .before .records .inv .0
+same-length-3 c = c .before .before .before .before .before .before .before .records .inv .0
 
 returns-3 : tie.Need-returns-3 Inv-loop μ-loop Inv-records μ-records
-returns-3 c =
-    let w = c .before .before .before .before .before .loop .inv in
-    field-refused _ _ _ _ _ _ _ _ w _ (c .before .before .before .before .before .before .field-count .ensures) (c .before .before .before .before .loop-test .taken) _ (c .before .before .before .field-at .ensures) _ (c .before .field-fault .ensures) (c .if3 .taken)
+returns-3 c = (at-head _ _ _ _ _ (c .before .before .before .before .before .before .before .records .inv .1) (c .before .before .before .before .before .before .if1 .left) _ (head-is _ _ _ _ _ (c .before .before .before .before .section-of .ensures) (c .before .before .body-length .ensures) (c .before .head-fault .ensures)) (c .if3 .taken), λ z. absurd (c .if3 .taken z))
 
 same-length-4 : tie.Need-same-length-4 Inv-loop μ-loop Inv-records μ-records
-same-length-4 c = c .before .before .before .enter .kept .1 .0 ∙ c .before .before .before .before .before .before .before .before .before .before .before .before .before .before .before .records .inv .0
+same-length-4 c = c .before .before .before .before .before .before .before .before .before .before .before .before .before .before .before .before .before .records .inv .0
 
 returns-4 : tie.Need-returns-4 Inv-loop μ-loop Inv-records μ-records
 returns-4 c =
-    let w = c .before .before .before .before .before .before .before .loop .inv in
-    last-refused _ _ _ _ _ _ _ _ w _ (c .before .before .before .before .before .before .before .before .field-count .ensures) (c .before .before .before .before .before .before .loop-test .left) _ _ _ (c .before .before .before .enter .ensures .0) (c .if4 .taken)
+    let w = c .before .before .before .before .before .before .loop .inv .0 in
+    let l = field-left _ _ _ (c .before .before .before .before .before .before .loop .inv .1) (c .before .before .before .before .before .loop-test .taken) (c .before .before .before .before .if4 .left) in
+    (field-refused _ _ _ _ _ _ _ _ w _ refl (l .0) _ (c .before .before .before .low-field .ensures ∙ l .1) _ (c .before .field-fault .ensures) (c .if5 .taken), λ z. absurd (c .if5 .taken z))
+
+same-length-5 : tie.Need-same-length-5 Inv-loop μ-loop Inv-records μ-records
+same-length-5 c = c .before .before .before .enter .kept .1 .0 ∙ c .before .before .before .before .before .before .before .before .before .before .before .before .before .before .before .before .before .before .before .before .before .records .inv .0
+
+returns-5 : tie.Need-returns-5 Inv-loop μ-loop Inv-records μ-records
+returns-5 c =
+    let w = c .before .before .before .before .before .before .before .before .before .before .loop .inv .0 in
+    let l : length (fieldsOf (getD (c .before .before .before .before .before .before .before .before .before .before .before .before .before .before .before .before .before .before .before .before .before .before .before .before .before .args .file .now) (c .before .before .before .before .before .before .before .before .before .before .before .before .before .before .before .before .before .before .before .before .before .records .at) 0)) ≤ c .before .before .before .before .before .before .before .before .before .before .loop .i = ⊎-elim (λ u. omega (arith, few-fields (getD (c .before .before .before .before .before .before .before .before .before .before .before .before .before .before .before .before .before .before .before .before .before .before .before .before .before .args .file .now) (c .before .before .before .before .before .before .before .before .before .before .before .before .before .before .before .before .before .before .before .before .before .records .at) 0), u .left)) (λ u. none-left _ _ _ (c .before .before .before .before .before .before .before .before .before .before .loop .inv .1) (u .0 .taken) (u .1 .taken)) (c .before .before .before .before .before .before .before .before .before .loop-test .came) in
+    (last-refused _ _ _ _ _ _ _ _ w _ refl l _ _ _ (c .before .before .before .enter .ensures .0) (c .if6 .taken), λ z. absurd (c .if6 .taken z))
 
 pub scan-spec : {M : Type 1} → statement M
 scan-spec =
@@ -162,19 +202,22 @@ scan-spec =
     μ-loop
     Inv-records
     μ-records
+    field-table-requires
     records-holds
     shared-slice-read-kind
     add-start
+    section-of-requires
+    scan-commands-requires
+    body-length-requires
     sub-head-fault
     head-fault-requires
-    body-length-requires
     add-end
     sub-body
     part-body-start
     part-body-end
-    field-count-requires
+    fields-in-requires
     loop-holds
-    field-at-requires
+    low-field-requires
     field-fault-requires
     width-requires
     add-offset
@@ -192,4 +235,6 @@ scan-spec =
     same-length-3
     returns-3
     same-length-4
-    returns-4)
+    returns-4
+    same-length-5
+    returns-5)

@@ -4,8 +4,8 @@ use native.Mathlib.Omega.{arith}
 use borrow.Author.Needs.{needs}
 use lib.ListN.{length, getD}
 use Rattle.rules.specs.Record.{bodyLength}
-use Rattle.records.proofs.Lengths.{body-small}
-use Rattle.lookup.specs.Halves.{nextPlace}
+use Rattle.reader.specs.Place.{nextPlace}
+use Rattle.reader.proofs.Places.{next-record, next-later, record-at}
 use Rattle.lookup.specs.Commands.{commandsFrom}
 use Rattle.lookup.proofs.Commands.{commands-end, commands-here, commands-later}
 use Rattle.lookup.proofs.first_command.Statement.{statement}
@@ -29,40 +29,41 @@ section-of-requires c κs = search needs
 returns : tie.Need-returns Inv-loop μ-loop
 returns c = sym (commands-here (c .before .before .before .before .before .before .args .file .now) _ (c .before .before .before .loop-test .taken) (sym (c .before .section-of .ensures) ∙ c .if1 .taken)) ∙ c .before .before .before .before .loop .inv .1
 
-body-length-requires : tie.Need-body-length-requires Inv-loop μ-loop
-body-length-requires c κs = search needs
-
-add-step : tie.Need-add-step Inv-loop μ-loop
-add-step c = omega (arith, c .body-length .ensures, body-small (getD (c .before .before .before .before .before .before .before .args .file .now) (c .before .before .before .before .before .loop .at) 0))
-
 sub-if2 : tie.Need-sub-if2 Inv-loop μ-loop
 sub-if2 c = search needs
 
+body-length-requires : tie.Need-body-length-requires Inv-loop μ-loop
+body-length-requires c κs = search needs
+
 returns-2 : tie.Need-returns-2 Inv-loop μ-loop
-unfolding nextPlace
 returns-2 c =
     let bs = c .before .before .before .before .before .before .before .before .args .file .now in
     let place = c .before .before .before .before .before .before .loop .at in
     let e : c .before .body-length .result ≡ bodyLength (getD bs place 0) = c .before .body-length .ensures in
-    sym (commands-end bs (nextPlace bs place) (omega arith))
+    sym (commands-end bs (nextPlace bs place) (omega (arith, next-record bs place)))
     ∙ sym (commands-later bs place (omega arith) (λ s. c .before .before .if1 .left (c .before .before .before .section-of .ensures ∙ s)))
     ∙ c .before .before .before .before .before .before .loop .inv .1
 
-add-at : tie.Need-add-at Inv-loop μ-loop
-add-at c = search needs
-
-loop-less : tie.Need-loop-less Inv-loop μ-loop
-loop-less c = search needs
-
-loop-again : tie.Need-loop-again Inv-loop μ-loop
-unfolding nextPlace
-loop-again c =
+next-place-requires : tie.Need-next-place-requires Inv-loop μ-loop
+next-place-requires c κs =
     let bs = c .before .before .before .before .before .before .before .before .args .file .now in
     let place = c .before .before .before .before .before .before .loop .at in
     let e : c .before .body-length .result ≡ bodyLength (getD bs place 0) = c .before .body-length .ensures in
-    let q : place + (1 + c .before .body-length .result) ≡ nextPlace bs place = omega arith in (
-      search needs,
-      rw q (sym (commands-later bs place (omega arith) (λ s. c .before .before .if1 .left (c .before .before .before .section-of .ensures ∙ s))) ∙ c .before .before .before .before .before .before .loop .inv .1),
+    record-at bs place (omega arith)
+
+loop-less : tie.Need-loop-less Inv-loop μ-loop
+loop-less c =
+    let bs = c .before .before .before .before .before .before .before .before .before .args .file .now in
+    let place = c .before .before .before .before .before .before .before .loop .at in
+    omega (arith, c .next-place .ensures, next-later bs place, c .before .before .before .before .before .before .loop-test .taken)
+
+loop-again : tie.Need-loop-again Inv-loop μ-loop
+loop-again c =
+    let bs = c .before .before .before .before .before .before .before .before .before .args .file .now in
+    let place = c .before .before .before .before .before .before .before .loop .at in
+    let e : c .before .before .body-length .result ≡ bodyLength (getD bs place 0) = c .before .before .body-length .ensures in (
+      omega (arith, c .next-place .ensures, next-record bs place),
+      rw (c .next-place .ensures) (sym (commands-later bs place (omega arith) (λ s. c .before .before .before .if1 .left (c .before .before .before .before .section-of .ensures ∙ s))) ∙ c .before .before .before .before .before .before .before .loop .inv .1),
     )
 
 returns-3 : tie.Need-returns-3 Inv-loop μ-loop
@@ -81,11 +82,10 @@ first-command-spec =
     shared-slice-read-kind
     section-of-requires
     returns
-    body-length-requires
-    add-step
     sub-if2
+    body-length-requires
     returns-2
-    add-at
+    next-place-requires
     loop-less
     loop-again
     returns-3)

@@ -13,11 +13,11 @@ use Rattle.records.proofs.body_length.Tie as tie
 within : (r m n : ℕ) → values bodyLength m n ≡ values (λ k. r) m n → (k : ℕ) → m ≤ k → k < m + n → r ≡ bodyLength k
 within r m n e k l h = sym (agree bodyLength (λ k. r) m n e k l h)
 
-length-at-requires : tie.Need-length-at-requires
-length-at-requires c κs = search needs
+term-length-requires : tie.Need-term-length-requires
+term-length-requires c κs = search needs
 
-length-at-requires-2 : tie.Need-length-at-requires-2
-length-at-requires-2 c κs = search needs
+command-length-requires : tie.Need-command-length-requires
+command-length-requires c κs = search needs
 
 returns : tie.Need-returns
 unfolding bodyLength fieldsOf sectionOf widths width
@@ -56,8 +56,8 @@ pub body-length-spec : {M : Type 1} → statement M
 body-length-spec =
     tie.close
     (tie.spec
-    length-at-requires
-    length-at-requires-2
+    term-length-requires
+    command-length-requires
     returns
     returns-2
     returns-3

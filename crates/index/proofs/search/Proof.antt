@@ -1,0 +1,111 @@
+use mathlib.Core.Logic.{⊎-elim}
+use Prim.Native.Nat.{_-_}
+use native.Mathlib.Omega.{arith}
+use Rattle.state.specs.View.{view}
+use Rattle.checks.proofs.Records.{stands}
+use Rattle.index.specs.Tree.{bucketOf, below, yet}
+use Rattle.index.specs.Indexed.{sameThere}
+use Rattle.index.proofs.Walk.{Walking, walk-most, below-falls, walk-start, walk-ends, walk-past, walk-same, walk-noted, walk-other}
+use Rattle.index.proofs.search.Statement.{statement}
+use Rattle.index.proofs.search.Tie as tie
+use Rattle.index.proofs.search.Reads as reads
+use Rattle.index.proofs.search.Lts as lts
+
+abbrev Inv-loop : tie.InvT-loop
+Inv-loop file state links keys tables kind other key terms slot₀ rest₀ half₀ e₀ slot rest half e =
+    Walking links (sameThere file (view state .place) kind key) (sameThere file (view state .place) other key) key terms slot rest half e
+
+abbrev μ-loop : tie.MeasureT-loop
+μ-loop file state links keys tables kind other key terms slot₀ rest₀ half₀ e₀ slot rest half e = yet terms e
+
+mul-e : tie.Need-mul-e Inv-loop μ-loop
+mul-e c = omega arith
+
+element-copy-out-e : tie.Need-element-copy-out-e Inv-loop μ-loop
+element-copy-out-e c = omega arith
+
+cast-e : tie.Need-cast-e Inv-loop μ-loop
+cast-e c = omega (arith, c .before .before .before .pre .1 .tree .most (bucketOf (c .before .before .before .args .key)), c .before .before .before .pre .0 .few)
+
+loop-holds : tie.Need-loop-holds Inv-loop μ-loop
+loop-holds c = walk-start (c .before .before .before .pre .1) _ _ _
+
+sub-t : tie.Need-sub-t Inv-loop μ-loop
+sub-t c = omega (arith, c .loop-test .taken)
+
+mul-if1 : tie.Need-mul-if1 Inv-loop μ-loop
+mul-if1 c = omega (arith, walk-most (c .before .before .before .before .before .pre .1 .tree) (c .before .loop .inv), c .before .before .before .before .before .pre .0 .few)
+
+element-copy-out-if1 : tie.Need-element-copy-out-if1 Inv-loop μ-loop
+element-copy-out-if1 c = omega (arith, walk-most (c .before .before .before .before .before .pre .1 .tree) (c .before .loop .inv), c .before .before .before .before .before .pre .0 .few)
+
+kind-there-requires : tie.Need-kind-there-requires Inv-loop μ-loop
+kind-there-requires c κs =
+    let p = c .before .before .before .before .before .before .before .pre in
+    let w = walk-most (p .1 .tree) (c .before .before .before .loop .inv) in
+    let z = c .before .before .loop-test .taken in
+    stands (p .0) _ (omega arith)
+
+returns : tie.Need-returns Inv-loop μ-loop
+returns c = walk-same (c .before .before .before .before .before .before .before .before .before .pre .1) _ _ _ (c .before .before .before .before .before .loop .inv) (c .before .before .before .before .loop-test .taken) (c .before .before .if1 .taken) (c .before .kind-there .ensures) (c .if2 .taken)
+
+mul-slot : tie.Need-mul-slot Inv-loop μ-loop
+mul-slot c = omega (arith, walk-most (c .before .before .before .before .before .before .before .pre .1 .tree) (c .before .before .before .loop .inv), c .before .before .before .before .before .before .before .pre .0 .few)
+
+add-slot : tie.Need-add-slot Inv-loop μ-loop
+add-slot c = omega (arith, walk-most (c .before .before .before .before .before .before .before .pre .1 .tree) (c .before .before .before .loop .inv), c .before .before .before .before .before .before .before .pre .0 .few)
+
+add-slot-2 : tie.Need-add-slot-2 Inv-loop μ-loop
+add-slot-2 c = omega (arith, walk-most (c .before .before .before .before .before .before .before .pre .1 .tree) (c .before .before .before .loop .inv), c .before .before .before .before .before .before .before .pre .0 .few)
+
+mul-e-2 : tie.Need-mul-e-2 Inv-loop μ-loop
+mul-e-2 c = omega (arith, walk-most (c .before .before .before .before .before .before .before .pre .1 .tree) (c .before .before .before .loop .inv), c .before .before .before .before .before .before .before .pre .0 .few)
+
+element-copy-out-e-2 : tie.Need-element-copy-out-e-2 Inv-loop μ-loop
+element-copy-out-e-2 c = omega (arith, walk-most (c .before .before .before .before .before .before .before .pre .1 .tree) (c .before .before .before .loop .inv), c .before .before .before .before .before .before .before .pre .0 .few)
+
+cast-e-2 : tie.Need-cast-e-2 Inv-loop μ-loop
+cast-e-2 c = omega (arith, c .before .before .before .before .before .before .before .before .pre .1 .tree .most (below (c .before .before .before .before .loop .e - 1) (c .before .before .before .before .loop .rest)), c .before .before .before .before .before .before .before .before .pre .0 .few)
+
+loop-less : tie.Need-loop-less Inv-loop μ-loop
+loop-less c = below-falls (c .before .before .before .before .before .before .before .before .pre .1 .tree) (c .before .before .before .before .loop .inv) (c .before .before .before .loop-test .taken)
+
+loop-again : tie.Need-loop-again Inv-loop μ-loop
+loop-again c =
+    let p = c .before .before .before .before .before .before .before .before .pre .1 in
+    let w = c .before .before .before .before .loop .inv in
+    let z = c .before .before .before .loop-test .taken in
+    ⊎-elim
+    (λ a. walk-noted p _ _ _ w z (a .0 .taken) (a .1 .ensures) (a .2 .left) (a .3 .taken) (a .4))
+    (⊎-elim
+    (λ a. walk-other p _ _ _ w z (a .0 .taken) (a .1 .ensures) (a .2 .left) (a .3 .left) (a .4))
+    (λ a. walk-past p _ _ _ w z (a .0 .left) (a .1)))
+    (c .before .if1 .came)
+
+returns-2 : tie.Need-returns-2 Inv-loop μ-loop
+returns-2 c = walk-ends (c .before .before .before .before .before .pre .1) _ _ _ (c .before .loop .inv) (c .loop-test .left)
+
+pub search-spec : {M : Type 1} → statement M
+search-spec =
+    tie.close
+    (tie.spec
+    Inv-loop
+    μ-loop
+    mul-e
+    element-copy-out-e
+    cast-e
+    loop-holds
+    sub-t
+    mul-if1
+    element-copy-out-if1
+    kind-there-requires
+    returns
+    mul-slot
+    add-slot
+    add-slot-2
+    mul-e-2
+    element-copy-out-e-2
+    cast-e-2
+    loop-less
+    loop-again
+    returns-2)

@@ -1,0 +1,76 @@
+-- The terms so far by their keys, and the private half of each public key among them.
+use mathlib.Core.Path.{_≡_}
+use mathlib.Core.Bool.{Bool, true, false, cond, _&&_}
+use mathlib.Core.List.{List}
+use Prim.Native.Nat.{ℕ, zero, suc, _<_, _≤_}
+use lib.Dec.{eqb}
+use lib.ListN.{length, getD}
+use Rattle.rules.specs.Limits.{termLimit}
+use Rattle.rules.specs.Term.{publicKeyKind, privateKeyKind, fieldsIn, alike, keyPair}
+use Rattle.rules.specs.Record.{sectionOf, bodyLength, termSection}
+use Rattle.rules.specs.Load.{termAt}
+use Rattle.state.specs.View.{view}
+use Rattle.records.specs.Keys.{keyOf}
+use Rattle.learning.specs.There.{termThere}
+use Rattle.checks.specs.There.{kindOfThere, TermsThere}
+use Rattle.tables.specs.Regions.{tableWords, tablesIn}
+use Rattle.index.specs.declared.Searched.{Searched}
+use Rattle.index.specs.Tree.{bucketOf, Met, Tree, Free, Found}
+
+-- the key of term t
+unfoldable pub keyThere : List ℕ → (ℕ → ℕ) → ℕ → ℕ
+keyThere bs place t = keyOf (fieldsIn (termThere bs (place t)))
+
+-- term t is of a kind and has a key
+unfoldable pub sameThere : List ℕ → (ℕ → ℕ) → ℕ → ℕ → ℕ → Bool
+sameThere bs place kind key t = eqb (kindOfThere bs place t) kind && eqb (keyThere bs place t) key
+
+-- term t is the private half of the public key k
+abbrev pub pairThere : List ℕ → (ℕ → ℕ) → ℕ → ℕ → Bool
+pairThere bs place k t = keyPair (termThere bs (place k)) (termThere bs (place t))
+
+-- the kind of a key's other half; of another term none
+unfoldable pub otherHalf : ℕ → ℕ
+otherHalf k = cond (eqb k publicKeyKind) privateKeyKind (cond (eqb k privateKeyKind) publicKeyKind 0)
+
+-- the private half of each of the first n terms, one more than its number, 0 where it has none
+abbrev pub Halves : List ℕ → (ℕ → ℕ) → (ℕ → ℕ) → ℕ → Type 0
+Halves bs place half n = (t : ℕ) → t < n → Found (pairThere bs place t) n (half t)
+
+-- no two of the first n terms are alike
+abbrev pub Unlike : List ℕ → (ℕ → ℕ) → ℕ → Type 0
+Unlike bs place n = (t u : ℕ) → t < n → u < n → alike (termThere bs (place t)) (termThere bs (place u)) ≡ true → t ≡ u
+
+-- each of the first n terms is met by its key; the halves among them; no certificate has an entry in the ledger
+pub record Indexed (bs : List ℕ) (place : ℕ → ℕ) (links keys tables : List ℕ) (n : ℕ) : Type 0 where
+  pub tree : Tree links n
+  pub room : length keys ≡ termLimit
+  pub words : length tables ≡ tableWords
+  pub key : (t : ℕ) → t < n → getD keys t 0 ≡ keyThere bs place t
+  pub met : (t : ℕ) → t < n → Met links t (getD links (bucketOf (keyThere bs place t)) 0) (keyThere bs place t)
+  pub unlike : Unlike bs place n
+  pub halves : Halves bs place (tablesIn tables .half) n
+  pub unpaired : (t : ℕ) → n ≤ t → tablesIn tables .half t ≡ 0
+  pub unlisted : (t : ℕ) → tablesIn tables .entry t ≡ 0
+
+-- what the way of a key found: a term of the kind, else one of another kind, and where a new term enters
+pub record SearchResult (bs : List ℕ) (place : ℕ → ℕ) (links : List ℕ) (kind second key n : ℕ) (r : Searched) : Type 0 where
+  pub same : Found (sameThere bs place kind key) n (r .same)
+  pub other : r .same ≡ 0 → Found (sameThere bs place second key) n (r .other)
+  pub free : r .same ≡ 0 → Free links key (r .free)
+
+-- what entering a term record needs: the index of the terms so far, room, and the body that stands at its place
+pub record EntersTerm (bs s links keys tables body : List ℕ) (k at n : ℕ) : Type 0 where
+  pub there : TermsThere bs s n
+  pub indexed : Indexed bs (view s .place) links keys tables n
+  pub room : n < termLimit
+  pub near : at < 65536
+  pub isTerm : sectionOf k ≡ termSection
+  pub whole : bodyLength k ≤ length body
+  pub kind : k ≡ getD bs at 0
+  pub stands : termThere bs at ≡ termAt k body
+
+-- the term of an entry passes
+unfoldable pub passes : (ℕ → Bool) → ℕ → Bool
+passes test zero = false
+passes test (suc t) = test t

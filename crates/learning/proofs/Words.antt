@@ -1,0 +1,190 @@
+-- The term of a record by the words where they stand.
+--     inside                           where the body of a record ends in the file
+--     public-key-there to pair-there   the term of a record, one law a kind
+--     idevid-certificate-there, idevid-key-there, signer-there   the fields behind a Subject
+--     tpm-byte, device-byte            the byte of a Subject
+--     request-device, certificate-tpm  whether a 17 is a device's, and a 19 a TPM's
+--     key-attributes, no-attributes    the attributes of keys; other terms have none
+--     no-parts                         terms of other kinds than 13, 14 and 17 to 1A have no parts
+-- Assumes nothing.
+use mathlib.Core.Path.{_≡_, refl, ap₂, subst}
+use mathlib.Core.Bool.{Bool, true, false, cond, not, _||_}
+use mathlib.Core.List.{List, [], _∷_}
+use Prim.Native.Nat.{ℕ, suc, _+_, _*_, _-_, _<_, _≤_}
+use native.Mathlib.Omega.{arith}
+use lib.Dec.{eqb}
+use lib.ListN.{length, getD, take, drop}
+use lib.Seq.{getD-take, getD-drop}
+use borrow.Author.Tests.{eqb-true, eqb-false}
+use Rattle.rules.specs.declared.Subject.{Subject}
+use Rattle.rules.specs.declared.Subject.the-variants.{Tpm, Device}
+use Rattle.rules.specs.declared.Term.the-variants.{PublicKey, PrivateKey, Hash, Signature, Attest, Credential, Number, IdevidRequest, LdevidRequest, Certificate, Pair}
+use Rattle.rules.specs.Term.{publicKeyKind, privateKeyKind, hashKind, signatureKind, attestKind, credentialKind, numberKind, idevidRequestKind, ldevidRequestKind, certificateKind, pairKind, subjectFields, fieldsIn, subjectOf, isTpmSubject, isDeviceSubject, attributesOf, partsOf}
+use Rattle.rules.specs.Attributes.{noAttributes}
+use Rattle.rules.specs.Record.{sectionOf, fieldsOf, bodyLength, width, widths, word}
+use Rattle.rules.specs.Load.{termAt, subjectAt}
+use Rattle.records.proofs.EachKind.{agree}
+use Rattle.records.proofs.Lengths.{term-kinds}
+use Rattle.learning.specs.There.{kindThere, termThere, TermRecord}
+
+-- the bytes of the bodies of terms, by kind
+abbrev pub bodyBytes : ℕ → ℕ
+bodyBytes k = getD (3 ∷ 3 ∷ 2 ∷ 4 ∷ 2 ∷ 6 ∷ 2 ∷ 7 ∷ 4 ∷ 7 ∷ 4 ∷ []) (k - publicKeyKind) 0
+
+-- the byte of a Subject tells a TPM from a device
+module _ (bs : List ℕ) (i : ℕ) where
+  pub tpm-byte : isTpmSubject (subjectAt bs i) ≡ eqb (getD bs i 0) 0
+  unfolding subjectAt isTpmSubject
+  tpm-byte = go (eqb (getD bs i 0) 0)
+    where
+      go : (t : Bool) → isTpmSubject (cond t (Tpm (word bs (i + 1))) (Device (word bs (i + 1)))) ≡ t
+      go true = refl
+      go false = refl
+
+  pub device-byte : isDeviceSubject (subjectAt bs i) ≡ not (eqb (getD bs i 0) 0)
+  unfolding subjectAt isDeviceSubject
+  device-byte = go (eqb (getD bs i 0) 0)
+    where
+      go : (t : Bool) → isDeviceSubject (cond t (Tpm (word bs (i + 1))) (Device (word bs (i + 1)))) ≡ not t
+      go true = refl
+      go false = refl
+
+-- the fields behind a Subject
+behind : (s : Subject) (xs : List ℕ) (i : ℕ) → getD (subjectFields s xs) (suc (suc i)) 0 ≡ getD xs i 0
+unfolding subjectFields
+behind (Tpm n) xs i = refl
+behind (Device n) xs i = refl
+
+-- the kinds of terms that have parts
+abbrev pub hasParts : ℕ → Bool
+hasParts k = eqb k signatureKind || eqb k attestKind || eqb k idevidRequestKind || eqb k ldevidRequestKind || eqb k certificateKind || eqb k pairKind
+
+module _ (bs : List ℕ) (at : ℕ) where
+  -- what stands in the first n bytes of a body
+  byte-at : (n i : ℕ) → i < n → getD (take n (drop (at + 1) bs)) i 0 ≡ getD bs (at + suc i) 0
+  byte-at n i h = let e : at + 1 + i ≡ at + suc i = omega arith in rw (getD-take n (drop (at + 1) bs) i 0 h, getD-drop (at + 1) bs i 0, e)
+
+  word-at : (n i : ℕ) → i + 1 < n → word (take n (drop (at + 1) bs)) i ≡ word bs (at + suc i)
+  unfolding word
+  word-at n i h =
+      let e : at + suc (i + 1) ≡ at + suc i + 1 = omega arith in
+      ap₂ (λ (m l : ℕ). m * 256 + l) (byte-at n i (omega arith)) (rw e at (byte-at n (i + 1) h))
+
+  subject-at : (n i : ℕ) → i + 2 < n → subjectAt (take n (drop (at + 1) bs)) i ≡ subjectAt bs (at + suc i)
+  unfolding subjectAt
+  subject-at n i h =
+      let e : at + suc (i + 1) ≡ at + suc i + 1 = omega arith in
+      ap₂ (λ (b m : ℕ). cond (eqb b 0) (Tpm m) (Device m)) (byte-at n i (omega arith)) (rw e at (word-at n (i + 1) (omega arith)))
+
+  -- where the body of a record ends
+  pub inside : (k : ℕ) → kindThere bs at ≡ k → TermRecord bs at → at + 1 + bodyBytes k ≤ length bs
+  unfolding bodyLength widths width fieldsOf sectionOf
+  inside k e r =
+      let h = term-kinds (kindThere bs at) (r .isTerm) in
+      let l : bodyLength (kindThere bs at) ≡ bodyBytes (kindThere bs at) = agree bodyLength bodyBytes 0x10 11 refl (kindThere bs at) (h .0) (omega (arith, h .1)) in
+      subst (λ (k : ℕ). at + 1 + bodyBytes k ≤ length bs) e (omega (arith, r .rest, l))
+
+  -- 10 (identifier, attributes)
+  pub public-key-there : kindThere bs at ≡ publicKeyKind → termThere bs at ≡ PublicKey (word bs (at + 1)) (record { bits = getD bs (at + 3) 0 })
+  unfolding termThere termAt bodyLength widths width fieldsOf sectionOf
+  public-key-there e = rw e (λ x. PublicKey (word-at 3 0 (omega arith) x) (record { bits = byte-at 3 2 (omega arith) x }))
+
+  -- 11 (identifier, attributes)
+  pub private-key-there : kindThere bs at ≡ privateKeyKind → termThere bs at ≡ PrivateKey (word bs (at + 1)) (record { bits = getD bs (at + 3) 0 })
+  unfolding termThere termAt bodyLength widths width fieldsOf sectionOf
+  private-key-there e = rw e (λ x. PrivateKey (word-at 3 0 (omega arith) x) (record { bits = byte-at 3 2 (omega arith) x }))
+
+  -- 12 (term)
+  pub hash-there : kindThere bs at ≡ hashKind → termThere bs at ≡ Hash (word bs (at + 1))
+  unfolding termThere termAt bodyLength widths width fieldsOf sectionOf
+  hash-there e = rw e (λ x. Hash (word-at 2 0 (omega arith) x))
+
+  -- 13 (message, private key)
+  pub signature-there : kindThere bs at ≡ signatureKind → termThere bs at ≡ Signature (word bs (at + 1)) (word bs (at + 3))
+  unfolding termThere termAt bodyLength widths width fieldsOf sectionOf
+  signature-there e = rw e (λ x. Signature (word-at 4 0 (omega arith) x) (word-at 4 2 (omega arith) x))
+
+  -- 14 (public key)
+  pub attest-there : kindThere bs at ≡ attestKind → termThere bs at ≡ Attest (word bs (at + 1))
+  unfolding termThere termAt bodyLength widths width fieldsOf sectionOf
+  attest-there e = rw e (λ x. Attest (word-at 2 0 (omega arith) x))
+
+  -- 15 (term, number, public key)
+  pub credential-there : kindThere bs at ≡ credentialKind → termThere bs at ≡ Credential (word bs (at + 1)) (word bs (at + 3)) (word bs (at + 5))
+  unfolding termThere termAt bodyLength widths width fieldsOf sectionOf
+  credential-there e = rw e (λ x. Credential (word-at 6 0 (omega arith) x) (word-at 6 2 (omega arith) x) (word-at 6 4 (omega arith) x))
+
+  -- 16 (identifier)
+  pub number-there : kindThere bs at ≡ numberKind → termThere bs at ≡ Number (word bs (at + 1))
+  unfolding termThere termAt bodyLength widths width fieldsOf sectionOf
+  number-there e = rw e (λ x. Number (word-at 2 0 (omega arith) x))
+
+  -- 17 (Subject, certificate, public key)
+  pub idevid-request-there : kindThere bs at ≡ idevidRequestKind → termThere bs at ≡ IdevidRequest (subjectAt bs (at + 1)) (word bs (at + 4)) (word bs (at + 6))
+  unfolding termThere termAt bodyLength widths width fieldsOf sectionOf
+  idevid-request-there e = rw e (λ x. IdevidRequest (subject-at 7 0 (omega arith) x) (word-at 7 3 (omega arith) x) (word-at 7 5 (omega arith) x))
+
+  -- 18 (term, certificate)
+  pub ldevid-request-there : kindThere bs at ≡ ldevidRequestKind → termThere bs at ≡ LdevidRequest (word bs (at + 1)) (word bs (at + 3))
+  unfolding termThere termAt bodyLength widths width fieldsOf sectionOf
+  ldevid-request-there e = rw e (λ x. LdevidRequest (word-at 4 0 (omega arith) x) (word-at 4 2 (omega arith) x))
+
+  -- 19 (public key, Subject, private key)
+  pub certificate-there : kindThere bs at ≡ certificateKind → termThere bs at ≡ Certificate (word bs (at + 1)) (subjectAt bs (at + 3)) (word bs (at + 6))
+  unfolding termThere termAt bodyLength widths width fieldsOf sectionOf
+  certificate-there e = rw e (λ x. Certificate (word-at 7 0 (omega arith) x) (subject-at 7 2 (omega arith) x) (word-at 7 5 (omega arith) x))
+
+  -- 1A (term, term)
+  pub pair-there : kindThere bs at ≡ pairKind → termThere bs at ≡ Pair (word bs (at + 1)) (word bs (at + 3))
+  unfolding termThere termAt bodyLength widths width fieldsOf sectionOf
+  pair-there e = rw e (λ x. Pair (word-at 4 0 (omega arith) x) (word-at 4 2 (omega arith) x))
+
+  -- the fields behind the Subject of a 17 and of a 19
+  pub idevid-certificate-there : kindThere bs at ≡ idevidRequestKind → getD (fieldsIn (termThere bs at)) 2 0 ≡ word bs (at + 4)
+  unfolding fieldsIn
+  idevid-certificate-there e = rw (idevid-request-there e) (behind (subjectAt bs (at + 1)) _ 0)
+
+  pub idevid-key-there : kindThere bs at ≡ idevidRequestKind → getD (fieldsIn (termThere bs at)) 3 0 ≡ word bs (at + 6)
+  unfolding fieldsIn
+  idevid-key-there e = rw (idevid-request-there e) (behind (subjectAt bs (at + 1)) _ 1)
+
+  pub signer-there : kindThere bs at ≡ certificateKind → getD (fieldsIn (termThere bs at)) 3 0 ≡ word bs (at + 6)
+  unfolding fieldsIn
+  signer-there e = rw (certificate-there e) (behind (subjectAt bs (at + 3)) _ 0)
+
+  -- whose they are
+  pub request-device : kindThere bs at ≡ idevidRequestKind → isDeviceSubject (subjectOf (termThere bs at)) ≡ not (eqb (getD bs (at + 1) 0) 0)
+  unfolding subjectOf
+  request-device e = rw (idevid-request-there e) (device-byte bs (at + 1))
+
+  pub certificate-tpm : kindThere bs at ≡ certificateKind → isTpmSubject (subjectOf (termThere bs at)) ≡ eqb (getD bs (at + 3) 0) 0
+  unfolding subjectOf
+  certificate-tpm e = rw (certificate-there e) (tpm-byte bs (at + 3))
+
+  -- the attributes of a key, and that other terms have none
+  pub key-attributes : TermRecord bs at → kindThere bs at ≤ privateKeyKind → (attributesOf (termThere bs at) ≡ record { bits = getD bs (at + 3) 0 }) × (at + 3 < length bs)
+  unfolding attributesOf
+  key-attributes r l = go (eqb (kindThere bs at) publicKeyKind) refl
+    where
+      go : (t : Bool) → eqb (kindThere bs at) publicKeyKind ≡ t → (attributesOf (termThere bs at) ≡ record { bits = getD bs (at + 3) 0 }) × (at + 3 < length bs)
+      go true e = (rw (public-key-there (eqb-true _ _ e)), omega (arith, inside publicKeyKind (eqb-true _ _ e) r))
+      go false e =
+          let n = eqb-false (kindThere bs at) publicKeyKind e in
+          let p : kindThere bs at ≡ privateKeyKind = omega (arith, term-kinds (kindThere bs at) (r .isTerm) .0) in
+          (rw (private-key-there p), omega (arith, inside privateKeyKind p r))
+
+  pub no-attributes : TermRecord bs at → privateKeyKind < kindThere bs at → attributesOf (termThere bs at) ≡ noAttributes
+  unfolding termThere termAt attributesOf
+  no-attributes r l =
+      let b : List ℕ = take (bodyLength (kindThere bs at)) (drop (at + 1) bs) in
+      agree (λ k. attributesOf (termAt k b)) (λ k. noAttributes) 0x12 9 refl (kindThere bs at) (omega arith) (omega (arith, term-kinds (kindThere bs at) (r .isTerm) .1))
+
+  -- a record of another kind than 13, 14 and 17 to 1A has no parts
+  pub no-parts : TermRecord bs at → hasParts (kindThere bs at) ≡ false → partsOf (termThere bs at) ≡ []
+  unfolding termThere termAt partsOf
+  no-parts r e =
+      let h = term-kinds (kindThere bs at) (r .isTerm) in
+      let b : List ℕ = take (bodyLength (kindThere bs at)) (drop (at + 1) bs) in
+      let f : ℕ → List ℕ = λ k. cond (hasParts k) [] (partsOf (termAt k b)) in
+      let l : f (kindThere bs at) ≡ [] = agree f (λ k. []) 0x10 11 refl (kindThere bs at) (h .0) (omega (arith, h .1)) in
+      rw e at l

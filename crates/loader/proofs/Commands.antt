@@ -1,0 +1,150 @@
+-- The scan of the commands: as that of the file, whatever the signing keys; the section so far is that of the commands, or the record at hand is the first of them.
+-- Assumes nothing.
+use mathlib.Core.Path.{_≡_, refl, sym, ap, subst, subst⁻¹, _∙_}
+use mathlib.Core.Logic.{_⊎_, inl, inr}
+use mathlib.Core.Bool.{Bool, true, false, cond}
+use mathlib.Core.List.{List}
+use Prim.Native.Nat.{ℕ, suc, _+_, _-_, _<_, _≤_}
+use native.Mathlib.Omega.{arith}
+use lib.Dec.{eqb, ltb}
+use lib.ListN.{length, getD}
+use borrow.Author.Tests.{ltb-false, le-ltb}
+use Rattle.rules.specs.declared.Field.{Field}
+use Rattle.rules.specs.declared.Field.the-variants.{AnyTerm}
+use Rattle.rules.specs.Limits.{fileLimit}
+use Rattle.rules.specs.Record.{sectionOf, bodyLength, fieldsOf, width, commandSection}
+use Rattle.state.specs.View.{view}
+use Rattle.checks.specs.There.{headFault, TermsThere, fieldFaultThere}
+use Rattle.records.proofs.Lengths.{section-most}
+use Rattle.theorems.proofs.Pieces.{bodyAt}
+use Rattle.loader.specs.declared.Tally.{Tally}
+use Rattle.loader.specs.declared.Scanned.{Scanned}
+use Rattle.loader.specs.Describes.{counted, At, ScanResult, CommandsReady, CommandsResult}
+use Rattle.loader.proofs.Scanning.{refusal, InFields, at-end, at-head, any-tally, fits, fields-start, field-ready, field-small, field-refused, field-passed, command-taken}
+
+-- a head that is not refused is in order
+pub head-low : (own size left section parties terms : ℕ) → headFault own size left section parties terms ≡ 0 → section ≤ own
+unfolding headFault
+head-low own size left section parties terms e = go (eqb own 0) (ltb left size) (ltb own section) _ refl e
+  where
+    go : (a b c : Bool) (x : ℕ) → ltb own section ≡ c → cond a 3 (cond b 4 (cond c 5 x)) ≡ 0 → section ≤ own
+    go true b c x o e = absurd (omega arith)
+    go false true c x o e = absurd (omega arith)
+    go false false true x o e = absurd (omega arith)
+    go false false false x o e = ltb-false own section o
+
+-- where the section so far is that of the commands, or the record is a command
+abbrev Begun : ℕ → ℕ → Type 0
+Begun section own = (section ≡ commandSection) ⊎ ((section ≤ commandSection) × (own ≡ commandSection))
+
+head-same : (own size left section parties terms : ℕ) → Begun section own → headFault own size left commandSection parties terms ≡ headFault own size left section parties terms
+unfolding headFault
+head-same own size left section parties terms (inl e) = rw e refl
+head-same own size left section parties terms (inr (l, e)) = rw (e, le-ltb commandSection section l) refl
+
+tally-is : (t : Tally) {a b c d : ℕ} → t .section ≡ a → t .parties ≡ b → t .terms ≡ c → t .commands ≡ d → t ≡ (record { section = a; parties = b; terms = c; commands = d })
+tally-is t p q r u = rw (← p, ← q, ← r, ← u) refl
+
+-- where the scan of the commands stands
+pub record Standing (bs s : List ℕ) (n : Tally) (from at commands : ℕ) : Type 0 where
+  pub tally : Tally
+  pub partiesAre : tally .parties ≡ n .parties
+  pub termsAre : tally .terms ≡ n .terms
+  pub commandsAre : tally .commands ≡ commands
+  pub begun : (tally .section ≡ commandSection) ⊎ ((at < length bs) × (tally .section ≤ commandSection) × (sectionOf (getD bs at 0) ≡ commandSection))
+  pub carried : (signers : List ℕ) → At bs s signers n from → At bs s signers tally at
+
+pub standing-start : {bs s table : List ℕ} {n : Tally} {at : ℕ} → CommandsReady bs s table n at → Standing bs s n at at (n .commands)
+standing-start {n = n} r = record { tally = n; partiesAre = refl; termsAre = refl; commandsAre = refl; begun = inr (r .more, r .here .inOrder, r .command); carried = λ signers a. a }
+
+module _ {bs s : List ℕ} {n : Tally} {from at commands : ℕ} (w : Standing bs s n from at commands) where
+  begun-here : Begun (w .tally .section) (sectionOf (getD bs at 0))
+  begun-here = go (w .begun)
+    where
+      go : (w .tally .section ≡ commandSection) ⊎ ((at < length bs) × (w .tally .section ≤ commandSection) × (sectionOf (getD bs at 0) ≡ commandSection)) → Begun (w .tally .section) (sectionOf (getD bs at 0))
+      go (inl e) = inl e
+      go (inr (l, o, e)) = inr (o, e)
+
+  -- the end of the file: the last record was a command
+  pub standing-end : length bs ≤ at → CommandsResult bs s n from (refusal 0 0 (record { section = commandSection; parties = n .parties; terms = n .terms; commands = commands }))
+  standing-end h signers a = go (w .begun)
+    where
+      go : (w .tally .section ≡ commandSection) ⊎ ((at < length bs) × (w .tally .section ≤ commandSection) × (sectionOf (getD bs at 0) ≡ commandSection))
+          → ScanResult bs s signers (refusal 0 0 (record { section = commandSection; parties = n .parties; terms = n .terms; commands = commands }))
+      go (inl e) =
+          subst (λ (m : Tally). ScanResult bs s signers (refusal 0 0 m)) (tally-is (w .tally) e (w .partiesAre) (w .termsAre) (w .commandsAre))
+          (at-end bs s signers (w .tally) at (w .carried signers a) h)
+      go (inr (l, o, e)) = absurd (omega arith)
+
+  module _ (h : at < length bs) {x own size : ℕ} (eo : own ≡ sectionOf (getD bs at 0)) (es : size ≡ bodyLength (getD bs at 0)) (e : x ≡ headFault own size (length bs - (at + 1)) commandSection (n .parties) (n .terms)) where
+    head-is : x ≡ headFault (sectionOf (getD bs at 0)) (bodyLength (getD bs at 0)) (length bs - (at + 1)) (w .tally .section) (w .tally .parties) (w .tally .terms)
+    head-is =
+        e ∙ rw (eo, es, w .partiesAre, w .termsAre) (head-same (sectionOf (getD bs at 0)) (bodyLength (getD bs at 0)) (length bs - (at + 1)) (w .tally .section) (n .parties) (n .terms) begun-here)
+
+    -- 3 to 5
+    pub standing-head : (m : Tally) → (x ≡ 0 → ⊥) → CommandsResult bs s n from (refusal x at m)
+    standing-head m z signers a = any-tally (w .tally) m z (at-head bs s signers (w .tally) at (w .carried signers a) h x head-is z)
+
+    pub command-here : x ≡ 0 → sectionOf (getD bs at 0) ≡ commandSection
+    command-here z = omega (arith, head-low own size (length bs - (at + 1)) commandSection (n .parties) (n .terms) (sym e ∙ z), section-most (getD bs at 0))
+
+-- where it stands at a field
+pub record AtField (bs s : List ℕ) (n : Tally) (from at commands : ℕ) (body : List ℕ) (i offset : ℕ) : Type 0 where
+  pub standing : Standing bs s n from at commands
+  pub fields : (signers : List ℕ) → At bs s signers n from → InFields bs s signers (standing .tally) at body i offset
+
+-- at the first field of a command whose head is right
+module _ {bs s : List ℕ} {n : Tally} {from at commands : ℕ} (w : Standing bs s n from at commands) (h : at < length bs) {x own size : ℕ} (eo : own ≡ sectionOf (getD bs at 0)) (es : size ≡ bodyLength (getD bs at 0)) (e : x ≡ headFault own size (length bs - (at + 1)) commandSection (n .parties) (n .terms)) (z : x ≡ 0) where
+  pub field-first : {body : List ℕ} → body ≡ bodyAt bs at → AtField bs s n from at commands body 0 0
+  field-first {body} b = record {
+    standing = w;
+    fields = λ signers a.
+        let head = sym (head-is w h eo es e) ∙ z in
+        record { here = w .carried signers a; more = h; head = head; bodyIs = b; fields = fields-start bs s signers (w .tally) at (w .carried signers a) h head body };
+  }
+
+  pub command-fits : (signers : List ℕ) → At bs s signers n from → at + 1 + bodyLength (getD bs at 0) ≤ length bs
+  command-fits signers a = fits bs s signers (w .tally) at (w .carried signers a) h (sym (head-is w h eo es e) ∙ z)
+
+-- the same as the code's results give it, where the signing keys are these
+module _ {bs s : List ℕ} {n : Tally} {from at commands : ℕ} {body : List ℕ} {i offset : ℕ} (w : AtField bs s n from at commands body i offset) {signers : List ℕ} (a : At bs s signers n from) where
+  pub terms-there : TermsThere bs s (n .terms)
+  terms-there = subst (TermsThere bs s) (w .standing .termsAre) (w .fields signers a .here .describes .there)
+
+  module _ (l : i < length (fieldsOf (getD bs at 0))) {x : Field} (q : x ≡ getD (fieldsOf (getD bs at 0)) i AnyTerm) where
+    pub field-inside : offset + width x ≤ length body
+    field-inside = field-ready bs s signers (w .standing .tally) at body i offset (w .fields signers a) _ refl l x q
+
+    pub field-near : offset + width x ≤ fileLimit
+    field-near = field-small bs s signers (w .standing .tally) at body i offset (w .fields signers a) _ refl l x q
+
+    module _ {y : ℕ} (f : y ≡ fieldFaultThere bs (view s .place) (n .parties) (n .terms) x offset body) where
+      field-fault : y ≡ fieldFaultThere bs (view s .place) (w .standing .tally .parties) (w .standing .tally .terms) x offset body
+      field-fault = rw (w .standing .partiesAre, w .standing .termsAre) f
+
+      -- 7, 8
+      pub field-stops : (m : Tally) → (y ≡ 0 → ⊥) → CommandsResult bs s n from (refusal y at m)
+      field-stops m z signers b =
+          any-tally (w .standing .tally) m z
+          (field-refused bs s signers (w .standing .tally) at body i offset (w .fields signers b) _ refl l x q y field-fault z)
+
+      pub field-passes : y ≡ 0 → (v : ℕ) → v ≡ width x → AtField bs s n from at commands body (i + 1) (offset + v)
+      field-passes z v e = record {
+        standing = w .standing;
+        fields = λ signers b. field-passed bs s signers (w .standing .tally) at body i offset (w .fields signers b) _ refl l x q y field-fault z v e;
+      }
+
+-- a command is taken
+module _ {bs s : List ℕ} {n : Tally} {from at commands : ℕ} {body : List ℕ} {i offset : ℕ} (w : AtField bs s n from at commands body i offset) (l : length (fieldsOf (getD bs at 0)) ≤ i) (k : sectionOf (getD bs at 0) ≡ commandSection) where
+  pub standing-next : (next : ℕ) → next ≡ at + 1 + bodyLength (getD bs at 0) → Standing bs s n from next (commands + 1)
+  unfolding counted
+  standing-next next e = record {
+    tally = counted commandSection (w .standing .tally);
+    partiesAre = w .standing .partiesAre;
+    termsAre = w .standing .termsAre;
+    commandsAre = ap (λ (c : ℕ). c + 1) (w .standing .commandsAre);
+    begun = inl refl;
+    carried = λ signers b.
+        subst⁻¹ (At bs s signers (counted commandSection (w .standing .tally))) e
+        (command-taken bs s signers (w .standing .tally) at body i offset (w .fields signers b) _ refl l k);
+  }

@@ -1,0 +1,175 @@
+-- `loader::scan_commands` meets its contract, whatever the signing keys. Assumes nothing.
+use mathlib.Core.Path.{_≡_, refl, sym, ap, _∙_}
+use mathlib.Core.Logic.{⊎-elim}
+use Prim.Native.Nat.{ℕ, _+_, _-_}
+use native.Mathlib.Omega.{arith}
+use borrow.Author.Needs.{needs}
+use lib.ListN.{length, getD, drop}
+use Rattle.rules.specs.Record.{fieldsOf}
+use Rattle.records.specs.Codes.{packed}
+use Rattle.records.proofs.Lengths.{few-fields}
+use Rattle.records.proofs.Packed.{field-left, field-next, none-left}
+use Rattle.loader.proofs.Scanning.{body-same}
+use Rattle.loader.proofs.Commands.{Standing, standing-start, standing-end, standing-head, command-here, AtField, field-first, command-fits, terms-there, field-inside, field-near, field-stops, field-passes, standing-next}
+use Rattle.loader.proofs.scan_commands.Statement.{statement}
+use Rattle.loader.proofs.scan_commands.Tie as tie
+use Rattle.loader.proofs.scan_commands.Reads as reads
+use Rattle.loader.proofs.scan_commands.Lts as lts
+
+abbrev Inv-loop : tie.InvT-loop
+Inv-loop table file state from n parties terms at commands kind start own length head end body fields₀ i₀ offset₀ fields i offset =
+    AtField file state n from at commands body i offset × (fields ≡ packed (drop i (fieldsOf (getD file at 0))))
+
+abbrev μ-loop : tie.MeasureT-loop
+μ-loop table file state from n parties terms at commands kind start own length head end body fields₀ i₀ offset₀ fields i offset = 4 - i
+
+abbrev Inv-records : tie.InvT-records
+Inv-records table file state from n parties terms at₀ commands₀ at commands = Standing file state n from at commands
+
+abbrev μ-records : tie.MeasureT-records
+μ-records table file state from n parties terms at₀ commands₀ at commands = length file - at
+
+records-holds : tie.Need-records-holds Inv-loop μ-loop Inv-records μ-records
+records-holds c = standing-start (c .before .before .pre)
+
+shared-slice-read-kind : tie.Need-shared-slice-read-kind Inv-loop μ-loop Inv-records μ-records
+shared-slice-read-kind c = search needs
+
+add-start : tie.Need-add-start Inv-loop μ-loop Inv-records μ-records
+add-start c = omega arith
+
+section-of-requires : tie.Need-section-of-requires Inv-loop μ-loop Inv-records μ-records
+section-of-requires c κs = search needs
+
+body-length-requires : tie.Need-body-length-requires Inv-loop μ-loop Inv-records μ-records
+body-length-requires c κs = search needs
+
+sub-head-fault : tie.Need-sub-head-fault Inv-loop μ-loop Inv-records μ-records
+sub-head-fault c = omega arith
+
+head-fault-requires : tie.Need-head-fault-requires Inv-loop μ-loop Inv-records μ-records
+head-fault-requires c κs = search needs
+
+add-end : tie.Need-add-end Inv-loop μ-loop Inv-records μ-records
+add-end c =
+    let r = c .before .before .before .before .before .before .before .before .before .pre in
+    let f = command-fits (c .before .before .before .before .before .before .records .inv) (c .before .before .before .before .before .if1 .left) (c .before .before .before .section-of .ensures) (c .before .before .body-length .ensures) (c .before .head-fault .ensures) (c .if2 .left) (r .signers) (r .here) in
+    omega (arith, r .here .short, f, c .before .before .body-length .ensures)
+
+sub-body : tie.Need-sub-body Inv-loop μ-loop Inv-records μ-records
+sub-body c = omega arith
+
+part-body-start : tie.Need-part-body-start Inv-loop μ-loop Inv-records μ-records
+part-body-start c = search needs
+
+part-body-end : tie.Need-part-body-end Inv-loop μ-loop Inv-records μ-records
+part-body-end c =
+    let r = c .before .before .before .before .before .before .before .before .before .pre in
+    let f = command-fits (c .before .before .before .before .before .before .records .inv) (c .before .before .before .before .before .if1 .left) (c .before .before .before .section-of .ensures) (c .before .before .body-length .ensures) (c .before .head-fault .ensures) (c .if2 .left) (r .signers) (r .here) in
+    omega (arith, f, c .before .before .body-length .ensures)
+
+fields-in-requires : tie.Need-fields-in-requires Inv-loop μ-loop Inv-records μ-records
+fields-in-requires c κs = search needs
+
+loop-holds : tie.Need-loop-holds Inv-loop μ-loop Inv-records μ-records
+loop-holds c =
+    (field-first (c .before .before .before .before .before .before .before .before .records .inv) (c .before .before .before .before .before .before .before .if1 .left) (c .before .before .before .before .before .section-of .ensures) (c .before .before .before .before .body-length .ensures) (c .before .before .before .head-fault .ensures) (c .before .before .if2 .left) (body-same _ _ _ (c .before .before .before .before .body-length .ensures)), c .fields-in .ensures)
+
+low-field-requires : tie.Need-low-field-requires Inv-loop μ-loop Inv-records μ-records
+low-field-requires c κs = search needs
+
+command-fault-requires : tie.Need-command-fault-requires Inv-loop μ-loop Inv-records μ-records
+command-fault-requires c κs =
+    let w = c .before .before .before .loop .inv .0 in
+    let a = c .before .before .before .before .before .before .before .before .before .before .before .before .before .before .before .pre .here in
+    let l = field-left _ _ _ (c .before .before .before .loop .inv .1) (c .before .before .loop-test .taken) (c .before .if3 .left) in
+    (terms-there w a, field-inside w a (l .0) (c .low-field .ensures ∙ l .1))
+
+width-requires : tie.Need-width-requires Inv-loop μ-loop Inv-records μ-records
+width-requires c κs = search needs
+
+add-offset : tie.Need-add-offset Inv-loop μ-loop Inv-records μ-records
+add-offset c =
+    let w = c .before .before .before .before .before .before .loop .inv .0 in
+    let a = c .before .before .before .before .before .before .before .before .before .before .before .before .before .before .before .before .before .before .pre .here in
+    let l = field-left _ _ _ (c .before .before .before .before .before .before .loop .inv .1) (c .before .before .before .before .before .loop-test .taken) (c .before .before .before .before .if3 .left) in
+    omega (arith, field-near w a (l .0) (c .before .before .before .low-field .ensures ∙ l .1), c .width .ensures)
+
+add-i : tie.Need-add-i Inv-loop μ-loop Inv-records μ-records
+add-i c = omega arith
+
+loop-less : tie.Need-loop-less Inv-loop μ-loop Inv-records μ-records
+loop-less c = omega arith
+
+loop-again : tie.Need-loop-again Inv-loop μ-loop Inv-records μ-records
+loop-again c =
+    let w = c .before .before .before .before .before .before .loop .inv in
+    let a = c .before .before .before .before .before .before .before .before .before .before .before .before .before .before .before .before .before .before .pre .here in
+    let l = field-left _ _ _ (c .before .before .before .before .before .before .loop .inv .1) (c .before .before .before .before .before .loop-test .taken) (c .before .before .before .before .if3 .left) in
+    (field-passes (w .0) a (l .0) (c .before .before .before .low-field .ensures ∙ l .1) (c .before .before .command-fault .ensures) (c .before .if4 .left) _ (c .width .ensures), field-next _ _ _ (w .1) (c .before .before .before .before .before .loop-test .taken))
+
+add-commands : tie.Need-add-commands Inv-loop μ-loop Inv-records μ-records
+add-commands c =
+    let r = c .before .before .before .before .before .before .before .before .before .before .before .before .before .pre in
+    let w = c .before .before .before .before .before .before .before .before .before .before .records .inv in
+    let a = w .carried (r .signers) (r .here) in
+    omega (arith, a .few, a .inside, a .short, w .commandsAre)
+
+records-less : tie.Need-records-less Inv-loop μ-loop Inv-records μ-records
+records-less c =
+    omega (arith, c .before .before .before .before .before .before .before .before .before .if1 .left)
+
+records-again : tie.Need-records-again Inv-loop μ-loop Inv-records μ-records
+records-again c =
+    let w = c .before .loop .inv in
+    let k = command-here (c .before .before .before .before .before .before .before .before .before .before .records .inv) (c .before .before .before .before .before .before .before .before .before .if1 .left) (c .before .before .before .before .before .before .before .section-of .ensures) (c .before .before .before .before .before .before .body-length .ensures) (c .before .before .before .before .before .head-fault .ensures) (c .before .before .before .before .if2 .left) in
+    let l = ⊎-elim (λ u. omega (arith, few-fields (getD (c .before .before .before .before .before .before .before .before .before .before .before .before .before .args .file .now) (c .before .before .before .before .before .before .before .before .before .before .records .at) 0), u .left)) (λ u. none-left _ _ _ (w .1) (u .0 .taken) (u .1 .taken)) (c .loop-test .came) in
+    standing-next (w .0) l k _ (let e = c .before .before .before .before .before .before .body-length .ensures in omega arith)
+
+returns : tie.Need-returns Inv-loop μ-loop Inv-records μ-records
+returns c = (standing-end (c .before .records .inv) (c .if1 .taken), refl)
+
+returns-2 : tie.Need-returns-2 Inv-loop μ-loop Inv-records μ-records
+returns-2 c = (standing-head (c .before .before .before .before .before .before .records .inv) (c .before .before .before .before .before .if1 .left) (c .before .before .before .section-of .ensures) (c .before .before .body-length .ensures) (c .before .head-fault .ensures) _ (c .if2 .taken), refl)
+
+returns-3 : tie.Need-returns-3 Inv-loop μ-loop Inv-records μ-records
+returns-3 c =
+    let w = c .before .before .before .before .before .loop .inv .0 in
+    let a = c .before .before .before .before .before .before .before .before .before .before .before .before .before .before .before .before .before .pre .here in
+    let l = field-left _ _ _ (c .before .before .before .before .before .loop .inv .1) (c .before .before .before .before .loop-test .taken) (c .before .before .before .if3 .left) in
+    (field-stops w a (l .0) (c .before .before .low-field .ensures ∙ l .1) (c .before .command-fault .ensures) _ (c .if4 .taken), refl)
+
+pub scan-commands-spec : {M : Type 1} → statement M
+scan-commands-spec =
+    tie.close
+    (tie.spec
+    Inv-loop
+    μ-loop
+    Inv-records
+    μ-records
+    records-holds
+    shared-slice-read-kind
+    add-start
+    section-of-requires
+    body-length-requires
+    sub-head-fault
+    head-fault-requires
+    add-end
+    sub-body
+    part-body-start
+    part-body-end
+    fields-in-requires
+    loop-holds
+    low-field-requires
+    command-fault-requires
+    width-requires
+    add-offset
+    add-i
+    loop-less
+    loop-again
+    add-commands
+    records-less
+    records-again
+    returns
+    returns-2
+    returns-3)

@@ -1,0 +1,48 @@
+-- What loading leaves beside the state: the tables by which a file's commands look things up.
+use mathlib.Core.Path.{_≡_}
+use mathlib.Core.Logic.{_⊎_}
+use mathlib.Core.Bool.{Bool}
+use mathlib.Core.List.{List}
+use Prim.Native.Nat.{ℕ, suc, _<_, _≤_}
+use lib.ListN.{length, getD, replicate}
+use Rattle.rules.specs.Limits.{fileLimit, partyLimit, stateBytes}
+use Rattle.rules.specs.File.{File, halfIn}
+use Rattle.rules.specs.Load.{load, loaded, refused}
+use Rattle.tables.specs.Regions.{tableWords, Tables, tablesIn}
+use Rattle.index.specs.Indexed.{passes}
+use Rattle.loader.specs.declared.Scanned.{Scanned}
+use Rattle.loader.specs.Describes.{signerOf, Describes}
+
+-- the tables of a file: the parties' signing keys, the private half of each public key, and no certificate in the ledger
+pub record Tabled (f : File) (v : Tables) : Type 0 where
+  pub signer : (p : ℕ) → p < partyLimit → v .signer p ≡ signerOf (f .setup) p
+  pub half : (test : ℕ → Bool) (k : ℕ) → k < length (f .terms) → halfIn f test k ≡ passes test (v .half k)
+  pub declared : (k : ℕ) → v .half k ≤ length (f .terms)
+  pub entry : (t : ℕ) → v .entry t ≡ 0
+  pub words : v .words ≡ tableWords
+
+-- what filling needs: a file that is not too long, and room for the state
+pub record FillReady (bs s : List ℕ) : Type 0 where
+  pub short : length bs ≤ fileLimit
+  pub room : length s ≡ stateBytes
+
+-- a file that loads: the state and the tables describe it
+pub record Filled (bs s tables : List ℕ) (r : Scanned) : Type 0 where
+  pub file : File
+  pub loads : load bs ≡ loaded file
+  pub signers : List ℕ
+  pub describes : Describes file bs s signers (r .tally) (length bs)
+  pub tabled : Tabled file (tablesIn tables)
+
+-- what filling leaves: that, or the refusal with the state cleared
+abbrev pub FillResult : List ℕ → List ℕ → List ℕ → Scanned → Type 0
+FillResult bs s tables r =
+    ((r .number ≡ 0) × Filled bs s tables r)
+    ⊎ ((m : ℕ) × (r .number ≡ suc m) × (load bs ≡ refused (suc m) (r .place)) × (s ≡ replicate stateBytes 0))
+
+-- the first n signing keys are written into the tables
+pub record Signed (signers : List ℕ) (v w : Tables) (n : ℕ) : Type 0 where
+  pub signer : (p : ℕ) → p < n → w .signer p ≡ getD signers p 0
+  pub half : w .half ≡ v .half
+  pub entry : w .entry ≡ v .entry
+  pub words : w .words ≡ v .words

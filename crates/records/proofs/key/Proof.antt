@@ -1,0 +1,30 @@
+use borrow.Author.Needs.{needs}
+use Rattle.records.specs.Keys.{keyOf}
+use Rattle.records.proofs.key.Statement.{statement}
+use Rattle.records.proofs.key.Tie as tie
+
+mul-high : tie.Need-mul-high
+mul-high c = search needs
+
+add-high : tie.Need-add-high
+add-high c = search needs
+
+mul-result : tie.Need-mul-result
+mul-result c = search needs
+
+add-result : tie.Need-add-result
+add-result c = search needs
+
+mul-result-2 : tie.Need-mul-result-2
+mul-result-2 c = search needs
+
+add-result-2 : tie.Need-add-result-2
+add-result-2 c = search needs
+
+returns : tie.Need-returns
+unfolding keyOf
+returns c = search needs
+
+pub key-spec : {M : Type 1} → statement M
+key-spec =
+    tie.close (tie.spec mul-high add-high mul-result add-result mul-result-2 add-result-2 returns)

@@ -1,0 +1,95 @@
+-- What a store does to the columns.
+--     region-at       a word inside a region
+--     region-put      a store inside a region is one to its column
+--     region-kept     one outside it changes nothing
+--     put-signer, put-half, put-entry     a store to a column leaves the others
+--     zeros-at, region-none, tables-none     each word of zeros is 0
+-- Assumes nothing.
+use mathlib.Core.Bool.{Bool, true, false, cond}
+use mathlib.Core.Path.{_≡_, refl}
+use mathlib.Core.List.{List}
+use Prim.Native.Nat.{ℕ, _+_, _<_, _≤_}
+use native.Mathlib.Omega.{arith}
+use lib.Dec.{eqb, ltb}
+use lib.ListN.{length, getD, set, replicate, length-set, length-replicate, getD-replicate, List·getD-eq-default}
+use lib.Seq.{getD-set-same, getD-set-other}
+use borrow.Author.Tests.{ltb-true, ltb-false, lt-ltb, eqb-true, eqb-false}
+use Rattle.rules.specs.Limits.{partyLimit, termLimit}
+use Rattle.rules.specs.State.{put}
+use Rattle.tables.specs.Regions.{signerStart, halfStart, entryStart, tableWords, region, tablesIn, withSigner, withHalf, withEntry}
+
+pub region-at : (xs : List ℕ) (start size i : ℕ) → i < size → getD xs (start + i) 0 ≡ region xs start size i
+unfolding region
+region-at xs start size i h = rw (lt-ltb i size h)
+
+module _ (xs : List ℕ) (start size i x : ℕ) (h : i < size) (room : start + size ≤ length xs) where
+  put-at : (u : ℕ) → region (set xs (start + i) x) start size u ≡ put (region xs start size) i x u
+  unfolding region put
+  put-at u = go (eqb u i) refl
+    where
+      go : (b : Bool) → eqb u i ≡ b → region (set xs (start + i) x) start size u ≡ cond b x (region xs start size u)
+      go true e = rw (eqb-true u i e, lt-ltb i size h) (getD-set-same xs (start + i) x 0 (omega arith))
+      go false e =
+          let n = eqb-false u i e in
+          rw (getD-set-other xs (start + i) (start + u) x 0 (λ q. n (omega arith)))
+
+  pub region-put : region (set xs (start + i) x) start size ≡ put (region xs start size) i x
+  region-put = λ j u. put-at u j
+
+module _ (xs : List ℕ) (start size at x : ℕ) (outside : (u : ℕ) → u < size → start + u ≡ at → ⊥) where
+  kept-at : (u : ℕ) → region (set xs at x) start size u ≡ region xs start size u
+  unfolding region
+  kept-at u = go (ltb u size) refl
+    where
+      go : (b : Bool) → ltb u size ≡ b → cond b (getD (set xs at x) (start + u) 0) 0 ≡ cond b (getD xs (start + u) 0) 0
+      go true e = getD-set-other xs at (start + u) x 0 (outside u (ltb-true u size e))
+      go false e = refl
+
+  pub region-kept : region (set xs at x) start size ≡ region xs start size
+  region-kept = λ j u. kept-at u j
+
+module _ (xs : List ℕ) (i x : ℕ) (size : length xs ≡ tableWords) where
+  pub put-signer : i < partyLimit → tablesIn (set xs (signerStart + i) x) ≡ withSigner (tablesIn xs) (put (tablesIn xs .signer) i x)
+  put-signer h = let at = signerStart + i in λ j. record {
+    words = length-set xs at x j;
+    signer = region-put xs signerStart partyLimit i x h (omega arith) j;
+    half = region-kept xs halfStart termLimit at x (omega arith) j;
+    entry = region-kept xs entryStart termLimit at x (omega arith) j;
+  }
+
+  pub put-half : i < termLimit → tablesIn (set xs (halfStart + i) x) ≡ withHalf (tablesIn xs) (put (tablesIn xs .half) i x)
+  put-half h = let at = halfStart + i in λ j. record {
+    words = length-set xs at x j;
+    signer = region-kept xs signerStart partyLimit at x (omega arith) j;
+    half = region-put xs halfStart termLimit i x h (omega arith) j;
+    entry = region-kept xs entryStart termLimit at x (omega arith) j;
+  }
+
+  pub put-entry : i < termLimit → tablesIn (set xs (entryStart + i) x) ≡ withEntry (tablesIn xs) (put (tablesIn xs .entry) i x)
+  put-entry h = let at = entryStart + i in λ j. record {
+    words = length-set xs at x j;
+    signer = region-kept xs signerStart partyLimit at x (omega arith) j;
+    half = region-kept xs halfStart termLimit at x (omega arith) j;
+    entry = region-put xs entryStart termLimit i x h (omega arith) j;
+  }
+
+-- every word of zeros is 0, inside and past their end
+pub zeros-at : (m i : ℕ) → getD {A = ℕ} (replicate m 0) i 0 ≡ 0
+zeros-at m i = go (ltb i m) refl
+  where
+    go : (b : Bool) → ltb i m ≡ b → getD {A = ℕ} (replicate m 0) i 0 ≡ 0
+    go true e = getD-replicate m i 0 0 (ltb-true i m e)
+    go false e = List·getD-eq-default (replicate m 0) 0 (omega (arith, length-replicate {A = ℕ} m 0, ltb-false i m e))
+
+pub region-none : (m start size i : ℕ) → region (replicate m 0) start size i ≡ 0
+unfolding region
+region-none m start size i = go (ltb i size)
+  where
+    go : (b : Bool) → cond b (getD {A = ℕ} (replicate m 0) (start + i) 0) 0 ≡ 0
+    go true = zeros-at m (start + i)
+    go false = refl
+
+pub tables-none : (xs : List ℕ) → xs ≡ replicate tableWords 0 → (t : ℕ) → (tablesIn xs .half t ≡ 0) × (tablesIn xs .entry t ≡ 0)
+tables-none xs e t =
+    let none : (start : ℕ) → region xs start termLimit t ≡ 0 = λ start. rw e (region-none tableWords start termLimit t) in
+    (none halfStart, none entryStart)
