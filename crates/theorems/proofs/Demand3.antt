@@ -16,7 +16,7 @@ use Rattle.rules.specs.Limits.{device, tpmMaker}
 use Rattle.rules.specs.Attributes.{has, fixedTpm}
 use Rattle.rules.specs.File.{File, holds, roleOf, subject, attributes, certifiedKey}
 use Rattle.rules.specs.Run.{reached}
-use Rattle.theorems.specs.Residency.{Known, Held, Family, families, DeskSigned, EntryAt, Listed, Endorsement, Path, ends, step, All, AllButLast, Sound, Resident, Demand3}
+use Rattle.theorems.specs.Residency.{Known, Held, Family, families, DeskSigned, EntryAt, Listed, Endorsement, Path, ends, step, Falls, toLast, toLower, All, AllButLast, Sound, Resident, Demand3}
 use Rattle.theorems.proofs.Loading.{Checked, checked}
 use Rattle.theorems.proofs.Terms.{pair-kinds, pair-attributes, pair-term, private-declared}
 use Rattle.theorems.proofs.Ledgers.{listed-found}
@@ -46,10 +46,11 @@ module _ (f : File) (ck : Checked f) (n : ℕ) where
   is-listed i e h = record { place = i; entry = e; here = h; same = refl }
 
   -- the path of an entry: its certificate, its parent and those above
-  record Chain (e : Entry) : Type 0 where
+  record Chain (i : ℕ) (e : Entry) : Type 0 where
     more : List ℕ
     isPath : Path f n (e .certificate) (e .certificate ∷ e .parent ∷ more)
     steps : suc (length more) ≡ e .depth
+    falls : Falls f n i (e .certificate ∷ e .parent ∷ more)
     tpm : ℕ
     isDevice : roleOf f tpm ≡ device
     held : Held f tpm (certifiedKey f (e .certificate))
@@ -59,13 +60,14 @@ module _ (f : File) (ck : Checked f) (n : ℕ) where
     subjectMore : AllButLast (λ c. subject f c ≡ Device serial) (e .parent ∷ more)
 
   -- one step to an endorsement certificate
-  chain-ends : (i : ℕ) (e : Entry) → EntryAt f n i e → e .depth ≡ 1 → Endorsement f (e .parent) → (m : ℕ) → subject f (e .certificate) ≡ Device m → Chain e
+  chain-ends : (i : ℕ) (e : Entry) → EntryAt f n i e → e .depth ≡ 1 → Endorsement f (e .parent) → (m : ℕ) → subject f (e .certificate) ≡ Device m → Chain i e
   chain-ends i e h d x m u =
       let g = good i e h .held in
       record {
         more = [];
         isPath = step (is-listed i e h) (entry-parent f ck n i e h) (ends x);
         steps = sym d;
+        falls = toLast (e, h, refl);
         tpm = g .tpm;
         isDevice = g .isDevice;
         held = g .first;
@@ -76,11 +78,12 @@ module _ (f : File) (ck : Checked f) (n : ℕ) where
       }
 
   -- one step to a certificate that is listed earlier
-  chain-more : (i j : ℕ) (e g : Entry) → EntryAt f n i e → EntryAt f n j g → g .certificate ≡ e .parent → e .depth ≡ suc (g .depth) → subject f (e .certificate) ≡ subject f (e .parent) → Chain g → Chain e
-  chain-more i j e g h k c d u r = record {
+  chain-more : (i j : ℕ) (e g : Entry) → EntryAt f n i e → EntryAt f n j g → j < i → g .certificate ≡ e .parent → e .depth ≡ suc (g .depth) → subject f (e .certificate) ≡ subject f (e .parent) → Chain j g → Chain i e
+  chain-more i j e g h k l c d u r = record {
     more = g .parent ∷ r .more;
     isPath = step (is-listed i e h) (entry-parent f ck n i e h) (subst (λ (x : ℕ). Path f n x (x ∷ g .parent ∷ r .more)) c (r .isPath));
     steps = let q = r .steps in omega arith;
+    falls = toLower (e, h, refl) l (subst (λ (x : ℕ). Falls f n j (x ∷ g .parent ∷ r .more)) c (r .falls));
     tpm = r .tpm;
     isDevice = r .isDevice;
     held = subst (λ (p : ℕ). Held f p (certifiedKey f (e .certificate))) one (x .first);
@@ -104,17 +107,17 @@ module _ (f : File) (ck : Checked f) (n : ℕ) where
           held-once (x .tpm) (r .tpm) (certifiedKey f (e .parent))
           (subst (λ (t : ℕ). has (attributes f (certifiedKey f t)) fixedTpm ≡ true) c (good j g k .fixed)) (x .second) parentHeld
 
-  chain : (k i : ℕ) → i < k → (e : Entry) → EntryAt f n i e → Chain e
+  chain : (k i : ℕ) → i < k → (e : Entry) → EntryAt f n i e → Chain i e
   chain zero i l e h = absurd (omega arith)
   chain (suc k) i l e h = go (good i e h .earlier) (chain k)
     where
       go : ((e .depth ≡ 1) × Endorsement f (e .parent) × ((m : ℕ) × (subject f (e .certificate) ≡ Device m)))
           ⊎ ((j : ℕ) × (g : Entry) × (j < i) × (getElem? (reached f n .ledger) j ≡ some g) × (g .certificate ≡ e .parent) × (e .depth ≡ suc (g .depth)) × (subject f (e .certificate) ≡ subject f (e .parent)))
-          → ((j : ℕ) → j < k → (g : Entry) → EntryAt f n j g → Chain g) → Chain e
+          → ((j : ℕ) → j < k → (g : Entry) → EntryAt f n j g → Chain j g) → Chain i e
       go (inl w) below = chain-ends i e h (w .0) (w .1) (w .2 .0) (w .2 .1)
       go (inr w) below =
           let l′ = w .2 in
-          chain-more i (w .0) e (w .1) h (w .3) (w .4) (w .5) (w .6) (below (w .0) (omega arith) (w .1) (w .3))
+          chain-more i (w .0) e (w .1) h (w .3) (w .2) (w .4) (w .5) (w .6) (below (w .0) (omega arith) (w .1) (w .3))
 
   sound : (i : ℕ) (e : Entry) → EntryAt f n i e → Sound f n i e
   sound i e h =
@@ -132,6 +135,7 @@ module _ (f : File) (ck : Checked f) (n : ℕ) where
         steps = ap suc (c .steps);
         least = g .least;
         most = g .most;
+        falls = c .falls;
         tpm = c .tpm;
         isDevice = c .isDevice;
         held = (c .held, c .heldMore);

@@ -20,3 +20,6 @@ pub mod History
 pub mod Demand3
 pub mod Laws
 pub mod Pieces
+pub mod Placed
+pub mod Rows
+pub mod Written

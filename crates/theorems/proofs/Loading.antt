@@ -23,7 +23,7 @@ use Rattle.theorems.proofs.LoadingSetup.{Setups, no-mem, none-yet, one-
 
 -- what loading checked of a command's fields
 abbrev pub Wellformed : File → Command → Type 0
-Wellformed f (hash p r) = (p < length (f .roles)) × (kind f r ≡ hashKind)
+Wellformed f (hash p r) = (p < length (f .roles)) × (kind f r ≡ hashKind) × (r < length (f .terms))
 Wellformed f (sign p r) = (p < length (f .roles)) × (kind f r ≡ signatureKind)
 Wellformed f (certify p r) = (p < length (f .roles)) × (kind f r ≡ signatureKind) × (kind f (message f r) ≡ attestKind)
 Wellformed f (makeCredential p r) = (p < length (f .roles)) × (kind f r ≡ credentialKind)
@@ -31,15 +31,15 @@ Wellformed f (activateCredential p r) = (p < length (f .roles)) × (kind f r ≡
 Wellformed f (makeIdevidRequest p r) = (p < length (f .roles)) × (kind f r ≡ idevidRequestKind)
 Wellformed f (makeLdevidRequest p r) = (p < length (f .roles)) × (kind f r ≡ ldevidRequestKind)
 Wellformed f (makePair p r) = (p < length (f .roles)) × (kind f r ≡ pairKind)
-Wellformed f (checkHash p h t) = Unit {0}
-Wellformed f (checkSignature p t k) = Unit {0}
-Wellformed f (checkCertificate p c k) = Unit {0}
-Wellformed f (checkAttributes p k a) = Unit {0}
-Wellformed f (send p q t) = (p < length (f .roles)) × (q < length (f .roles))
+Wellformed f (checkHash p h t) = (p < length (f .roles)) × (kind f h ≡ hashKind) × (h < length (f .terms)) × (t < length (f .terms))
+Wellformed f (checkSignature p t k) = (p < length (f .roles)) × (kind f t ≡ signatureKind) × (kind f k ≡ publicKeyKind)
+Wellformed f (checkCertificate p c k) = (p < length (f .roles)) × (kind f c ≡ certificateKind) × (kind f k ≡ publicKeyKind)
+Wellformed f (checkAttributes p k a) = (p < length (f .roles)) × (kind f k ≡ publicKeyKind)
+Wellformed f (send p q t) = (p < length (f .roles)) × (q < length (f .roles)) × (t < length (f .terms))
 Wellformed f (selfIssue p r) = (p < length (f .roles)) × (kind f r ≡ certificateKind)
-Wellformed f (challenge p q r) = (p < length (f .roles)) × (kind f r ≡ credentialKind)
+Wellformed f (challenge p q r) = (p < length (f .roles)) × (kind f r ≡ credentialKind) × (q < length (f .terms))
 Wellformed f (issueIak p q c r) = (p < length (f .roles)) × (q < length (f .roles)) × (kind f c ≡ credentialKind) × (kind f r ≡ certificateKind)
-Wellformed f (issueLak p q r) = (p < length (f .roles)) × (kind f r ≡ certificateKind)
+Wellformed f (issueLak p q r) = (p < length (f .roles)) × (kind f r ≡ certificateKind) × (q < length (f .terms))
 
 -- what holds of every file that loads
 pub record Checked (f : File) : Type 0 where
@@ -77,49 +77,7 @@ CommandPassed f bs k = AllPassed f (fieldsOf k) 0 bs → Wellformed f (commandAt
 module _ (f : File) (bs : List ℕ) where
   each-command : Each (CommandPassed f bs) 17 0x30
   unfolding fieldsOf sectionOf commandAt
-  each-command = (
-    (λ h. (h .0, h .1 .0 .1)),
-    (
-      (λ h. (h .0, h .1 .0 .1)),
-      (
-        (λ h. (h .0, h .1 .0 .0, h .1 .0 .1)),
-        (
-          (λ h. (h .0, h .1 .0 .1)),
-          (
-            (λ h. (h .0, h .1 .0 .1)),
-            (
-              (λ h. (h .0, h .1 .0 .1)),
-              (
-                (λ h. (h .0, h .1 .0 .1)),
-                (
-                  (λ h. (h .0, h .1 .0 .1)),
-                  (
-                    (λ h. tt),
-                    (
-                      (λ h. tt),
-                      (
-                        (λ h. tt),
-                        (
-                          (λ h. tt),
-                          (
-                            (λ h. (h .0, h .1 .0)),
-                            (
-                              (λ h. (h .0, h .1 .0 .1)),
-                              ((λ h. (h .0, h .1 .1 .0 .1)), ((λ h. (h .0, h .1 .0, h .1 .1 .0 .1, h .1 .1 .1 .0 .1)), ((λ h. (h .0, h .1 .1 .0 .1)), tt))),
-                            ),
-                          ),
-                        ),
-                      ),
-                    ),
-                  ),
-                ),
-              ),
-            ),
-          ),
-        ),
-      ),
-    ),
-  )
+  each-command = ((λ h. (h .0, h .1 .0 .1, h .1 .0 .0)), ((λ h. (h .0, h .1 .0 .1)), ((λ h. (h .0, h .1 .0 .0, h .1 .0 .1)), ((λ h. (h .0, h .1 .0 .1)), ((λ h. (h .0, h .1 .0 .1)), ((λ h. (h .0, h .1 .0 .1)), ((λ h. (h .0, h .1 .0 .1)), ((λ h. (h .0, h .1 .0 .1)), ((λ h. (h .0, h .1 .0 .1, h .1 .0 .0, h .1 .1 .0)), ((λ h. (h .0, h .1 .0 .1, h .1 .1 .0 .1)), ((λ h. (h .0, h .1 .0 .1, h .1 .1 .0 .1)), ((λ h. (h .0, h .1 .0 .1)), ((λ h. (h .0, h .1 .0, h .1 .1 .0)), ((λ h. (h .0, h .1 .0 .1)), ((λ h. (h .0, h .1 .1 .0 .1, h .1 .0)), ((λ h. (h .0, h .1 .0, h .1 .1 .0 .1, h .1 .1 .1 .0 .1)), ((λ h. (h .0, h .1 .1 .0 .1, h .1 .0)), tt)))))))))))))))))
 
   command-passed : (k : ℕ) → sectionOf k ≡ commandSection → fieldsFault f (fieldsOf k) 0 bs ≡ 0 → Wellformed f (commandAt k bs)
   unfolding sectionOf

@@ -21,7 +21,7 @@ abbrev pub Clear : ℕ → List Test → Type 0
 Clear n [] = Unit {0}
 Clear n (x ∷ xs) = (x .refusal ≡ n → x .passes ≡ true) × Clear n xs
 
-abbrev among : ℕ → List ℕ → Bool
+abbrev pub among : ℕ → List ℕ → Bool
 among n [] = false
 among n (m ∷ ms) = eqb m n || among n ms
 

@@ -1,1 +1,2 @@
 pub mod Residency
+pub mod Written

@@ -114,6 +114,16 @@ pub data Path (f : File) (n : ℕ) : ℕ → List ℕ → Type 0 where
   ends : {t : ℕ} → Endorsement f t → Path f n t (t ∷ [])
   step : {t g : ℕ} {more : List ℕ} → Listed f n t → Parent f n t g → Path f n g more → Path f n t (t ∷ more)
 
+-- the certificate at a place of the ledger
+abbrev pub CertificateAt : File → ℕ → ℕ → ℕ → Type 0
+CertificateAt f n i t = (e : Entry) × EntryAt f n i e × (e .certificate ≡ t)
+
+-- The ledger places fall along a path: its first certificate is listed at place i, and each next one at a lower place than the one before
+-- it, but for the last, an endorsement certificate, which need not be listed.
+pub data Falls (f : File) (n : ℕ) : ℕ → List ℕ → Type 0 where
+  toLast : {i t g : ℕ} → CertificateAt f n i t → Falls f n i (t ∷ g ∷ [])
+  toLower : {i j t : ℕ} {more : List ℕ} → CertificateAt f n i t → j < i → Falls f n j more → Falls f n i (t ∷ more)
+
 abbrev pub All : (ℕ → Type 0) → List ℕ → Type 0
 All P [] = Unit {0}
 All P (x ∷ xs) = P x × All P xs
@@ -141,6 +151,8 @@ pub record Sound (f : File) (n i : ℕ) (e : Entry) : Type 0 where
   pub steps : length path ≡ suc (e .depth)
   pub least : 1 ≤ e .depth
   pub most : e .depth ≤ depthLimit
+  -- each certificate of the path, from this place on, is listed earlier than the one before it
+  pub falls : Falls f n i path
   -- the keys certified on the path are held by one device's TPM
   pub tpm : ℕ
   pub isDevice : roleOf f tpm ≡ device
