@@ -51,13 +51,13 @@ cast-links : tie.Need-cast-links
 cast-links c = search needs
 
 mul-links : tie.Need-mul-links
-mul-links c = omega (arith, free-inside (sought (c .before .before .before .before .before)) (c .before .before .before .before .if1 .left))
+mul-links c = let d = c .before .before .before .before in omega (arith, free-inside (sought (d .before)) (d .if1 .left))
 
 element-write-links : tie.Need-element-write-links
-element-write-links c = omega (arith, free-inside (sought (c .before .before .before .before .before)) (c .before .before .before .before .if1 .left))
+element-write-links c = let d = c .before .before .before .before in omega (arith, free-inside (sought (d .before)) (d .if1 .left))
 
 cast-note-half : tie.Need-cast-note-half
-cast-note-half c = omega (arith, other-most (sought (c .before .before .before .before .before .before .before .before)) (c .before .before .before .before .before .before .before .if1 .left))
+cast-note-half c = let d = c .before .before .before .before .before .before .before in omega (arith, other-most (sought (d .before)) (d .if1 .left))
 
 note-half-requires : tie.Need-note-half-requires
 note-half-requires c κs = search needs
@@ -73,8 +73,9 @@ cast-note-half-2 c = search needs
 
 note-half-requires-2 : tie.Need-note-half-requires-2
 note-half-requires-2 c κs =
-    let m = other-most (sought (c .before .before .before .before .before .before .before .before)) (c .before .before .before .before .before .before .before .if1 .left) in
-    (start (c .before .before .before .before .before .before .before .before) .pre .indexed .words, omega arith)
+    let d = c .before .before .before .before .before .before .before in
+    let m = other-most (sought (d .before)) (d .if1 .left) in
+    (start (d .before) .pre .indexed .words, omega arith)
 
 same-length-2 : tie.Need-same-length-2
 same-length-2 c = search needs
@@ -82,8 +83,9 @@ same-length-2 c = search needs
 returns-2 : tie.Need-returns-2
 unfolding refuseUnless
 returns-2 c =
-    let w = sought (c .before .before .before .before .before .before .before .before .before) in
-    let z = c .before .before .before .before .before .before .before .before .if1 .left in
+    let d = c .before .before .before .before .before .before .before .before in
+    let w = sought (d .before) in
+    let z = d .if1 .left in
     let p = c .before .before .before .before .before .before .note-place .ensures in
     (rw (allowed w z), (p, λ _. entered-public w z p refl refl (c .before .before .before .if2 .taken) (c .before .before .if3 .taken) (c .note-half .ensures)))
 
@@ -93,8 +95,9 @@ same-length-3 c = search needs
 returns-3 : tie.Need-returns-3
 unfolding refuseUnless
 returns-3 c =
-    let w = sought (c .before .before .before .before .before .before .before .before .before) in
-    let z = c .before .before .before .before .before .before .before .before .if1 .left in
+    let d = c .before .before .before .before .before .before .before .before in
+    let w = sought (d .before) in
+    let z = d .if1 .left in
     let p = c .before .before .before .before .before .before .note-place .ensures in
     (rw (allowed w z), (p, λ _. entered-private w z p refl refl (c .before .before .before .if2 .taken) (c .before .before .if3 .left) (c .note-half2 .ensures)))
 
@@ -104,8 +107,9 @@ same-length-4 c = search needs
 returns-4 : tie.Need-returns-4
 unfolding refuseUnless
 returns-4 c =
-    let w = sought (c .before .before .before .before .before .before) in
-    let z = c .before .before .before .before .before .if1 .left in
+    let d = c .before .before .before .before .before in
+    let w = sought (d .before) in
+    let z = d .if1 .left in
     let p = c .before .before .before .note-place .ensures in
     (rw (allowed w z), (p, λ _. entered-none w z p refl refl (c .if2 .left) refl))
 

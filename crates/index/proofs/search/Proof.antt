@@ -1,6 +1,8 @@
 use mathlib.Core.Logic.{⊎-elim}
-use Prim.Native.Nat.{_-_}
+use mathlib.Core.Path.{_≡_}
+use Prim.Native.Nat.{_-_, _≤_}
 use native.Mathlib.Omega.{arith}
+use Rattle.rules.specs.Limits.{termLimit}
 use Rattle.state.specs.View.{view}
 use Rattle.checks.proofs.Records.{stands}
 use Rattle.index.specs.Tree.{bucketOf, below, yet}
@@ -8,8 +10,6 @@ use Rattle.index.specs.Indexed.{sameThere}
 use Rattle.index.proofs.Walk.{Walking, walk-most, below-falls, walk-start, walk-ends, walk-past, walk-same, walk-noted, walk-other}
 use Rattle.index.proofs.search.Statement.{statement}
 use Rattle.index.proofs.search.Tie as tie
-use Rattle.index.proofs.search.Reads as reads
-use Rattle.index.proofs.search.Lts as lts
 
 abbrev Inv-loop : tie.InvT-loop
 Inv-loop file state links keys tables kind other key terms slot₀ rest₀ half₀ e₀ slot rest half e =
@@ -17,6 +17,16 @@ Inv-loop file state links keys tables kind other key terms slot₀ rest₀ half�
 
 abbrev μ-loop : tie.MeasureT-loop
 μ-loop file state links keys tables kind other key terms slot₀ rest₀ half₀ e₀ slot rest half e = yet terms e
+
+-- in a turn: the arguments, and the entry, which is one of a term
+abbrev start : tie.In-loop Inv-loop μ-loop → tie.Start Inv-loop μ-loop
+start c = c .before .before .before .before .before
+
+some-entry : (c : tie.In-loop Inv-loop μ-loop) → c .before .loop .e ≡ 0 → ⊥
+some-entry c q = omega (arith, c .loop-test .taken)
+
+few : (c : tie.In-loop Inv-loop μ-loop) → c .before .loop .e ≤ termLimit
+few c = omega (arith, walk-most (start c .pre .1 .tree) (c .before .loop .inv), start c .pre .0 .few)
 
 mul-e : tie.Need-mul-e Inv-loop μ-loop
 mul-e c = omega arith
@@ -34,47 +44,54 @@ sub-t : tie.Need-sub-t Inv-loop μ-loop
 sub-t c = omega (arith, c .loop-test .taken)
 
 mul-if1 : tie.Need-mul-if1 Inv-loop μ-loop
-mul-if1 c = omega (arith, walk-most (c .before .before .before .before .before .pre .1 .tree) (c .before .loop .inv), c .before .before .before .before .before .pre .0 .few)
+mul-if1 c = omega (arith, few c)
 
 element-copy-out-if1 : tie.Need-element-copy-out-if1 Inv-loop μ-loop
-element-copy-out-if1 c = omega (arith, walk-most (c .before .before .before .before .before .pre .1 .tree) (c .before .loop .inv), c .before .before .before .before .before .pre .0 .few)
+element-copy-out-if1 c = omega (arith, few c)
 
 kind-there-requires : tie.Need-kind-there-requires Inv-loop μ-loop
 kind-there-requires c κs =
-    let p = c .before .before .before .before .before .before .before .pre in
-    let w = walk-most (p .1 .tree) (c .before .before .before .loop .inv) in
-    let z = c .before .before .loop-test .taken in
-    stands (p .0) _ (omega arith)
+    let d = c .before .before in
+    let l = walk-most (start d .pre .1 .tree) (d .before .loop .inv) in
+    let z = some-entry d in
+    stands (start d .pre .0) _ (omega arith)
 
 returns : tie.Need-returns Inv-loop μ-loop
-returns c = walk-same (c .before .before .before .before .before .before .before .before .before .pre .1) _ _ _ (c .before .before .before .before .before .loop .inv) (c .before .before .before .before .loop-test .taken) (c .before .before .if1 .taken) (c .before .kind-there .ensures) (c .if2 .taken)
+returns c =
+    let d = c .before .before .before .before in
+    walk-same (start d .pre .1) _ _ _ (d .before .loop .inv) (some-entry d) (c .before .before .if1 .taken) (c .before .kind-there .ensures) (c .if2 .taken)
 
 mul-slot : tie.Need-mul-slot Inv-loop μ-loop
-mul-slot c = omega (arith, walk-most (c .before .before .before .before .before .before .before .pre .1 .tree) (c .before .before .before .loop .inv), c .before .before .before .before .before .before .before .pre .0 .few)
+mul-slot c = omega (arith, few (c .before .before))
 
 add-slot : tie.Need-add-slot Inv-loop μ-loop
-add-slot c = omega (arith, walk-most (c .before .before .before .before .before .before .before .pre .1 .tree) (c .before .before .before .loop .inv), c .before .before .before .before .before .before .before .pre .0 .few)
+add-slot c = omega (arith, few (c .before .before))
 
 add-slot-2 : tie.Need-add-slot-2 Inv-loop μ-loop
-add-slot-2 c = omega (arith, walk-most (c .before .before .before .before .before .before .before .pre .1 .tree) (c .before .before .before .loop .inv), c .before .before .before .before .before .before .before .pre .0 .few)
+add-slot-2 c = omega (arith, few (c .before .before))
 
 mul-e-2 : tie.Need-mul-e-2 Inv-loop μ-loop
-mul-e-2 c = omega (arith, walk-most (c .before .before .before .before .before .before .before .pre .1 .tree) (c .before .before .before .loop .inv), c .before .before .before .before .before .before .before .pre .0 .few)
+mul-e-2 c = omega (arith, few (c .before .before))
 
 element-copy-out-e-2 : tie.Need-element-copy-out-e-2 Inv-loop μ-loop
-element-copy-out-e-2 c = omega (arith, walk-most (c .before .before .before .before .before .before .before .pre .1 .tree) (c .before .before .before .loop .inv), c .before .before .before .before .before .before .before .pre .0 .few)
+element-copy-out-e-2 c = omega (arith, few (c .before .before))
 
 cast-e-2 : tie.Need-cast-e-2 Inv-loop μ-loop
-cast-e-2 c = omega (arith, c .before .before .before .before .before .before .before .before .pre .1 .tree .most (below (c .before .before .before .before .loop .e - 1) (c .before .before .before .before .loop .rest)), c .before .before .before .before .before .before .before .before .pre .0 .few)
+cast-e-2 c =
+    let d = c .before .before .before in
+    omega (arith, start d .pre .1 .tree .most (below (d .before .loop .e - 1) (d .before .loop .rest)), start d .pre .0 .few)
 
 loop-less : tie.Need-loop-less Inv-loop μ-loop
-loop-less c = below-falls (c .before .before .before .before .before .before .before .before .pre .1 .tree) (c .before .before .before .before .loop .inv) (c .before .before .before .loop-test .taken)
+loop-less c =
+    let d = c .before .before .before in
+    below-falls (start d .pre .1 .tree) (d .before .loop .inv) (some-entry d)
 
 loop-again : tie.Need-loop-again Inv-loop μ-loop
 loop-again c =
-    let p = c .before .before .before .before .before .before .before .before .pre .1 in
-    let w = c .before .before .before .before .loop .inv in
-    let z = c .before .before .before .loop-test .taken in
+    let d = c .before .before .before in
+    let p = start d .pre .1 in
+    let w = d .before .loop .inv in
+    let z = some-entry d in
     ⊎-elim
     (λ a. walk-noted p _ _ _ w z (a .0 .taken) (a .1 .ensures) (a .2 .left) (a .3 .taken) (a .4))
     (⊎-elim
@@ -83,7 +100,7 @@ loop-again c =
     (c .before .if1 .came)
 
 returns-2 : tie.Need-returns-2 Inv-loop μ-loop
-returns-2 c = walk-ends (c .before .before .before .before .before .pre .1) _ _ _ (c .before .loop .inv) (c .loop-test .left)
+returns-2 c = walk-ends (c .before .before .before .before .before .pre .1) _ _ _ (c .before .loop .inv) (omega (arith, c .loop-test .left))
 
 pub search-spec : {M : Type 1} → statement M
 search-spec =

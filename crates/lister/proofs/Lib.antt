@@ -1,0 +1,4 @@
+pub mod Digits
+pub mod Writing
+pub mod Parts
+pub mod Room

@@ -1,0 +1,42 @@
+-- How many bytes the lines take.
+--     refusal-short, entry-short, total-short     the longest lines
+--     listed     a text that fits, written from the start on
+-- Assumes nothing.
+use mathlib.Core.Path.{_≡_, ap, _∙_}
+use mathlib.Core.List.{List, [], _∷_, _++_}
+use Prim.Native.Nat.{ℕ, _+_, _^_, _<_, _≤_}
+use native.Mathlib.Omega.{arith}
+use lib.ListN.{length, take, drop, length-append}
+use lib.Seq.{sets-eq, take-at, drop-at}
+use Rattle.rules.specs.Limits.{commandLimit, termLimit}
+use Rattle.rules.specs.Listing.{decimal, line, numbers}
+use Rattle.lister.specs.Text.{refusalBytes, entryBytes, totalBytes, listingBytes, Written, Listed}
+use Rattle.lister.proofs.Digits.{decimal-width}
+
+line-two : (letter a b : ℕ) → length (line letter (a ∷ b ∷ [])) ≡ 4 + length (decimal a) + length (decimal b)
+unfolding line numbers
+line-two letter a b = simp length-append (omega arith)
+
+line-three : (letter a b c : ℕ) → length (line letter (a ∷ b ∷ c ∷ [])) ≡ 5 + length (decimal a) + length (decimal b) + length (decimal c)
+unfolding line numbers
+line-three letter a b c = simp length-append (omega arith)
+
+pub refusal-short : (i x : ℕ) → i < commandLimit → x < 2 ^ 8 → length (line 0x52 (i ∷ x ∷ [])) ≤ refusalBytes
+refusal-short i x h k = omega (arith, line-two 0x52 i x, decimal-width 3 i (omega arith), decimal-width 2 x (omega arith))
+
+pub entry-short : (a b c : ℕ) → a < 2 ^ 16 → b < 2 ^ 16 → c < 2 ^ 16 → length (line 0x49 (a ∷ b ∷ c ∷ [])) ≤ entryBytes
+entry-short a b c h k l = omega (arith, line-three 0x49 a b c, decimal-width 4 a (omega arith), decimal-width 4 b (omega arith), decimal-width 4 c (omega arith))
+
+pub total-short : (a b c : ℕ) → a < 2 ^ 32 → b < 2 ^ 32 → c ≤ termLimit → length (line 0x54 (a ∷ b ∷ c ∷ [])) ≤ totalBytes
+total-short a b c h k l = omega (arith, line-three 0x54 a b c, decimal-width 9 a (omega arith), decimal-width 9 b (omega arith), decimal-width 3 c (omega arith))
+
+pub listed : {before text after : List ℕ} {next : ℕ} → Written before 0 text after next → next ≤ listingBytes → listingBytes ≤ length before → Listed text before after next
+listed {before} {text} {after} {next} w h room =
+    let e : length text ≡ next = omega (arith, w .place) in
+    let z : 0 + length text ≡ next = omega arith in
+    let s : after ≡ text ++ drop next before = w .bytes ∙ sets-eq text before 0 (omega arith) ∙ ap (λ (k : ℕ). text ++ drop k before) z in
+    record {
+      inside = h;
+      front = ap (λ (l : List ℕ). take next l) s ∙ take-at text (drop next before) next e;
+      rest = ap (λ (l : List ℕ). drop next l) s ∙ drop-at text (drop next before) next e;
+    }

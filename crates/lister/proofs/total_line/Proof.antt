@@ -1,0 +1,20 @@
+use native.Mathlib.Omega.{arith}
+use borrow.Author.Needs.{needs}
+use Rattle.lister.proofs.Room.{total-short}
+use Rattle.lister.proofs.total_line.Statement.{statement}
+use Rattle.lister.proofs.total_line.Tie as tie
+
+line-of-three-requires : tie.Need-line-of-three-requires
+line-of-three-requires c κs = search needs
+
+same-length : tie.Need-same-length
+same-length c = search needs
+
+returns : tie.Need-returns
+returns c =
+    let s = c .before .before .before .before .before in
+    let w = c .before .before .line-of-three .ensures .0 in
+    (w, omega (arith, w .place, total-short (s .args .accepted) (s .args .refused) (s .args .issued) (omega arith) (omega arith) (s .pre .0)))
+
+pub total-line-spec : {M : Type 1} → statement M
+total-line-spec = tie.close (tie.spec line-of-three-requires same-length returns)

@@ -1,0 +1,223 @@
+// The listing as bytes.
+ghost use mathlib.Core.Path.{_≡_};
+ghost use mathlib.Core.List.{[], _∷_};
+ghost use Prim.Native.Nat.{_+_, _*_, _^_, _<_, _≤_};
+ghost use lib.ListN.{length, take};
+ghost use Rattle.rules.specs.Limits.{commandLimit, termLimit};
+ghost use Rattle.rules.specs.Listing.{decimal, line, refusalLines, entryLines};
+ghost use Rattle.lister.specs.Text.{digitLimit, numberRoom, lineRoom, refusalBytes, entryBytes, totalBytes, listingBytes, Written, Listed, Formed};
+ghost use Rattle.lister.specs.Parts.{outcomeLine, entryLine, entriesIn, runLines, Listable};
+
+// Words of a ledger, 3 an entry: certificate, parent, depth.
+pub const LEDGER_WORDS: usize = 3 * rules::TERM_LIMIT;
+
+// Bytes that are enough for the listing of every file.
+pub const LISTING_BYTES: usize = rules::FILE_LIMIT / 4 * 11 + rules::TERM_LIMIT * 20 + 29;
+
+// Digits of a number of 64 bits at most.
+const DIGITS: usize = 20;
+
+// One byte, where there is room for it.
+fn byte_into(out: &mut [u8], at: usize, b: u8) -> usize
+    requires { ⌜ at + 1 < 2 ^ 64 ⌝ }
+    ensures { λ r. ⌜ Written (now (out .entry)) at (b ∷ []) (now (out .exit)) r ⌝ }
+{
+    if at >= out.len() {
+        return at + 1;
+    }
+    out[at] = b;
+    at + 1
+}
+
+// The decimal digits of a number, at the end of a buffer; answers where they start.
+fn form_digits(buffer: &mut [u8; DIGITS], x: u64) -> usize
+    requires { ⌜ length (now buffer) ≡ digitLimit ⌝ }
+    ensures { λ r. ⌜ Formed x (now (buffer .exit)) r ⌝ }
+{
+    let mut left = x;
+    let mut from: usize = 19;
+    while left >= 10 {
+        buffer[from] = 48 + (left % 10) as u8;
+        left /= 10;
+        from -= 1;
+    }
+    buffer[from] = 48 + left as u8;
+    from
+}
+
+// The decimal digits of a number.
+pub fn decimal_into(out: &mut [u8], at: usize, x: u64) -> usize
+    requires { ⌜ at + digitLimit < 2 ^ 64 ⌝ }
+    ensures { λ r. ⌜ Written (now (out .entry)) at (decimal x) (now (out .exit)) r ⌝ }
+{
+    let mut buffer = [0u8; DIGITS];
+    let mut i = form_digits(&mut buffer, x);
+    let mut next = at;
+    while i < DIGITS {
+        next = byte_into(out, next, buffer[i]);
+        i += 1;
+    }
+    next
+}
+
+// A number with a space in front.
+fn number_into(out: &mut [u8], at: usize, x: u64) -> usize
+    requires { ⌜ at + numberRoom < 2 ^ 64 ⌝ }
+    ensures { λ r. ⌜ Written (now (out .entry)) at (32 ∷ decimal x) (now (out .exit)) r ⌝ }
+    ensures { λ r. ⌜ r ≤ at + numberRoom ⌝ }
+{
+    let next = byte_into(out, at, b' ');
+    decimal_into(out, next, x)
+}
+
+// A line: its letter and two numbers.
+fn line_of_two(out: &mut [u8], at: usize, letter: u8, a: u64, b: u64) -> usize
+    requires { ⌜ at + lineRoom < 2 ^ 64 ⌝ }
+    ensures { λ r. ⌜ Written (now (out .entry)) at (line letter (a ∷ b ∷ [])) (now (out .exit)) r ⌝ }
+    ensures { λ r. ⌜ r ≤ at + lineRoom ⌝ }
+{
+    let first = byte_into(out, at, letter);
+    let second = number_into(out, first, a);
+    let end = number_into(out, second, b);
+    byte_into(out, end, b'\n')
+}
+
+// A line: its letter and three numbers.
+fn line_of_three(out: &mut [u8], at: usize, letter: u8, a: u64, b: u64, c: u64) -> usize
+    requires { ⌜ at + lineRoom < 2 ^ 64 ⌝ }
+    ensures { λ r. ⌜ Written (now (out .entry)) at (line letter (a ∷ b ∷ c ∷ [])) (now (out .exit)) r ⌝ }
+    ensures { λ r. ⌜ r ≤ at + lineRoom ⌝ }
+{
+    let first = byte_into(out, at, letter);
+    let second = number_into(out, first, a);
+    let third = number_into(out, second, b);
+    let end = number_into(out, third, c);
+    byte_into(out, end, b'\n')
+}
+
+// "R ordinal number".
+fn refusal_line(out: &mut [u8], at: usize, ordinal: usize, number: u8) -> usize
+    requires { ⌜ (ordinal < commandLimit) × (at + lineRoom < 2 ^ 64) ⌝ }
+    ensures { λ r. ⌜ Written (now (out .entry)) at (line 0x52 (ordinal ∷ number ∷ [])) (now (out .exit)) r ⌝ }
+    ensures { λ r. ⌜ r ≤ at + refusalBytes ⌝ }
+{
+    line_of_two(out, at, b'R', ordinal as u64, number as u64)
+}
+
+// "I certificate parent depth".
+fn entry_line(out: &mut [u8], at: usize, certificate: u16, parent: u16, depth: u16) -> usize
+    requires { ⌜ at + lineRoom < 2 ^ 64 ⌝ }
+    ensures { λ r. ⌜ Written (now (out .entry)) at (line 0x49 (certificate ∷ parent ∷ depth ∷ [])) (now (out .exit)) r ⌝ }
+    ensures { λ r. ⌜ r ≤ at + entryBytes ⌝ }
+{
+    line_of_three(
+        out,
+        at,
+        b'I',
+        certificate as u64,
+        parent as u64,
+        depth as u64,
+    )
+}
+
+// "T accepted refused issued".
+fn total_line(out: &mut [u8], at: usize, accepted: u32, refused: u32, issued: usize) -> usize
+    requires { ⌜ (issued ≤ termLimit) × (at + lineRoom < 2 ^ 64) ⌝ }
+    ensures { λ r. ⌜ Written (now (out .entry)) at (line 0x54 (accepted ∷ refused ∷ issued ∷ [])) (now (out .exit)) r ⌝ }
+    ensures { λ r. ⌜ r ≤ at + totalBytes ⌝ }
+{
+    line_of_three(
+        out,
+        at,
+        b'T',
+        accepted as u64,
+        refused as u64,
+        issued as u64,
+    )
+}
+
+// "F number place".
+fn fault_line(out: &mut [u8], at: usize, number: u32, place: u32) -> usize
+    requires { ⌜ at + lineRoom < 2 ^ 64 ⌝ }
+    ensures { λ r. ⌜ Written (now (out .entry)) at (line 0x46 (number ∷ place ∷ [])) (now (out .exit)) r ⌝ }
+    ensures { λ r. ⌜ r ≤ at + lineRoom ⌝ }
+{
+    line_of_two(out, at, b'F', number as u64, place as u64)
+}
+
+// The line of a command's outcome, if it was refused.
+fn outcome_line(out: &mut [u8], at: usize, ordinal: usize, number: u8) -> usize
+    requires { ⌜ (ordinal < commandLimit) × (at + lineRoom < 2 ^ 64) ⌝ }
+    ensures { λ r. ⌜ Written (now (out .entry)) at (outcomeLine ordinal number) (now (out .exit)) r ⌝ }
+    ensures { λ r. ⌜ r ≤ at + refusalBytes ⌝ }
+{
+    if number == 0 {
+        return at;
+    }
+    refusal_line(out, at, ordinal, number)
+}
+
+// The lines of the refused among the first n commands.
+pub fn refusals_into(out: &mut [u8], at: usize, outcomes: &[u8], n: usize) -> usize
+    requires { ⌜ (n ≤ length (now outcomes)) × (n ≤ commandLimit) × (at + lineRoom * n < 2 ^ 64) ⌝ }
+    ensures { λ r. ⌜ Written (now (out .entry)) at (refusalLines 0 (take n (now (outcomes .entry)))) (now (out .exit)) r ⌝ }
+    ensures { λ r. ⌜ r ≤ at + refusalBytes * n ⌝ }
+{
+    let mut next = at;
+    let mut i: usize = 0;
+    while i < n {
+        next = outcome_line(out, next, i, outcomes[i]);
+        i += 1;
+    }
+    next
+}
+
+// The line of the entry at a place of the ledger.
+fn ledger_line(out: &mut [u8], at: usize, ledger: &[u16; LEDGER_WORDS], i: usize) -> usize
+    requires { ⌜ (i < termLimit) × (at + lineRoom < 2 ^ 64) ⌝ }
+    ensures { λ r. ⌜ Written (now (out .entry)) at (entryLine (now (ledger .entry)) i) (now (out .exit)) r ⌝ }
+    ensures { λ r. ⌜ r ≤ at + entryBytes ⌝ }
+{
+    entry_line(out, at, ledger[3 * i], ledger[3 * i + 1], ledger[3 * i + 2])
+}
+
+// The lines of a ledger's entries.
+pub fn entries_into(out: &mut [u8], at: usize, ledger: &[u16; LEDGER_WORDS], issued: usize) -> usize
+    requires { ⌜ (issued ≤ termLimit) × (at + lineRoom * issued < 2 ^ 64) ⌝ }
+    ensures { λ r. ⌜ Written (now (out .entry)) at (entryLines (entriesIn (now (ledger .entry)) issued)) (now (out .exit)) r ⌝ }
+    ensures { λ r. ⌜ r ≤ at + entryBytes * issued ⌝ }
+{
+    let mut next = at;
+    let mut i: usize = 0;
+    while i < issued {
+        next = ledger_line(out, next, ledger, i);
+        i += 1;
+    }
+    next
+}
+
+// The listing of a run: the outcomes of its commands, the ledger and the totals. Answers how many bytes it has.
+pub fn list_run(
+    out: &mut [u8],
+    outcomes: &[u8],
+    commands: usize,
+    ledger: &[u16; LEDGER_WORDS],
+    issued: usize,
+    accepted: u32,
+    refused: u32,
+) -> usize
+    requires { ⌜ Listable (now outcomes) commands issued (now out) ⌝ }
+    ensures { λ r. ⌜ Listed (runLines (now (outcomes .entry)) commands (now (ledger .entry)) issued accepted refused) (now (out .entry)) (now (out .exit)) r ⌝ }
+{
+    let entries = refusals_into(out, 0, outcomes, commands);
+    let total = entries_into(out, entries, ledger, issued);
+    total_line(out, total, accepted, refused, issued)
+}
+
+// The listing of a file that is not loaded.
+pub fn list_fault(out: &mut [u8], number: u32, place: u32) -> usize
+    requires { ⌜ listingBytes ≤ length (now out) ⌝ }
+    ensures { λ r. ⌜ Listed (line 0x46 (number ∷ place ∷ [])) (now (out .entry)) (now (out .exit)) r ⌝ }
+{
+    fault_line(out, 0, number, place)
+}
