@@ -9,7 +9,7 @@ use native.Mathlib.Omega.{arith}
 use native.Mathlib.Numerals.{add-one}
 use lib.Dec.{eqb}
 use lib.ListN.{length, getD, take, drop, length-set}
-use borrow.Author.Tests.{eq-eqb}
+use borrow.Author.Tests.{eq-eqb, eqb-true}
 use Rattle.rules.specs.declared.Field.{Field}
 use Rattle.rules.specs.declared.Field.the-variants.{AnyTerm}
 use Rattle.rules.specs.Limits.{fileLimit, partyLimit}
@@ -57,34 +57,32 @@ positive : (x : ℕ) → (x ≡ 0 → ⊥) → (m : ℕ) × (x ≡ suc m)
 positive zero h = absurd (h refl)
 positive (suc m) h = (m, refl)
 
+-- what holds of the counts with one record more, by its section
+pub counted-is : (P : Tally → Type 0) (own : ℕ) (n : Tally)
+    → P (record { section = own; parties = n .parties + 1; terms = n .terms; commands = n .commands })
+    → (own ≡ termSection → P (record { section = own; parties = n .parties; terms = n .terms + 1; commands = n .commands }))
+    → P (record { section = own; parties = n .parties; terms = n .terms; commands = n .commands })
+    → P (record { section = own; parties = n .parties; terms = n .terms; commands = n .commands + 1 })
+    → P (counted own n)
+unfolding counted
+counted-is P own n party term setup command = go (eqb own partySection) (eqb own termSection) (eqb own setupSection) refl
+  where
+    go : (a b c : Bool) → eqb own termSection ≡ b
+        → P (cond a (record { section = own; parties = n .parties + 1; terms = n .terms; commands = n .commands })
+        (cond b (record { section = own; parties = n .parties; terms = n .terms + 1; commands = n .commands })
+        (cond c (record { section = own; parties = n .parties; terms = n .terms; commands = n .commands })
+        (record { section = own; parties = n .parties; terms = n .terms; commands = n .commands + 1 }))))
+    go true b c e = party
+    go false true c e = term (eqb-true own termSection e)
+    go false false true e = setup
+    go false false false e = command
+
 -- a record adds at most one command
 one-more : (own : ℕ) (n : Tally) → counted own n .commands ≤ n .commands + 1
-unfolding counted
-one-more own n = go (eqb own partySection) (eqb own termSection) (eqb own setupSection)
-  where
-    go : (a b c : Bool)
-        → (cond {A = Tally} a (record { section = own; parties = n .parties + 1; terms = n .terms; commands = n .commands })
-        (cond b (record { section = own; parties = n .parties; terms = n .terms + 1; commands = n .commands })
-        (cond c (record { section = own; parties = n .parties; terms = n .terms; commands = n .commands })
-        (record { section = own; parties = n .parties; terms = n .terms; commands = n .commands + 1 })))) .commands ≤ n .commands + 1
-    go true b c = omega arith
-    go false true c = omega arith
-    go false false true = omega arith
-    go false false false = omega arith
+one-more own n = counted-is (λ (m : Tally). m .commands ≤ n .commands + 1) own n (omega arith) (λ _. omega arith) (omega arith) (omega arith)
 
 counted-section : (own : ℕ) (n : Tally) → counted own n .section ≡ own
-unfolding counted
-counted-section own n = go (eqb own partySection) (eqb own termSection) (eqb own setupSection)
-  where
-    go : (a b c : Bool)
-        → (cond {A = Tally} a (record { section = own; parties = n .parties + 1; terms = n .terms; commands = n .commands })
-        (cond b (record { section = own; parties = n .parties; terms = n .terms + 1; commands = n .commands })
-        (cond c (record { section = own; parties = n .parties; terms = n .terms; commands = n .commands })
-        (record { section = own; parties = n .parties; terms = n .terms; commands = n .commands + 1 })))) .section ≡ own
-    go true b c = refl
-    go false true c = refl
-    go false false true = refl
-    go false false false = refl
+counted-section own n = counted-is (λ (m : Tally). m .section ≡ own) own n refl (λ _. refl) refl refl
 
 -- the widths of the first fields
 widths-next : (fs : List Field) (i : ℕ) → i < length fs → widths (take (i + 1) fs) ≡ widths (take i fs) + width (getD fs i AnyTerm)

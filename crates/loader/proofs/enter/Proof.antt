@@ -8,7 +8,7 @@ use Prim.Native.Nat.{ℕ, _+_, _≤_}
 use native.Mathlib.Omega.{arith}
 use denote.Ref.{now}
 use lib.Dec.{eqb, leb}
-use Rattle.rules.specs.Record.{sectionOf, bodyLength, fieldsOf, width, widths, partySection, termSection, setupSection}
+use Rattle.rules.specs.Record.{sectionOf, bodyLength, fieldsOf, width, widths, termSection, setupSection}
 use Rattle.rules.specs.File.{Setup, learns, holds, signsWith}
 use Rattle.rules.specs.Load.{refuseUnless, termAt, setupAt}
 use Rattle.rules.specs.State.{put}
@@ -19,6 +19,7 @@ use Rattle.index.specs.Indexed.{Indexed}
 use Rattle.setup.specs.Allowed.{allowedThere, setupLeaves, signersLeave}
 use Rattle.loader.specs.declared.Tally.{Tally}
 use Rattle.loader.specs.Describes.{counted, lastFault, columnsAfter, signersAfter}
+use Rattle.loader.proofs.Scanning.{counted-is}
 use Rattle.loader.proofs.enter.Statement.{statement}
 use Rattle.loader.proofs.enter.Tie as tie
 
@@ -46,16 +47,7 @@ setup-place bs v x false = refl
 
 -- a record that is no term keeps their count
 other-terms : (own : ℕ) (n : Tally) → (own ≡ termSection → ⊥) → counted own n .terms ≡ n .terms
-unfolding counted
-other-terms own n a = rw (ne-eqb own termSection a) (go (eqb own partySection) (eqb own setupSection))
-  where
-    go : (a b : Bool)
-        → cond {A = Tally} a (record { section = own; parties = n .parties + 1; terms = n .terms; commands = n .commands })
-        (cond b (record { section = own; parties = n .parties; terms = n .terms; commands = n .commands })
-        (record { section = own; parties = n .parties; terms = n .terms; commands = n .commands + 1 })) .terms ≡ n .terms
-    go true b = refl
-    go false true = refl
-    go false false = refl
+other-terms own n a = counted-is (λ (m : Tally). m .terms ≡ n .terms) own n refl (λ e. absurd (a e)) refl refl
 
 module _ (bs : List ℕ) (v : Columns) (signers links keys tables : List ℕ) (n : Tally) (k own : ℕ) (body : List ℕ) (at : ℕ) (o : own ≡ sectionOf k) where
   -- what entering leaves
