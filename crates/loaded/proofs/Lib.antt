@@ -1,3 +1,5 @@
 pub mod Chain
 pub mod Fields
 pub mod Standing
+pub mod Filled
+pub mod Learning

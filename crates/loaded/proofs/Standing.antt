@@ -10,6 +10,7 @@ use Rattle.rules.specs.Limits.{stateBytes}
 use Rattle.rules.specs.Term.{hashKind, signatureKind, attestKind, credentialKind, idevidRequestKind, ldevidRequestKind, certificateKind, pairKind, namesOf}
 use Rattle.rules.specs.File.{File, term, kind, names, hashedTerm, message, signingKey, attestedKey, credentialTerm, credentialNumber, credentialKey, idevidCertificate, idevidKey, ldevidMessage, ldevidCertificate, certifiedKey, signer, leftOf, rightOf}
 use Rattle.state.specs.View.{view}
+use Rattle.learning.specs.There.{termThere, TermRecord, partsThere}
 use Rattle.learning.proofs.Words.{hash-there, signature-there, attest-there, credential-there, idevid-request-there, ldevid-request-there, certificate-there, pair-there}
 use Rattle.theorems.proofs.Loading.{Checked, checked}
 use Rattle.theorems.proofs.Terms.{declared}
@@ -96,3 +97,21 @@ module _ {bs s : List ℕ} {t : ℕ} (h : Holds bs s) (l : t < length (fileIn bs
   pub right-declared : kind (fileIn bs) t ≡ pairKind → rightOf (fileIn bs) t < length (fileIn bs .terms)
   unfolding namesOf
   right-declared e = subst (λ (u : ℕ). u < length (fileIn bs .terms)) (right-here term-here e) (named (sym (term-here .same) ∙ pair-there bs (view s .place t) (kind-at term-here e)) (List·Memᴰ·tail (List·Memᴰ·head refl)))
+
+-- a command keeps all of it: it writes no place
+pub holds-kept : {bs s s′ : List ℕ} → Holds bs s → length s′ ≡ length s → view s′ .place ≡ view s .place → Holds bs s′
+unfolding partsThere
+holds-kept {bs} {s} {s′} h l e = record {
+  loads = h .loads;
+  room = l ∙ h .room;
+  parties = h .parties;
+  partiesWhole = h .partiesWhole;
+  role = h .role;
+  there = record {
+    few = h .there .few;
+    room = (omega (arith, h .there .room));
+    whole = λ t m. subst (λ (place : ℕ → ℕ). TermRecord bs (place t)) (sym e) (h .there .whole t m);
+    lower = λ t u m i. h .there .lower t u m (subst (λ (place : ℕ → ℕ). List·Memᴰ u (partsThere bs place t)) e i);
+  };
+  termIs = λ t m. ap (λ (place : ℕ → ℕ). termThere bs (place t)) e ∙ h .termIs t m;
+}

@@ -9,6 +9,7 @@ use Rattle.rules.specs.declared.Entry.{Entry}
 use Rattle.rules.specs.Limits.{rowWidth, partyLimit, stateBytes}
 use Rattle.rules.specs.File.{File, Command, term, roleOf, halfIn, signsFor}
 use Rattle.rules.specs.Load.{Load, loaded, refused, load, emptyFile}
+use Rattle.rules.specs.State.{learnt}
 use Rattle.rules.specs.Run.{outcome, effectOf}
 use Rattle.state.specs.View.{view}
 use Rattle.state.proofs.Exact.{stateOf}
@@ -53,6 +54,11 @@ pub record TermHere (bs s : List ℕ) (t : ℕ) : Type 0 where
   pub row : rowWidth * t + rowWidth ≤ length s
   pub whole : TermRecord bs (view s .place t)
   pub same : termThere bs (view s .place t) ≡ term (fileIn bs) t
+
+-- a party has learnt a term: the columns of the rules' state, the places as they were
+pub record Learns (bs s s′ : List ℕ) (p t : ℕ) : Type 0 where
+  pub columns : (ledger : List Entry) → stateOf (view s′) ledger ≡ learnt (fileIn bs) (stateOf (view s) ledger) p t
+  pub places : view s′ .place ≡ view s .place
 
 -- the outcome of a command that looks at no ledger
 abbrev pub Decides : List ℕ → List ℕ → Command → ℕ → Type 0

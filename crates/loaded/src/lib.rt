@@ -8,7 +8,7 @@ ghost use Rattle.rules.specs.Record.{word};
 ghost use Rattle.rules.specs.File.{isRole, kind, isKind, hashedTerm, message, signingKey, attestedKey, credentialTerm, credentialNumber, credentialKey, idevidCertificate, idevidKey, ldevidMessage, ldevidCertificate, certifiedKey, signer, leftOf, rightOf};
 ghost use Rattle.rules.specs.Device.{keyHas};
 ghost use Rattle.state.specs.View.{view};
-ghost use Rattle.loaded.specs.Loaded.{fileIn, PartyHere, TermHere};
+ghost use Rattle.loaded.specs.Loaded.{fileIn, Holds, PartyHere, TermHere, Learns};
 
 // Whether a party has a role.
 pub fn is_role(file: &[u8], party: usize, role: u8) -> bool
@@ -157,4 +157,15 @@ pub fn right_of(file: &[u8], state: &[u8], t: usize) -> usize
     ensures { λ r. ⌜ r ≡ rightOf (fileIn (now (file .entry))) t ⌝ }
 {
     word_of(file, state, t, 3)
+}
+
+// A party learns a term and everything in it; one that it knows needs no opening.
+pub fn learn(file: &[u8], state: &mut [u8], party: usize, t: usize)
+    requires { ⌜ Holds (now file) (now state) × (party < length (fileIn (now file) .roles)) × (t < length (fileIn (now file) .terms)) ⌝ }
+    ensures { λ _. ⌜ Learns (now (file .entry)) (now (state .entry)) (now (state .exit)) party t ⌝ }
+{
+    if state::knows(state, party, t) {
+        return;
+    }
+    learning::learn_term(file, state, party, t);
 }

@@ -52,7 +52,7 @@ each-same act act′ [] h k = refl
 each-same act act′ (u ∷ us) h k = ap (each act us) (h u (List·Memᴰ·head refl) k) ∙ each-same act act′ us (λ a m. h a (List·Memᴰ·tail m)) (act′ u k)
 
 module _ (ps qs : ℕ → List ℕ) (m : ℕ) (same : (u : ℕ) → u < m → ps u ≡ qs u) (low : (u v : ℕ) → u < m → List·Memᴰ v (ps u) → v < u) where
-  opened-same : (p n t : ℕ) → t < m → (k : Knowledge) → opened ps p n t k ≡ opened qs p n t k
+  pub opened-same : (p n t : ℕ) → t < m → (k : Knowledge) → opened ps p n t k ≡ opened qs p n t k
   unfolding opened
   opened-same p zero t h k = refl
   opened-same p (suc n) t h k =
