@@ -6,7 +6,8 @@
 Instructions are counted by valgrind (callgrind), and those for an empty file are taken off, so what starting the
 program and clearing its buffers cost is not in the figures. They are set beside a plain C program (bytes_once.c,
 gcc -O2) that reads the same input and adds up its bytes, counted the same way. The last column is the shortest of
-20 runs without valgrind, from the program's start to its end.
+20 runs without valgrind, from the program's start to its end. A second table has what a term costs in files of
+fewer terms.
 """
 import os
 import re
@@ -141,19 +142,13 @@ def main():
                 name, format(len(data), ','), line, format(count, ','), format(round(count / len(data)), ','),
                 format(once, ','), format(round(count / once), ','), milliseconds(LISTING, data)), flush=True)
         print()
-        print('| terms | pairs | numbers: instructions | by pairs | certificates: instructions | by pairs |')
-        print('|---|---|---|---|---|---|')
-        makes = (numbers, certificates)
-        found = {n: [instructions(LISTING, make(n))[0] - nothing for make in makes] for n in (256, 512, 1024)}
-        # What is left of twice the half is what the pairs cost: a term costs the same wherever it stands.
-        pair = [(found[1024][i] - 2 * found[512][i]) / (1024 * 1023 // 2 - 512 * 511) for i in range(2)]
+        print('| terms | numbers: instructions | a term | certificates: instructions | a term |')
+        print('|---|---|---|---|---|')
         for n in (256, 512, 1024):
-            pairs = n * (n - 1) // 2
-            print('| %s | %s | %s | %.1f %% | %s | %.1f %% |' % (
-                format(n, ','), format(pairs, ','), format(found[n][0], ','), 100 * pair[0] * pairs / found[n][0],
-                format(found[n][1], ','), 100 * pair[1] * pairs / found[n][1]))
+            found = [instructions(LISTING, make(n))[0] - nothing for make in (numbers, certificates)]
+            print('| %s | %s | %.0f | %s | %.0f |' % (
+                format(n, ','), format(found[0], ','), found[0] / n, format(found[1], ','), found[1] / n))
         print()
-        print('instructions a pair: numbers %.1f, certificates %.1f' % tuple(pair))
         print('instructions for an empty file: %s in %.1f ms; of the plain program: %s' % (
             format(nothing, ','), milliseconds(LISTING, b''), format(plain_nothing, ',')))
 

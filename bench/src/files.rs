@@ -1,0 +1,311 @@
+//! The files that are timed, the same at every run.
+
+use crate::walk;
+use reading::worlds::Rng;
+
+const FILE_LIMIT: usize = 32_768;
+const TERM_LIMIT: u16 = 1_024;
+
+const DEVICE: u8 = 0;
+const MAKER: u8 = 1;
+
+/// Attributes of an attestation key, and of a signing key of a desk or maker.
+const AK: u8 = 0x0B;
+const DESK_KEY: u8 = 0x0A;
+
+/// Subject byte.
+const TPM: u8 = 0;
+const BOARD: u8 = 1;
+
+/// A file in the making.
+#[derive(Default)]
+struct Draft {
+    bytes: Vec<u8>,
+    terms: u16,
+}
+
+impl Draft {
+    fn word(&mut self, word: u16) {
+        self.bytes.extend(word.to_be_bytes());
+    }
+
+    fn party(&mut self, role: u8) {
+        self.bytes.extend([0x01, role]);
+    }
+
+    /// A term of a kind that has words alone; its number.
+    fn term(&mut self, kind: u8, words: &[u16]) -> u16 {
+        self.bytes.push(kind);
+        words.iter().for_each(|&word| self.word(word));
+        self.terms += 1;
+        self.terms - 1
+    }
+
+    fn public(&mut self, id: u16, attributes: u8) -> u16 {
+        let t = self.term(0x10, &[id]);
+        self.bytes.push(attributes);
+        t
+    }
+
+    fn private(&mut self, id: u16, attributes: u8) -> u16 {
+        let t = self.term(0x11, &[id]);
+        self.bytes.push(attributes);
+        t
+    }
+
+    fn hash(&mut self, t: u16) -> u16 {
+        self.term(0x12, &[t])
+    }
+
+    fn number(&mut self, id: u16) -> u16 {
+        self.term(0x16, &[id])
+    }
+
+    fn certificate(&mut self, key: u16, tag: u8, number: u16, signer: u16) -> u16 {
+        let t = self.term(0x19, &[key]);
+        self.bytes.push(tag);
+        self.word(number);
+        self.word(signer);
+        t
+    }
+
+    fn pair(&mut self, t: u16, u: u16) -> u16 {
+        self.term(0x1A, &[t, u])
+    }
+
+    /// A set-up record, or a command, of a party and a term.
+    fn act(&mut self, kind: u8, party: u8, t: u16) {
+        self.bytes.extend([kind, party]);
+        self.word(t);
+    }
+
+    /// As many of these as the file has room for.
+    fn fill(&mut self, mut next: impl FnMut(usize) -> (u8, u8, u16)) {
+        for i in 0..(FILE_LIMIT - self.bytes.len()) / 4 {
+            let (kind, party, t) = next(i);
+            self.act(kind, party, t);
+        }
+    }
+}
+
+fn numbers(factor: u16) -> Draft {
+    let mut f = Draft::default();
+    for i in 0..TERM_LIMIT {
+        f.number(i.wrapping_mul(factor));
+    }
+    f
+}
+
+fn certificates() -> Draft {
+    let mut f = Draft::default();
+    let key = f.public(1, DESK_KEY);
+    let signer = f.private(1, DESK_KEY);
+    for i in 0..1_022 {
+        f.certificate(key, BOARD, i, signer);
+    }
+    f
+}
+
+fn keys_and_certificates() -> Draft {
+    let mut f = Draft::default();
+    let signer = f.private(0, DESK_KEY);
+    for i in 0..511 {
+        f.public(i, DESK_KEY);
+    }
+    for i in 0..512 {
+        f.certificate(1 + i % 511, BOARD, i, signer);
+    }
+    f
+}
+
+fn key_pairs_and_pairs() -> Draft {
+    let mut f = Draft::default();
+    let mut rng = Rng::new(1, 20);
+    for i in 0..256 {
+        f.public(i, AK);
+        f.private(i, AK);
+    }
+    for i in 0..512 {
+        f.pair(i, rng.below(512) as u16);
+    }
+    f
+}
+
+fn nested_pairs() -> Draft {
+    let mut f = Draft::default();
+    let mut t = f.number(0);
+    for _ in 0..1_023 {
+        t = f.pair(t, t);
+    }
+    f
+}
+
+/// 223 bytes: a device and 65 terms; and what the commands 30 to 37 may make of them.
+fn device() -> (Draft, [Vec<u16>; 8]) {
+    let mut f = Draft::default();
+    f.party(DEVICE);
+    let public = f.public(0, AK);
+    let private = f.private(0, AK);
+    let number = f.number(0);
+    let hash = f.hash(public);
+    let signature = f.term(0x13, &[hash, private]);
+    let attest = f.term(0x14, &[public]);
+    let certified = f.term(0x13, &[attest, private]);
+    let credential = f.term(0x15, &[hash, number, public]);
+    let certificate = f.certificate(public, BOARD, 1, private);
+    // Kind and Subject byte are a word together.
+    f.word(u16::from_be_bytes([0x17, BOARD]));
+    [1, certificate, public].into_iter().for_each(|word| f.word(word));
+    let request = f.terms;
+    f.terms += 1;
+    let next = f.term(0x18, &[certified, certificate]);
+    let pair = f.pair(request, signature);
+    let other = f.pair(next, signature);
+    let mut hashes = vec![hash];
+    for i in 0..52 {
+        hashes.push(f.hash(hashes[i]));
+    }
+    let results = [
+        hashes,
+        vec![signature, certified],
+        vec![certified],
+        vec![credential],
+        vec![credential],
+        vec![request],
+        vec![next],
+        vec![pair, other],
+    ];
+    (f, results)
+}
+
+/// The first so many kinds from 30 on, in no order.
+fn commands(kinds: usize) -> Draft {
+    let (mut f, results) = device();
+    let mut rng = Rng::new(2, 20);
+    f.fill(|_| {
+        let kind = rng.below(kinds);
+        (0x30 + kind as u8, 0, rng.pick(&results[kind]))
+    });
+    f
+}
+
+fn learning_one_key() -> Draft {
+    let mut f = Draft::default();
+    f.party(DEVICE);
+    let public = f.public(0, AK);
+    f.fill(|_| (0x20, 0, public));
+    f
+}
+
+fn holding_one_key() -> Draft {
+    let mut f = Draft::default();
+    f.party(DEVICE);
+    let private = f.private(0, AK);
+    f.fill(|_| (0x21, 0, private));
+    f
+}
+
+fn learning_in_turn() -> Draft {
+    let mut f = Draft::default();
+    f.party(MAKER);
+    (0..7).for_each(|_| f.party(DEVICE));
+    let key = f.public(0, DESK_KEY);
+    let signer = f.private(0, DESK_KEY);
+    for i in 0..1_022 {
+        f.certificate(key, TPM, i, signer);
+    }
+    f.act(0x21, 0, signer);
+    f.act(0x22, 0, signer);
+    f.fill(|i| (0x20, (i % 8) as u8, 2 + (i / 8 % 1_022) as u16));
+    f
+}
+
+/// Public keys that meet in one bucket: of all ids and attributes there are 1,027 in each.
+fn one_bucket() -> Draft {
+    let mut f = Draft::default();
+    for key in (0..1 << 20).step_by(walk::PRIME).take(TERM_LIMIT as usize) {
+        f.public(key as u16, (key >> 16) as u8);
+    }
+    f
+}
+
+/// Certificates whose index keys have the lowest 40 bits the same, in buckets of their own.
+fn common_beginnings() -> Draft {
+    let mut f = Draft::default();
+    let key = f.public(0, DESK_KEY);
+    for i in 0..16 {
+        f.private(i, DESK_KEY);
+    }
+    for i in 0..TERM_LIMIT - f.terms {
+        f.certificate(key, TPM, (i / 16) << 8, 1 + i % 16);
+    }
+    f
+}
+
+/// Both together: the certificates of one public key, by signers 1 on, that meet in so many buckets, and of these the
+/// ones with the lowest bits of their keys the same. That order of entering makes the walks as long as any we found.
+fn deepest(f: &mut Draft, signers: u16, buckets: usize) {
+    let key = f.public(0, DESK_KEY);
+    for i in 0..signers {
+        f.private(i, DESK_KEY);
+    }
+    let each = (TERM_LIMIT - f.terms) as usize / buckets;
+    for bucket in 0..buckets {
+        let all = (0..=u16::MAX).flat_map(|number| (1..=signers).map(move |signer| (number, signer)));
+        let index_key = |(number, signer)| walk::key([key as u64, TPM as u64, number as u64, signer as u64]);
+        let mut here: Vec<_> = all.filter(|&c| walk::bucket(index_key(c)) == bucket).collect();
+        here.sort_by_key(|&c| index_key(c).reverse_bits());
+        for &(number, signer) in here.iter().take(each) {
+            f.certificate(key, TPM, number, signer);
+        }
+    }
+}
+
+/// Forty signers leave the most certificates with the most bits in common.
+fn deepest_alone() -> Draft {
+    let mut f = Draft::default();
+    deepest(&mut f, 40, 1);
+    f
+}
+
+/// Eight makers' certificates, and set-up records that teach them to all parties, in no order.
+fn deepest_and_learning() -> Draft {
+    let mut f = Draft::default();
+    (0..8).for_each(|_| f.party(MAKER));
+    deepest(&mut f, 8, 2);
+    for p in 0..8 {
+        f.act(0x21, p, 1 + p as u16);
+        f.act(0x22, p, 1 + p as u16);
+    }
+    let certificates = 9..f.terms as usize;
+    let mut rng = Rng::new(3, 20);
+    f.fill(|_| (0x20, rng.below(8) as u8, (certificates.start + rng.below(certificates.len())) as u16));
+    f
+}
+
+pub struct File {
+    pub name: &'static str,
+    pub bytes: Vec<u8>,
+}
+
+pub fn all() -> Vec<File> {
+    let files: [(&str, Draft); 16] = [
+        ("empty", Draft::default()),
+        ("1,024 numbers", numbers(1)),
+        ("1,024 numbers, scattered", numbers(40_503)),
+        ("1,024 terms, 1,022 of them certificates", certificates()),
+        ("512 keys and 512 certificates", keys_and_certificates()),
+        ("256 key pairs and 512 pairs", key_pairs_and_pairs()),
+        ("1,023 pairs inside each other", nested_pairs()),
+        ("8,136 commands 30", commands(1)),
+        ("8,136 commands 30 to 37, shuffled", commands(8)),
+        ("set-up 20, of one key", learning_one_key()),
+        ("set-up 21, of one key", holding_one_key()),
+        ("set-up 20, of 1,022 certificates in turn to 8 parties", learning_in_turn()),
+        ("made against the index: 1,024 keys in one bucket", one_bucket()),
+        ("made against the index: common beginnings", common_beginnings()),
+        ("made against the index: both", deepest_alone()),
+        ("both, and set-up 20 shuffled", deepest_and_learning()),
+    ];
+    files.into_iter().map(|(name, draft)| File { name, bytes: draft.bytes }).collect()
+}

@@ -1,0 +1,1698 @@
+//! Deterministic test files: honest and hostile enrolments, random records,
+//! damaged files. The same seed always gives the same file.
+
+use std::collections::HashMap;
+
+/// Splitmix64.
+pub struct Rng(u64);
+
+impl Rng {
+    /// A stream of its own for each seed and purpose.
+    pub fn new(seed: u64, purpose: u64) -> Rng {
+        let mut rng = Rng(seed ^ purpose.wrapping_mul(0xD6E8_FEB8_6659_FD93));
+        let start = rng.next();
+        Rng(start)
+    }
+
+    #[allow(clippy::should_implement_trait)]
+    pub fn next(&mut self) -> u64 {
+        self.0 = self.0.wrapping_add(0x9E37_79B9_7F4A_7C15);
+        let mut z = self.0;
+        z = (z ^ z >> 30).wrapping_mul(0xBF58_476D_1CE4_E5B9);
+        z = (z ^ z >> 27).wrapping_mul(0x94D0_49BB_1331_11EB);
+        z ^ z >> 31
+    }
+
+    /// From 0 to `bound` minus 1; 0 for an empty range.
+    pub fn below(&mut self, bound: usize) -> usize {
+        if bound == 0 {
+            0
+        } else {
+            (self.next() % bound as u64) as usize
+        }
+    }
+
+    pub fn chance(&mut self, percent: usize) -> bool {
+        self.below(100) < percent
+    }
+
+    pub fn byte(&mut self) -> u8 {
+        self.next() as u8
+    }
+
+    pub fn pick<T: Copy>(&mut self, items: &[T]) -> T {
+        items[self.below(items.len())]
+    }
+
+    pub fn try_pick<T: Copy>(&mut self, items: &[T]) -> Option<T> {
+        items.get(self.below(items.len())).copied()
+    }
+
+    pub fn shuffle<T>(&mut self, items: &mut [T]) {
+        for i in (1..items.len()).rev() {
+            items.swap(i, self.below(i + 1));
+        }
+    }
+}
+
+/// Kind byte and body.
+#[derive(Clone, Copy, Debug, PartialEq, Eq, Hash)]
+pub struct Record {
+    bytes: [u8; 8],
+    length: u8,
+}
+
+impl Record {
+    pub fn new(kind: u8) -> Record {
+        let mut record = Record {
+            bytes: [0; 8],
+            length: 0,
+        };
+        record.push(kind);
+        record
+    }
+
+    fn push(&mut self, byte: u8) {
+        self.bytes[self.length as usize] = byte;
+        self.length += 1;
+    }
+
+    pub fn byte(mut self, byte: u8) -> Record {
+        self.push(byte);
+        self
+    }
+
+    pub fn word(self, word: u16) -> Record {
+        let [high, low] = word.to_be_bytes();
+        self.byte(high).byte(low)
+    }
+
+    pub fn subject(self, subject: Subject) -> Record {
+        match subject {
+            Subject::Tpm(number) => self.byte(0).word(number),
+            Subject::Device(number) => self.byte(1).word(number),
+        }
+    }
+
+    pub fn bytes(&self) -> &[u8] {
+        &self.bytes[..self.length as usize]
+    }
+
+    pub fn kind(&self) -> u8 {
+        self.bytes[0]
+    }
+
+    fn word_at(&self, i: usize) -> u16 {
+        u16::from_be_bytes([self.bytes[i], self.bytes[i + 1]])
+    }
+}
+
+#[derive(Clone, Copy, Debug, PartialEq, Eq)]
+pub enum Subject {
+    Tpm(u16),
+    Device(u16),
+}
+
+pub const DEVICE: u8 = 0;
+pub const MAKER: u8 = 1;
+pub const OEM: u8 = 2;
+pub const OWNER: u8 = 3;
+
+/// Attributes of an attestation key (IAK, LAK).
+pub const AK: u8 = 0x0B;
+/// Attributes of an endorsement key.
+pub const EK: u8 = 0x0D;
+/// Attributes of a signing key of a desk or a TPM maker.
+pub const DESK_KEY: u8 = 0x0A;
+
+/// A file in the making. Terms named twice are declared once.
+#[derive(Clone, Default)]
+pub struct Draft {
+    pub roles: Vec<u8>,
+    pub terms: Vec<Record>,
+    pub setup: Vec<Record>,
+    pub commands: Vec<Record>,
+    numbers: HashMap<Record, u16>,
+    kinds: [Vec<u16>; 11],
+}
+
+impl Draft {
+    pub fn new() -> Draft {
+        Draft::default()
+    }
+
+    pub fn party(&mut self, role: u8) -> u8 {
+        self.roles.push(role);
+        self.roles.len() as u8 - 1
+    }
+
+    pub fn term(&mut self, record: Record) -> u16 {
+        if let Some(&t) = self.numbers.get(&record) {
+            return t;
+        }
+        let t = self.terms.len() as u16;
+        self.terms.push(record);
+        self.numbers.insert(record, t);
+        self.kinds[record.kind() as usize - 0x10].push(t);
+        t
+    }
+
+    pub fn public(&mut self, id: u16, attributes: u8) -> u16 {
+        self.term(Record::new(0x10).word(id).byte(attributes))
+    }
+    pub fn private(&mut self, id: u16, attributes: u8) -> u16 {
+        self.term(Record::new(0x11).word(id).byte(attributes))
+    }
+    pub fn hash(&mut self, t: u16) -> u16 {
+        self.term(Record::new(0x12).word(t))
+    }
+    pub fn signature(&mut self, message: u16, private: u16) -> u16 {
+        self.term(Record::new(0x13).word(message).word(private))
+    }
+    pub fn attest(&mut self, public: u16) -> u16 {
+        self.term(Record::new(0x14).word(public))
+    }
+    pub fn credential(&mut self, first: u16, number: u16, public: u16) -> u16 {
+        self.term(Record::new(0x15).word(first).word(number).word(public))
+    }
+    pub fn number(&mut self, id: u16) -> u16 {
+        self.term(Record::new(0x16).word(id))
+    }
+    pub fn idevid(&mut self, subject: Subject, certificate: u16, public: u16) -> u16 {
+        self.term(
+            Record::new(0x17)
+                .subject(subject)
+                .word(certificate)
+                .word(public),
+        )
+    }
+    pub fn ldevid(&mut self, message: u16, certificate: u16) -> u16 {
+        self.term(Record::new(0x18).word(message).word(certificate))
+    }
+    pub fn certificate(&mut self, public: u16, subject: Subject, signer: u16) -> u16 {
+        self.term(Record::new(0x19).word(public).subject(subject).word(signer))
+    }
+    pub fn pair(&mut self, first: u16, second: u16) -> u16 {
+        self.term(Record::new(0x1A).word(first).word(second))
+    }
+
+    /// 20: the party learns the term.
+    pub fn learns(&mut self, party: u8, t: u16) {
+        self.setup.push(Record::new(0x20).byte(party).word(t));
+    }
+    /// 21: the party's TPM holds the private key.
+    pub fn holds(&mut self, party: u8, private: u16) {
+        self.setup.push(Record::new(0x21).byte(party).word(private));
+    }
+    /// 22: the party signs with the private key.
+    pub fn signs(&mut self, party: u8, private: u16) {
+        self.setup.push(Record::new(0x22).byte(party).word(private));
+    }
+
+    pub fn push(&mut self, command: Record) {
+        self.commands.push(command);
+    }
+
+    /// Bytes of the file before its commands.
+    fn head(&self) -> usize {
+        let records = self.terms.iter().chain(&self.setup);
+        2 * self.roles.len() + records.map(|r| r.length as usize).sum::<usize>()
+    }
+
+    pub fn file(&self) -> Vec<u8> {
+        let mut file = Vec::with_capacity(crate::FILE_BYTES);
+        for &role in &self.roles {
+            file.extend_from_slice(&[0x01, role]);
+        }
+        for record in self.terms.iter().chain(&self.setup).chain(&self.commands) {
+            file.extend_from_slice(record.bytes());
+        }
+        file
+    }
+
+    fn of_kind(&self, kind: u8) -> &[u16] {
+        &self.kinds[kind as usize - 0x10]
+    }
+
+    fn parties_of(&self, role: u8) -> Vec<u8> {
+        (0..self.roles.len() as u8)
+            .filter(|&p| self.roles[p as usize] == role)
+            .collect()
+    }
+}
+
+/// 30 to 37 and 3D: party and result.
+pub fn act(kind: u8, party: u8, r: u16) -> Record {
+    Record::new(kind).byte(party).word(r)
+}
+/// 38 to 3A: party and two terms.
+pub fn check(kind: u8, party: u8, left: u16, right: u16) -> Record {
+    Record::new(kind).byte(party).word(left).word(right)
+}
+pub fn check_attributes(party: u8, public: u16, attributes: u8) -> Record {
+    Record::new(0x3B).byte(party).word(public).byte(attributes)
+}
+pub fn send(party: u8, receiver: u8, t: u16) -> Record {
+    Record::new(0x3C).byte(party).byte(receiver).word(t)
+}
+pub fn challenge(desk: u8, request: u16, r: u16) -> Record {
+    Record::new(0x3E).byte(desk).word(request).word(r)
+}
+pub fn issue_iak(desk: u8, returning: u8, credential: u16, r: u16) -> Record {
+    Record::new(0x3F)
+        .byte(desk)
+        .byte(returning)
+        .word(credential)
+        .word(r)
+}
+pub fn issue_lak(desk: u8, request: u16, r: u16) -> Record {
+    Record::new(0x40).byte(desk).word(request).word(r)
+}
+
+/// What stands in the body of a record.
+#[derive(Clone, Copy, PartialEq, Eq)]
+enum Field {
+    Role,
+    Party,
+    Attributes,
+    Subject,
+    Word,
+    Any,
+    Term(u8),
+}
+
+impl Field {
+    fn length(self) -> usize {
+        match self {
+            Field::Role | Field::Party | Field::Attributes => 1,
+            Field::Word | Field::Any | Field::Term(_) => 2,
+            Field::Subject => 3,
+        }
+    }
+}
+
+fn fields(kind: u8) -> &'static [Field] {
+    use Field::*;
+    match kind {
+        0x01 => &[Role],
+        0x10 | 0x11 => &[Word, Attributes],
+        0x12 => &[Any],
+        0x13 => &[Any, Term(0x11)],
+        0x14 => &[Term(0x10)],
+        0x15 => &[Any, Term(0x16), Term(0x10)],
+        0x16 => &[Word],
+        0x17 => &[Subject, Term(0x19), Term(0x10)],
+        0x18 => &[Any, Term(0x19)],
+        0x19 => &[Term(0x10), Subject, Term(0x11)],
+        0x1A => &[Any, Any],
+        0x20 => &[Party, Any],
+        0x21 | 0x22 => &[Party, Term(0x11)],
+        0x30 => &[Party, Term(0x12)],
+        0x31 | 0x32 => &[Party, Term(0x13)],
+        0x33 | 0x34 => &[Party, Term(0x15)],
+        0x35 => &[Party, Term(0x17)],
+        0x36 => &[Party, Term(0x18)],
+        0x37 => &[Party, Term(0x1A)],
+        0x38 => &[Party, Term(0x12), Any],
+        0x39 => &[Party, Term(0x13), Term(0x10)],
+        0x3A => &[Party, Term(0x19), Term(0x10)],
+        0x3B => &[Party, Term(0x10), Attributes],
+        0x3C => &[Party, Party, Any],
+        0x3D => &[Party, Term(0x19)],
+        0x3E => &[Party, Any, Term(0x15)],
+        0x3F => &[Party, Party, Term(0x15), Term(0x19)],
+        0x40 => &[Party, Any, Term(0x19)],
+        _ => &[],
+    }
+}
+
+/// Where the records of a file start, as far as kinds are known.
+fn starts(file: &[u8]) -> Vec<usize> {
+    let mut places = Vec::new();
+    let mut place = 0;
+    while place < file.len() && !fields(file[place]).is_empty() {
+        places.push(place);
+        place += 1 + fields(file[place])
+            .iter()
+            .map(|f| f.length())
+            .sum::<usize>();
+    }
+    places
+}
+
+/// A record of this kind with fields that fit the draft, if it has such terms.
+fn fitting(rng: &mut Rng, draft: &Draft, kind: u8, ids: usize) -> Option<Record> {
+    let mut record = Record::new(kind);
+    for &field in fields(kind) {
+        record = match field {
+            Field::Role => record.byte(rng.below(4) as u8),
+            Field::Party => {
+                if draft.roles.is_empty() {
+                    return None;
+                }
+                record.byte(rng.below(draft.roles.len()) as u8)
+            }
+            Field::Attributes => {
+                let usual = [AK, AK, EK, DESK_KEY, DESK_KEY, 0x02, 0x05, 0x03];
+                let attributes = if rng.chance(85) {
+                    rng.pick(&usual)
+                } else {
+                    rng.byte() % 16
+                };
+                record.byte(attributes)
+            }
+            Field::Subject => record.byte(rng.below(2) as u8).word(rng.below(ids) as u16),
+            Field::Word => record.word(rng.below(ids) as u16),
+            Field::Any => {
+                if draft.terms.is_empty() {
+                    return None;
+                }
+                let mut t = rng.below(draft.terms.len());
+                // Nobody knows a private key, so few terms are made of one.
+                if draft.terms[t].kind() == 0x11 && rng.chance(85) {
+                    t = rng.below(draft.terms.len());
+                }
+                record.word(t as u16)
+            }
+            Field::Term(kind) => record.word(rng.try_pick(draft.of_kind(kind))?),
+        };
+    }
+    Some(record)
+}
+
+/// A command of any kind with fields that fit, mostly by a party whose role
+/// may do it and mostly with a pair where a request goes. Half of the device
+/// commands are done by `main`, if there is one.
+fn stray(rng: &mut Rng, draft: &Draft, main: Option<u8>) -> Option<Record> {
+    for _ in 0..8 {
+        let kind = 0x30 + rng.below(17) as u8;
+        let Some(mut record) = fitting(rng, draft, kind, 4) else {
+            continue;
+        };
+        let role = match kind {
+            0x3E | 0x3F => OEM,
+            0x40 => OWNER,
+            _ => DEVICE,
+        };
+        match main {
+            Some(p) if role == DEVICE && rng.chance(50) => record.bytes[1] = p,
+            _ if rng.chance(85) => {
+                if let Some(p) = rng.try_pick(&draft.parties_of(role)) {
+                    record.bytes[1] = p;
+                }
+            }
+            _ => {}
+        }
+        if matches!(kind, 0x3E | 0x40) && rng.chance(85) {
+            if let Some(t) = rng.try_pick(draft.of_kind(0x1A)) {
+                record.bytes[2..4].copy_from_slice(&t.to_be_bytes());
+            }
+        }
+        if kind == 0x32 {
+            let message = draft.terms[record.word_at(2) as usize].word_at(1);
+            if draft.terms[message as usize].kind() != 0x14 {
+                continue;
+            }
+        }
+        return Some(record);
+    }
+    None
+}
+
+/// The same command with one field taken anew.
+fn twisted(rng: &mut Rng, draft: &Draft, command: Record) -> Option<Record> {
+    let kind = command.kind();
+    let other = fitting(rng, draft, kind, 4)?;
+    let list = fields(kind);
+    let chosen = rng.below(list.len());
+    let start = 1 + list[..chosen].iter().map(|f| f.length()).sum::<usize>();
+    let end = start + list[chosen].length();
+    let mut record = command;
+    record.bytes[start..end].copy_from_slice(&other.bytes[start..end]);
+    if kind == 0x32 && chosen == 1 {
+        return None;
+    }
+    Some(record)
+}
+
+// ---------------------------------------------------------------------------
+// Enrolment worlds
+
+/// Where an enrolment of an attestation key leaves the honest way.
+#[derive(Clone, Copy, PartialEq, Eq)]
+enum Slip {
+    None,
+    // In the request of either kind.
+    SwappedPair,
+    BareBody,
+    OtherHash,
+    OtherSigner,
+    NoHash,
+    WeakKey,
+    NotSent,
+    ForeignKey,
+    // In the certificate asked for.
+    OtherSubject,
+    OtherKey,
+    OtherIssuer,
+    Again,
+    // IAK only.
+    TpmSubject,
+    SelfIssuedEndorsement,
+    DeviceEndorsement,
+    WeakEndorsement,
+    UsedNumber,
+    SharedNumber,
+    UnknownNumber,
+    OtherName,
+    NoName,
+    OtherEndorsement,
+    NoActivation,
+    ReturnedByDesk,
+    ReturnedByOther,
+    OtherDesk,
+    WrongRole,
+    ForeignEndorsement,
+    Twice,
+    // LAK only.
+    PlainAttest,
+    NotAttest,
+    SelfIssuedParent,
+    EndorsementParent,
+    HashedAttest,
+}
+
+const IAK_SLIPS: [Slip; 30] = [
+    Slip::SwappedPair,
+    Slip::BareBody,
+    Slip::OtherHash,
+    Slip::OtherSigner,
+    Slip::NoHash,
+    Slip::WeakKey,
+    Slip::NotSent,
+    Slip::ForeignKey,
+    Slip::OtherSubject,
+    Slip::OtherKey,
+    Slip::OtherIssuer,
+    Slip::Again,
+    Slip::TpmSubject,
+    Slip::SelfIssuedEndorsement,
+    Slip::DeviceEndorsement,
+    Slip::WeakEndorsement,
+    Slip::UsedNumber,
+    Slip::SharedNumber,
+    Slip::UnknownNumber,
+    Slip::OtherName,
+    Slip::NoName,
+    Slip::OtherEndorsement,
+    Slip::NoActivation,
+    Slip::ReturnedByDesk,
+    Slip::ReturnedByOther,
+    Slip::OtherDesk,
+    Slip::WrongRole,
+    Slip::ForeignEndorsement,
+    Slip::Twice,
+    Slip::HashedAttest,
+];
+
+const LAK_SLIPS: [Slip; 18] = [
+    Slip::SwappedPair,
+    Slip::BareBody,
+    Slip::OtherHash,
+    Slip::OtherSigner,
+    Slip::NoHash,
+    Slip::WeakKey,
+    Slip::NotSent,
+    Slip::ForeignKey,
+    Slip::OtherSubject,
+    Slip::OtherKey,
+    Slip::OtherIssuer,
+    Slip::Again,
+    Slip::WrongRole,
+    Slip::PlainAttest,
+    Slip::NotAttest,
+    Slip::SelfIssuedParent,
+    Slip::EndorsementParent,
+    Slip::HashedAttest,
+];
+
+/// Attributes near those of an attestation key.
+const WEAK: [u8; 8] = [0x0A, 0x03, 0x09, 0x0F, 0x02, 0x0E, 0x08, 0x01];
+
+#[derive(Clone, Copy)]
+struct Key {
+    public: u16,
+    private: u16,
+}
+
+struct Device {
+    party: u8,
+    subject: u16,
+    /// Endorsement keys with their certificates.
+    endorsements: Vec<(Key, u16)>,
+    /// A signing key that is not Restricted.
+    plain: Key,
+}
+
+struct Desk {
+    party: u8,
+    key: Option<Key>,
+}
+
+/// A certificate that should have been issued.
+struct Node {
+    device: usize,
+    key: Key,
+    certificate: u16,
+    depth: u16,
+    flow: usize,
+}
+
+/// Commands of one enrolment, to start when another one is done.
+struct Flow {
+    after: Option<usize>,
+    commands: Vec<Record>,
+}
+
+struct Town {
+    rng: Rng,
+    draft: Draft,
+    makers: Vec<Desk>,
+    oems: Vec<Desk>,
+    owners: Vec<Desk>,
+    devices: Vec<Device>,
+    nodes: Vec<Node>,
+    flows: Vec<Flow>,
+    /// Set-up in three groups: held, signing, learned.
+    held: Vec<Record>,
+    signing: Vec<Record>,
+    learned: Vec<Record>,
+    numbers: Vec<u16>,
+    next_id: u16,
+}
+
+impl Town {
+    /// Parties, their keys and the endorsement certificates.
+    fn new(mut rng: Rng) -> Town {
+        let count = |rng: &mut Rng| if rng.chance(60) { 1 } else { 2 };
+        let (makers, oems, owners) = (count(&mut rng), count(&mut rng), count(&mut rng));
+        let most = 8 - makers - oems - owners;
+        let devices = if rng.chance(40) {
+            most
+        } else {
+            1 + rng.below(most)
+        };
+        let mut roles = Vec::new();
+        for (role, count) in [
+            (MAKER, makers),
+            (OEM, oems),
+            (OWNER, owners),
+            (DEVICE, devices),
+        ] {
+            roles.extend(std::iter::repeat_n(role, count));
+        }
+        rng.shuffle(&mut roles);
+        let mut town = Town {
+            rng,
+            draft: Draft::new(),
+            makers: Vec::new(),
+            oems: Vec::new(),
+            owners: Vec::new(),
+            devices: Vec::new(),
+            nodes: Vec::new(),
+            flows: Vec::new(),
+            held: Vec::new(),
+            signing: Vec::new(),
+            learned: Vec::new(),
+            numbers: Vec::new(),
+            next_id: 0,
+        };
+        for &role in &roles {
+            let party = town.draft.party(role);
+            if role != DEVICE {
+                let key = town.desk_key(party, role);
+                let desk = Desk { party, key };
+                match role {
+                    MAKER => town.makers.push(desk),
+                    OEM => town.oems.push(desk),
+                    _ => town.owners.push(desk),
+                }
+            }
+        }
+        for (party, &role) in roles.iter().enumerate() {
+            if role == DEVICE {
+                town.device(party as u8);
+            }
+        }
+        town
+    }
+
+    fn id(&mut self) -> u16 {
+        // Ids are often shared between keys of other attributes.
+        if !self.rng.chance(10) || self.next_id == 0 {
+            self.next_id += 1;
+        }
+        self.next_id
+    }
+
+    fn key(&mut self, attributes: u8) -> Key {
+        self.next_id += 1;
+        self.key_of(self.next_id, attributes)
+    }
+
+    fn key_of(&mut self, id: u16, attributes: u8) -> Key {
+        if self.rng.chance(50) {
+            let public = self.draft.public(id, attributes);
+            Key {
+                public,
+                private: self.draft.private(id, attributes),
+            }
+        } else {
+            let private = self.draft.private(id, attributes);
+            Key {
+                public: self.draft.public(id, attributes),
+                private,
+            }
+        }
+    }
+
+    fn learns(&mut self, party: u8, t: u16) {
+        self.learned.push(Record::new(0x20).byte(party).word(t));
+    }
+
+    fn holds(&mut self, party: u8, private: u16) {
+        self.held.push(Record::new(0x21).byte(party).word(private));
+    }
+
+    /// Signing key of a desk or a TPM maker; a few owner desks have none.
+    fn desk_key(&mut self, party: u8, role: u8) -> Option<Key> {
+        let key = self.key(DESK_KEY);
+        if role != MAKER && self.rng.chance(3) {
+            return None;
+        }
+        self.holds(party, key.private);
+        self.signing
+            .push(Record::new(0x22).byte(party).word(key.private));
+        for p in 0..8 {
+            if self.rng.chance(60) {
+                self.learned
+                    .push(Record::new(0x20).byte(p).word(key.public));
+            }
+        }
+        Some(key)
+    }
+
+    fn device(&mut self, party: u8) {
+        let subject = self.id();
+        let attributes = self.rng.pick(&[0x0A, 0x02, 0x0A, 0x06, 0x0E]);
+        let plain = self.key(attributes);
+        self.holds(party, plain.private);
+        self.learns(party, plain.public);
+        let mut endorsements = Vec::new();
+        for _ in 0..1 + self.rng.below(2) {
+            let ek = self.key(EK);
+            self.holds(party, ek.private);
+            let maker = self.rng.below(self.makers.len());
+            let signer = self.makers[maker].key.map_or(plain.private, |k| k.private);
+            let tpm = self.id();
+            let certificate = self.draft.certificate(ek.public, Subject::Tpm(tpm), signer);
+            self.learns(party, certificate);
+            endorsements.push((ek, certificate));
+        }
+        self.devices.push(Device {
+            party,
+            subject,
+            endorsements,
+            plain,
+        });
+    }
+
+    fn other_device(&mut self, d: usize) -> usize {
+        (d + 1 + self.rng.below(self.devices.len().saturating_sub(1))) % self.devices.len()
+    }
+
+    /// The key of a desk, or any private key if it has none.
+    fn issuer(&self, key: Option<Key>, d: usize) -> u16 {
+        key.map_or(self.devices[d].plain.private, |k| k.private)
+    }
+
+    /// A new attestation key for a device, and its set-up.
+    fn attestation_key(&mut self, d: usize, slip: Slip) -> Key {
+        let attributes = if slip == Slip::WeakKey {
+            self.rng.pick(&WEAK)
+        } else if slip == Slip::NoHash {
+            0x0A
+        } else {
+            AK
+        };
+        let key = self.key(attributes);
+        let party = self.devices[d].party;
+        let holder = if slip == Slip::ForeignKey {
+            let other = self.other_device(d);
+            self.devices[other].party
+        } else {
+            party
+        };
+        self.holds(holder, key.private);
+        self.learns(party, key.public);
+        key
+    }
+
+    /// Hash, signature and pair over a body, with the commands that make them.
+    fn request(&mut self, d: usize, key: Key, body: u16, slip: Slip, to: &mut Vec<Record>) -> u16 {
+        let p = self.devices[d].party;
+        let hashed = if slip == Slip::OtherHash {
+            key.public
+        } else {
+            body
+        };
+        let message = if slip == Slip::NoHash {
+            body
+        } else {
+            let hash = self.draft.hash(hashed);
+            to.push(act(0x30, p, hash));
+            hash
+        };
+        let signer = if slip == Slip::OtherSigner {
+            self.devices[d].plain.private
+        } else {
+            key.private
+        };
+        let signature = self.draft.signature(message, signer);
+        to.push(act(0x31, p, signature));
+        let request = if slip == Slip::SwappedPair {
+            self.draft.pair(signature, body)
+        } else {
+            self.draft.pair(body, signature)
+        };
+        to.push(act(0x37, p, request));
+        if slip == Slip::BareBody {
+            body
+        } else {
+            request
+        }
+    }
+
+    /// The certificate a desk is asked for.
+    fn wanted(&mut self, d: usize, key: Key, subject: Subject, issuer: u16, slip: Slip) -> u16 {
+        let subject = match (slip, subject) {
+            (Slip::OtherSubject, Subject::Device(number)) => {
+                if self.rng.chance(50) {
+                    Subject::Device(number.wrapping_add(1))
+                } else {
+                    Subject::Tpm(number)
+                }
+            }
+            _ => subject,
+        };
+        let public = if slip == Slip::OtherKey {
+            self.devices[d].plain.public
+        } else {
+            key.public
+        };
+        let issuer = if slip == Slip::OtherIssuer {
+            self.devices[d].plain.private
+        } else {
+            issuer
+        };
+        self.draft.certificate(public, subject, issuer)
+    }
+
+    /// A number as the slip has it.
+    fn nonce(&mut self, oem: u8, slip: Slip) -> u16 {
+        if slip == Slip::UsedNumber {
+            if let Some(number) = self.rng.try_pick(&self.numbers) {
+                return number;
+            }
+        }
+        let id = self.next_id;
+        self.next_id += 1;
+        let number = self.draft.number(id);
+        if slip != Slip::UnknownNumber {
+            self.learns(oem, number);
+        }
+        if slip == Slip::SharedNumber {
+            let other = self.rng.below(self.draft.roles.len()) as u8;
+            self.learns(other, number);
+        }
+        self.numbers.push(number);
+        number
+    }
+
+    /// Enrolment of an IAK on an endorsement certificate.
+    fn enrol_iak(&mut self, d: usize, slip: Slip) {
+        let mut commands = Vec::new();
+        let p = self.devices[d].party;
+        let subject = self.devices[d].subject;
+        let desk = self.rng.below(self.oems.len());
+        let (oem, desk_key) = (self.oems[desk].party, self.oems[desk].key);
+        let key = self.attestation_key(d, slip);
+
+        let source = if slip == Slip::ForeignEndorsement {
+            self.other_device(d)
+        } else {
+            d
+        };
+        let chosen = self.rng.below(self.devices[source].endorsements.len());
+        let (mut ek, mut endorsement) = self.devices[source].endorsements[chosen];
+        let plain = self.devices[d].plain;
+        match slip {
+            Slip::SelfIssuedEndorsement | Slip::DeviceEndorsement => {
+                let s = if slip == Slip::DeviceEndorsement {
+                    Subject::Device(subject)
+                } else {
+                    Subject::Tpm(subject)
+                };
+                endorsement = self.draft.certificate(ek.public, s, plain.private);
+                commands.push(act(0x3D, p, endorsement));
+            }
+            Slip::WeakEndorsement => {
+                let attributes = self.rng.pick(&[0x05, 0x0C, 0x0F, 0x04]);
+                ek = self.key(attributes);
+                self.holds(p, ek.private);
+                let signer = self.issuer(self.makers[0].key, d);
+                endorsement = self
+                    .draft
+                    .certificate(ek.public, Subject::Tpm(subject), signer);
+                self.learns(p, endorsement);
+            }
+            Slip::ForeignEndorsement => self.learns(p, endorsement),
+            _ => {}
+        }
+
+        let named = if slip == Slip::TpmSubject {
+            Subject::Tpm(subject)
+        } else {
+            Subject::Device(subject)
+        };
+        let body = self.draft.idevid(named, endorsement, key.public);
+        commands.push(act(0x35, p, body));
+        let request = self.request(d, key, body, slip, &mut commands);
+        if slip == Slip::HashedAttest {
+            let attest = self.draft.attest(key.public);
+            let certified = self.draft.signature(attest, plain.private);
+            let hash = self.draft.hash(attest);
+            let signature = self.draft.signature(hash, key.private);
+            commands.extend([
+                act(0x32, p, certified),
+                act(0x30, p, hash),
+                act(0x31, p, signature),
+            ]);
+        }
+
+        let first = match slip {
+            Slip::OtherName => self.draft.hash(plain.public),
+            Slip::NoName => key.public,
+            _ => self.draft.hash(key.public),
+        };
+        let number = self.nonce(oem, slip);
+        let under = if slip == Slip::OtherEndorsement {
+            plain.public
+        } else {
+            ek.public
+        };
+        let credential = self.draft.credential(first, number, under);
+        let issuer = self.issuer(desk_key, d);
+        let certificate = self.wanted(d, key, Subject::Device(subject), issuer, slip);
+
+        if slip != Slip::NotSent {
+            commands.push(send(p, oem, request));
+        }
+        if self.rng.chance(25) {
+            self.desk_checks(oem, request, &mut commands);
+        }
+        let opener = if slip == Slip::WrongRole {
+            self.owners[0].party
+        } else {
+            oem
+        };
+        commands.push(challenge(opener, request, credential));
+        commands.push(send(oem, p, credential));
+        if slip != Slip::NoActivation {
+            commands.push(act(0x34, p, credential));
+        }
+        let returning = match slip {
+            Slip::ReturnedByDesk => oem,
+            Slip::ReturnedByOther => {
+                let other = self.other_device(d);
+                self.devices[other].party
+            }
+            _ => p,
+        };
+        let closing = match slip {
+            Slip::OtherDesk => self.oems[(desk + 1) % self.oems.len()].party,
+            Slip::WrongRole => self.owners[0].party,
+            _ => oem,
+        };
+        commands.push(issue_iak(closing, returning, credential, certificate));
+        commands.push(send(oem, p, certificate));
+        if slip == Slip::Twice {
+            commands.push(issue_iak(oem, p, credential, certificate));
+        }
+        if slip == Slip::Again {
+            let number = self.nonce(oem, Slip::None);
+            let credential = self.draft.credential(first, number, ek.public);
+            commands.extend([
+                challenge(oem, request, credential),
+                send(oem, p, credential),
+                act(0x34, p, credential),
+                issue_iak(oem, p, credential, certificate),
+            ]);
+        }
+        let issued = matches!(
+            slip,
+            Slip::None | Slip::Twice | Slip::Again | Slip::HashedAttest
+        );
+        self.finish(
+            d,
+            key,
+            certificate,
+            1,
+            issued && desk_key.is_some(),
+            None,
+            commands,
+        );
+    }
+
+    /// Enrolment of an LAK on an issued certificate.
+    fn enrol_lak(&mut self, parent: usize, slip: Slip) {
+        let mut commands = Vec::new();
+        let node = &self.nodes[parent];
+        let (d, above, depth, after) = (node.device, node.key, node.depth, node.flow);
+        let mut parent_certificate = node.certificate;
+        let p = self.devices[d].party;
+        let subject = self.devices[d].subject;
+        let plain = self.devices[d].plain;
+        let desk = self.rng.below(self.owners.len());
+        let (owner, desk_key) = (self.owners[desk].party, self.owners[desk].key);
+        let key = self.attestation_key(d, slip);
+
+        let attest = self.draft.attest(key.public);
+        let signer = if slip == Slip::PlainAttest {
+            plain.private
+        } else {
+            above.private
+        };
+        let mut message = self.draft.signature(attest, signer);
+        commands.push(act(0x32, p, message));
+        match slip {
+            Slip::NotAttest => {
+                message = if self.rng.chance(50) {
+                    attest
+                } else {
+                    key.public
+                }
+            }
+            Slip::SelfIssuedParent => {
+                let s = Subject::Device(subject);
+                parent_certificate = self.draft.certificate(above.public, s, plain.private);
+                commands.push(act(0x3D, p, parent_certificate));
+            }
+            Slip::EndorsementParent => {
+                // A TPM maker's certificate, of this device or for this key.
+                parent_certificate = self.devices[d].endorsements[0].1;
+                if self.rng.chance(70) {
+                    let signer = self.issuer(self.makers[0].key, d);
+                    let s = Subject::Tpm(subject);
+                    parent_certificate = self.draft.certificate(above.public, s, signer);
+                    self.learns(p, parent_certificate);
+                }
+            }
+            Slip::HashedAttest => {
+                let hash = self.draft.hash(attest);
+                let signature = self.draft.signature(hash, above.private);
+                commands.extend([act(0x30, p, hash), act(0x31, p, signature)]);
+            }
+            _ => {}
+        }
+        let body = self.draft.ldevid(message, parent_certificate);
+        commands.push(act(0x36, p, body));
+        let request = self.request(d, key, body, slip, &mut commands);
+        let issuer = self.issuer(desk_key, d);
+        let certificate = self.wanted(d, key, Subject::Device(subject), issuer, slip);
+        if slip != Slip::NotSent {
+            commands.push(send(p, owner, request));
+        }
+        if self.rng.chance(25) {
+            self.desk_checks(owner, request, &mut commands);
+        }
+        let issuing = if slip == Slip::WrongRole {
+            self.oems[0].party
+        } else {
+            owner
+        };
+        commands.push(issue_lak(issuing, request, certificate));
+        commands.push(send(owner, p, certificate));
+        if slip == Slip::Again {
+            commands.push(issue_lak(owner, request, certificate));
+        }
+        let issued = matches!(slip, Slip::None | Slip::Again | Slip::HashedAttest) && depth < 8;
+        let issued = issued && desk_key.is_some();
+        self.finish(
+            d,
+            key,
+            certificate,
+            depth + 1,
+            issued,
+            Some(after),
+            commands,
+        );
+    }
+
+    #[allow(clippy::too_many_arguments)]
+    fn finish(
+        &mut self,
+        device: usize,
+        key: Key,
+        certificate: u16,
+        depth: u16,
+        issued: bool,
+        after: Option<usize>,
+        commands: Vec<Record>,
+    ) {
+        let flow = self.flows.len();
+        self.flows.push(Flow { after, commands });
+        // A few children of certificates never issued are asked for, too.
+        if issued || self.rng.chance(2) {
+            self.nodes.push(Node {
+                device,
+                key,
+                certificate,
+                depth,
+                flow,
+            });
+        }
+    }
+
+    /// What a careful desk looks at, with a false check now and then.
+    fn desk_checks(&mut self, desk: u8, request: u16, to: &mut Vec<Record>) {
+        let pair = self.draft.terms[request as usize];
+        if pair.kind() != 0x1A {
+            return;
+        }
+        let (body, signature) = (pair.word_at(1), pair.word_at(3));
+        if self.draft.terms[signature as usize].kind() != 0x13 {
+            return;
+        }
+        let message = self.draft.terms[signature as usize].word_at(1);
+        if self.draft.terms[message as usize].kind() == 0x12 {
+            let content = if self.rng.chance(85) { body } else { message };
+            to.push(check(0x38, desk, message, content));
+        }
+        let inner = self.draft.terms[body as usize];
+        if inner.kind() == 0x17 {
+            let (certificate, public) = (inner.word_at(4), inner.word_at(6));
+            to.push(check(0x39, desk, signature, public));
+            let attributes = if self.rng.chance(85) { AK } else { EK };
+            to.push(check_attributes(desk, public, attributes));
+            if let Some(maker) = self.makers[0].key {
+                to.push(check(0x3A, desk, certificate, maker.public));
+            }
+        } else if inner.kind() == 0x18 {
+            let (message, certificate) = (inner.word_at(1), inner.word_at(3));
+            let public = self.draft.terms[certificate as usize].word_at(1);
+            if self.draft.terms[message as usize].kind() == 0x13 {
+                to.push(check(0x39, desk, message, public));
+            }
+            if let Some(key) = self.oems[0].key {
+                to.push(check(0x3A, desk, certificate, key.public));
+            }
+        }
+    }
+
+    /// A device makes a credential for itself and opens it.
+    fn rehearse(&mut self, d: usize) {
+        let p = self.devices[d].party;
+        let plain = self.devices[d].plain;
+        let chosen = self.rng.below(self.devices[d].endorsements.len());
+        let (ek, _) = self.devices[d].endorsements[chosen];
+        let id = self.id();
+        let number = self.draft.number(id);
+        self.learns(p, number);
+        let name = self.draft.hash(plain.public);
+        let under = if self.rng.chance(85) { ek } else { plain };
+        let credential = self.draft.credential(name, number, under.public);
+        let commands = vec![
+            act(0x30, p, name),
+            act(0x33, p, credential),
+            act(0x34, p, credential),
+            check(0x38, p, name, plain.public),
+        ];
+        self.flows.push(Flow {
+            after: None,
+            commands,
+        });
+    }
+
+    /// Enrolments until the budget of terms is spent.
+    fn enrol(&mut self, budget: usize, hostile: usize, deep: usize) {
+        while self.draft.terms.len() + 16 <= budget {
+            let iak = self.nodes.is_empty() || self.rng.chance(12);
+            if self.rng.chance(3) {
+                let d = self.rng.below(self.devices.len());
+                self.rehearse(d);
+            } else if iak {
+                let slip = if self.rng.chance(hostile) {
+                    self.rng.pick(&IAK_SLIPS)
+                } else {
+                    Slip::None
+                };
+                let d = self.rng.below(self.devices.len());
+                self.enrol_iak(d, slip);
+            } else {
+                let slip = if self.rng.chance(hostile) {
+                    self.rng.pick(&LAK_SLIPS)
+                } else {
+                    Slip::None
+                };
+                let parent = if self.rng.chance(deep) {
+                    self.nodes.len() - 1
+                } else {
+                    self.rng.below(self.nodes.len())
+                };
+                self.enrol_lak(parent, slip);
+            }
+        }
+    }
+
+    /// All flows merged, each after the one it needs.
+    fn merge(&mut self, width: usize) {
+        let mut done = vec![0; self.flows.len()];
+        let mut active: Vec<usize> = Vec::new();
+        let mut next = 0;
+        loop {
+            while active.len() < width && next < self.flows.len() {
+                active.push(next);
+                next += 1;
+            }
+            let ready: Vec<usize> = (0..active.len())
+                .filter(|&i| match self.flows[active[i]].after {
+                    Some(needed) => done[needed] == self.flows[needed].commands.len(),
+                    None => true,
+                })
+                .collect();
+            let Some(i) = self.rng.try_pick(&ready) else {
+                break;
+            };
+            let flow = active[i];
+            self.draft
+                .commands
+                .push(self.flows[flow].commands[done[flow]]);
+            done[flow] += 1;
+            if done[flow] == self.flows[flow].commands.len() {
+                active.remove(i);
+            }
+        }
+    }
+
+    /// A command that an enemy might add.
+    fn hostile(&mut self) -> Option<Record> {
+        let commands = self.draft.commands.len();
+        match self.rng.below(10) {
+            0..=2 => stray(&mut self.rng, &self.draft, None),
+            3..=4 => {
+                let p = self.rng.below(self.draft.roles.len()) as u8;
+                let receiver = self.rng.below(self.draft.roles.len()) as u8;
+                Some(send(
+                    p,
+                    receiver,
+                    self.rng.below(self.draft.terms.len()) as u16,
+                ))
+            }
+            5..=7 if commands > 0 => {
+                let chosen = self.rng.below(commands);
+                let command = self.draft.commands[chosen];
+                twisted(&mut self.rng, &self.draft, command)
+            }
+            _ if commands > 0 => {
+                let chosen = self.rng.below(commands);
+                Some(self.draft.commands[chosen])
+            }
+            _ => None,
+        }
+    }
+
+    /// Hostile commands between the others.
+    fn interleave(&mut self, percent: usize) {
+        let honest = self.draft.commands.clone();
+        let mut all = Vec::with_capacity(honest.len() * 2);
+        for command in honest {
+            while self.rng.chance(percent) {
+                all.extend(self.hostile());
+            }
+            all.push(command);
+        }
+        self.draft.commands = all;
+    }
+
+    /// Swaps, moves, losses and repeats.
+    fn disturb(&mut self) {
+        let commands = &mut self.draft.commands;
+        for _ in 0..1 + self.rng.below(6) {
+            if commands.len() < 2 {
+                return;
+            }
+            let i = self.rng.below(commands.len());
+            let j = self.rng.below(commands.len());
+            match self.rng.below(6) {
+                0 => {
+                    let next = (i + 1) % commands.len();
+                    commands.swap(i, next);
+                }
+                1 => commands.swap(i, j),
+                2 => {
+                    let command = commands.remove(i);
+                    commands.insert(j.min(commands.len()), command);
+                }
+                3 => {
+                    commands.remove(i);
+                }
+                4 => commands.insert(j, commands[i]),
+                _ => {
+                    let end = (i + 2 + j % 12).min(commands.len());
+                    self.rng.shuffle(&mut commands[i..end]);
+                }
+            }
+        }
+    }
+
+    /// Set-up in an order that is allowed, with a fault now and then.
+    fn settle(&mut self, faults: usize) {
+        self.rng.shuffle(&mut self.held);
+        self.rng.shuffle(&mut self.signing);
+        self.rng.shuffle(&mut self.learned);
+        // Public keys of desks were offered to eight parties.
+        let parties = self.draft.roles.len() as u8;
+        self.learned.retain(|r| r.bytes[1] < parties);
+        let mut all = std::mem::take(&mut self.held);
+        all.append(&mut self.signing);
+        all.append(&mut self.learned);
+        // What needs no key given first may stand anywhere.
+        for i in 0..all.len() {
+            let free = all[i].kind() == 0x20
+                && self.draft.terms[all[i].word_at(2) as usize].kind() != 0x19;
+            if free && self.rng.chance(20) {
+                let j = self.rng.below(i + 1);
+                let record = all.remove(i);
+                all.insert(j, record);
+            }
+        }
+        if self.rng.chance(faults) {
+            let kind = 0x20 + self.rng.below(3) as u8;
+            if let Some(record) = fitting(&mut self.rng, &self.draft, kind, 4) {
+                let place = self.rng.below(all.len() + 1);
+                all.insert(place, record);
+            }
+        }
+        self.draft.setup = all;
+    }
+
+    /// Commands cut so that the file is not too long.
+    fn cut(&mut self) {
+        let mut room = crate::FILE_BYTES.saturating_sub(self.draft.head());
+        let fits = self.draft.commands.iter().take_while(|r| {
+            let fits = r.length as usize <= room;
+            room = room.saturating_sub(r.length as usize);
+            fits
+        });
+        let fits = fits.count();
+        self.draft.commands.truncate(fits);
+    }
+
+    /// Commands added until the file has exactly the most bytes.
+    fn fill(&mut self) {
+        let used: usize = self.draft.commands.iter().map(|r| r.length as usize).sum();
+        let Some(mut room) = crate::FILE_BYTES.checked_sub(self.draft.head() + used) else {
+            return;
+        };
+        let mut misses = 0;
+        while room >= 4 && misses < 10_000 {
+            let Some(record) = self.hostile() else {
+                misses += 1;
+                continue;
+            };
+            let length = record.length as usize;
+            if length == room || length + 4 <= room {
+                self.draft.commands.push(record);
+                room -= length;
+            } else {
+                misses += 1;
+            }
+        }
+    }
+}
+
+/// A town with this many terms, roughly.
+fn town(rng: Rng, budget: usize) -> Town {
+    let mut town = Town::new(rng);
+    let hostile = if town.rng.chance(20) {
+        0
+    } else {
+        3 + town.rng.below(45)
+    };
+    let deep = town.rng.pick(&[20, 60, 90]);
+    town.enrol(budget, hostile, deep);
+    let width = 1 + town.rng.below(6);
+    town.merge(width);
+    if !town.rng.chance(25) {
+        let percent = 1 + town.rng.below(50);
+        town.interleave(percent);
+    }
+    if town.rng.chance(35) {
+        town.disturb();
+    }
+    if town.rng.chance(4) {
+        let mut commands = std::mem::take(&mut town.draft.commands);
+        town.rng.shuffle(&mut commands);
+        town.draft.commands = commands;
+    }
+    town
+}
+
+/// Enrolment worlds: honest flows with hostile commands between them, from a
+/// handful of terms up to the limits of the file.
+pub fn world(seed: u64) -> Vec<u8> {
+    let mut rng = Rng::new(seed, 1);
+    let budget = match rng.below(10) {
+        0..=3 => 40 + rng.below(120),
+        4..=6 => 160 + rng.below(440),
+        _ => 600 + rng.below(425),
+    };
+    let mut town = town(rng, budget);
+    if town.rng.chance(10) {
+        // Up to the last term, and rarely past it.
+        let limit = if town.rng.chance(90) { 1_024 } else { 1_025 };
+        let mut id = 40_000;
+        while town.draft.terms.len() < limit {
+            town.draft.number(id);
+            id += 1;
+        }
+    }
+    town.settle(2);
+    if town.rng.chance(15) {
+        town.fill();
+    }
+    if town.rng.chance(98) {
+        town.cut();
+    }
+    town.draft.file()
+}
+
+// ---------------------------------------------------------------------------
+// Random records
+
+/// Random records in the right sections, with fields that mostly fit, so that
+/// many of the files load.
+pub fn random_records(seed: u64) -> Vec<u8> {
+    let mut rng = Rng::new(seed, 2);
+    let mut draft = Draft::new();
+    let ids = 1 + rng.below(8);
+
+    for _ in 0..1 + rng.below(8) {
+        let role = rng.pick(&[DEVICE, DEVICE, DEVICE, MAKER, OEM, OEM, OWNER, OWNER]);
+        draft.party(role);
+    }
+
+    let terms = match rng.below(20) {
+        0 => 1_024,
+        1..=3 => 1 + rng.below(600),
+        _ => 1 + rng.below(120),
+    };
+    let mut misses = 0;
+    while draft.terms.len() < terms && misses < 3 * terms {
+        if draft.terms.len() < 6 && rng.chance(60) {
+            let id = rng.below(ids) as u16;
+            let attributes = rng.pick(&[AK, EK, DESK_KEY, 0x02]);
+            draft.public(id, attributes);
+            draft.private(id, attributes);
+            continue;
+        }
+        let before = draft.terms.len();
+        if rng.chance(8) {
+            bundle(&mut rng, &mut draft);
+        } else {
+            let kind = rng.pick(&[
+                0x10, 0x10, 0x10, 0x11, 0x11, 0x11, 0x12, 0x12, 0x13, 0x13, 0x14, 0x15, 0x16, 0x16,
+                0x17, 0x18, 0x19, 0x19, 0x1A,
+            ]);
+            let ids = if kind == 0x16 { 64 } else { ids };
+            if let Some(record) = fitting(&mut rng, &draft, kind, ids) {
+                draft.term(record);
+            }
+        }
+        if draft.terms.len() == before {
+            misses += 1;
+        }
+    }
+    draft.terms.truncate(terms);
+    for list in &mut draft.kinds {
+        list.retain(|&t| (t as usize) < terms);
+    }
+
+    // One party gets much of what there is, so that its commands succeed.
+    let main = rng.try_pick(&draft.parties_of(DEVICE)).unwrap_or(0);
+    set_up_at_random(&mut rng, &mut draft, main);
+
+    let commands = match rng.below(20) {
+        0 => 5_000,
+        1..=4 => rng.below(1_500),
+        _ => rng.below(200),
+    };
+    for _ in 0..rng.below(4) {
+        sweep(&mut rng, &mut draft, main);
+    }
+    while draft.commands.len() < commands {
+        match stray(&mut rng, &draft, Some(main)) {
+            Some(record) => draft.push(record),
+            None => break,
+        }
+    }
+
+    // One field or record that does not fit, in some files.
+    if rng.chance(25) {
+        let list = match rng.below(4) {
+            0 | 1 => &mut draft.terms,
+            2 => &mut draft.setup,
+            _ => &mut draft.commands,
+        };
+        if !list.is_empty() {
+            let i = rng.below(list.len());
+            let record = &mut list[i];
+            match rng.below(4) {
+                0 => {
+                    let j = 1 + rng.below(record.length as usize - 1);
+                    record.bytes[j] = rng.byte();
+                }
+                1 => record.bytes[record.length as usize - 1] ^= 1 << rng.below(8),
+                2 => {
+                    let copy = list[rng.below(list.len())];
+                    list.insert(i, copy);
+                }
+                _ => {
+                    list.remove(i);
+                }
+            }
+        }
+    }
+    let mut file = draft.file();
+    if file.len() > crate::FILE_BYTES && rng.chance(90) {
+        let last = starts(&file)
+            .into_iter()
+            .filter(|&s| s <= crate::FILE_BYTES)
+            .max();
+        file.truncate(last.unwrap_or(0));
+    }
+    file
+}
+
+/// A request over a body that is there already.
+fn bundle(rng: &mut Rng, draft: &mut Draft) {
+    let kind = rng.pick(&[0x17, 0x18]);
+    let Some(body) = rng.try_pick(draft.of_kind(kind)) else {
+        return;
+    };
+    let Some(key) = rng.try_pick(draft.of_kind(0x11)) else {
+        return;
+    };
+    let hash = draft.hash(body);
+    let signature = draft.signature(hash, key);
+    draft.pair(body, signature);
+}
+
+fn set_up_at_random(rng: &mut Rng, draft: &mut Draft, main: u8) {
+    let parties = draft.roles.len();
+    let lucky = |rng: &mut Rng| {
+        if rng.chance(50) {
+            main
+        } else {
+            rng.below(parties) as u8
+        }
+    };
+    let mut makers_keys = Vec::new();
+    let mut signing = vec![false; parties];
+    for key in draft.of_kind(0x11).to_vec() {
+        if rng.chance(25) {
+            continue;
+        }
+        let attributes = draft.terms[key as usize].bytes[3];
+        let mut p = lucky(rng) as usize;
+        if attributes == DESK_KEY && rng.chance(70) {
+            p = (0..parties)
+                .find(|&q| draft.roles[q] != DEVICE && !signing[q])
+                .unwrap_or(p);
+        }
+        draft.holds(p as u8, key);
+        if attributes == DESK_KEY && draft.roles[p] != DEVICE && !signing[p] && rng.chance(90) {
+            signing[p] = true;
+            draft.signs(p as u8, key);
+            if draft.roles[p] == MAKER {
+                makers_keys.push(key);
+            }
+        } else if attributes & 8 == 0 && rng.chance(30) {
+            draft.holds(rng.below(parties) as u8, key);
+        }
+    }
+    let generous = rng.pick(&[20, 60, 95]);
+    for t in 0..draft.terms.len() as u16 {
+        let record = draft.terms[t as usize];
+        let allowed = match record.kind() {
+            0x10 | 0x16 => true,
+            0x19 => record.bytes[3] == 0 && makers_keys.contains(&record.word_at(6)),
+            _ => false,
+        };
+        if allowed && rng.chance(generous) {
+            draft.learns(lucky(rng), t);
+            if record.kind() != 0x16 && rng.chance(50) {
+                draft.learns(lucky(rng), t);
+            }
+        }
+    }
+}
+
+/// The commands that make the terms, in their order, mostly by one party.
+fn sweep(rng: &mut Rng, draft: &mut Draft, main: u8) {
+    for t in 0..draft.terms.len() as u16 {
+        if rng.chance(30) {
+            continue;
+        }
+        let record = draft.terms[t as usize];
+        let p = if rng.chance(90) {
+            main
+        } else {
+            rng.below(draft.roles.len()) as u8
+        };
+        let command = match record.kind() {
+            0x12 => act(0x30, p, t),
+            0x13 => {
+                let attest = draft.terms[record.word_at(1) as usize].kind() == 0x14;
+                act(if attest && rng.chance(80) { 0x32 } else { 0x31 }, p, t)
+            }
+            0x15 => act(rng.pick(&[0x33, 0x34]), p, t),
+            0x17 => act(0x35, p, t),
+            0x18 => act(0x36, p, t),
+            0x19 => act(0x3D, p, t),
+            0x1A => act(0x37, p, t),
+            _ => send(rng.below(draft.roles.len()) as u8, p, t),
+        };
+        draft.push(command);
+        if rng.chance(10) {
+            let receiver = rng.below(draft.roles.len()) as u8;
+            draft.push(send(p, receiver, t));
+        }
+    }
+}
+
+// ---------------------------------------------------------------------------
+// Damage
+
+/// A file that looks right, with bytes changed, added, lost or cut off.
+pub fn damaged(seed: u64) -> Vec<u8> {
+    let mut rng = Rng::new(seed, 3);
+    let mut file = if rng.chance(60) {
+        let budget = 30 + rng.below(150);
+        let own = Rng::new(rng.next(), 4);
+        let mut town = town(own, budget);
+        town.settle(10);
+        town.cut();
+        town.draft.file()
+    } else {
+        random_records(rng.next())
+    };
+    let edits = if rng.chance(65) { 1 } else { 2 + rng.below(4) };
+    for _ in 0..edits {
+        if file.is_empty() {
+            break;
+        }
+        let i = rng.below(file.len());
+        match rng.below(11) {
+            0..=2 => file[i] = rng.byte(),
+            3 => file[i] ^= 1 << rng.below(8),
+            4 => file[i] = file[i].wrapping_add(if rng.chance(50) { 1 } else { 255 }),
+            5 => file.insert(i, rng.byte()),
+            6 => {
+                file.remove(i);
+            }
+            7 => file.truncate(i),
+            _ => damage_record(&mut rng, &mut file),
+        }
+    }
+    file
+}
+
+/// Whole records repeated, moved, put in or taken out.
+fn damage_record(rng: &mut Rng, file: &mut Vec<u8>) {
+    let mut places = starts(file);
+    places.push(file.len());
+    if places.len() < 3 {
+        return;
+    }
+    let i = rng.below(places.len() - 1);
+    let (start, end) = (places[i], places[i + 1].min(file.len()));
+    let record = file[start..end].to_vec();
+    let target = rng.pick(&places).min(file.len());
+    match rng.below(4) {
+        0 => {
+            file.splice(target..target, record);
+        }
+        1 => {
+            file.drain(start..end);
+        }
+        2 => {
+            let kind = rng.byte();
+            file.insert(target, kind);
+        }
+        _ => file[start] = 0x01 + rng.byte() % 0x42,
+    }
+}
+
+/// Any of these, and empty, over-long and meaningless files.
+pub fn any(seed: u64) -> Vec<u8> {
+    let mut rng = Rng::new(seed, 5);
+    let own = rng.next();
+    match rng.below(100) {
+        0..=44 => world(own),
+        45..=64 => random_records(own),
+        65..=89 => damaged(own),
+        90 => Vec::new(),
+        91..=93 => {
+            let mut file = world(own);
+            let length = crate::FILE_BYTES + 1 + rng.pick(&[0, 0, 1, 7, 300]);
+            while file.len() < length {
+                file.extend_from_slice(&[0x30, 0, 0, 0]);
+            }
+            file.truncate(length);
+            file
+        }
+        _ => {
+            let length = if rng.chance(90) {
+                rng.below(200)
+            } else {
+                rng.below(33_000)
+            };
+            let usual = rng.chance(50);
+            (0..length)
+                .map(|_| if usual { rng.byte() % 0x42 } else { rng.byte() })
+                .collect()
+        }
+    }
+}
