@@ -1,1 +1,4 @@
 pub mod Outcomes
+pub mod Tested
+pub mod Halves
+pub mod Effects

@@ -1,8 +1,24 @@
 // Device commands: what each decides, by the words where the terms stand.
 ghost use mathlib.Core.Path.{_≡_};
-ghost use Rattle.rules.specs.File.{hash, sign, certify, makeCredential, activateCredential, makeIdevidRequest, makeLdevidRequest, makePair, checkHash, checkSignature, checkCertificate, checkAttributes, send, selfIssue};
+ghost use mathlib.Core.Bool.{_||_};
+ghost use mathlib.Core.List.{[], _∷_};
+ghost use Prim.Native.Nat.{_+_, _*_, _<_, _≤_};
+ghost use lib.Dec.{eqb};
+ghost use lib.ListN.{length};
+ghost use Rattle.rules.specs.Limits.{rowWidth, partyLimit, termLimit, device, oemDesk, ownerDesk};
+ghost use Rattle.rules.specs.Refusals.{need};
+ghost use Rattle.rules.specs.File.{hash, sign, certify, makeCredential, activateCredential, makeIdevidRequest, makeLdevidRequest, makePair, isRole, checkHash, checkSignature, checkCertificate, checkAttributes, send, selfIssue};
+ghost use Rattle.rules.specs.Device.{maySend, mayBeSentByDesk};
 ghost use Rattle.theorems.proofs.Loading.{Wellformed};
-ghost use Rattle.loaded.specs.Loaded.{fileIn, Holds, Finds, Decides};
+ghost use Rattle.state.specs.View.{view};
+ghost use Rattle.tables.specs.Regions.{tablesIn};
+ghost use Rattle.loaded.specs.Chain.{chain};
+ghost use Rattle.loaded.specs.Loaded.{fileIn, Holds, Finds, PartyHere, TermHere, Decides, Leaves};
+
+// Roles of desks.
+const OEM_DESK: u8 = 2;
+
+const OWNER_DESK: u8 = 3;
 
 // 30 Hash.
 pub fn decide_hash(file: &[u8], state: &[u8], party: usize, r: usize) -> u8
@@ -17,4 +33,381 @@ pub fn decide_hash(file: &[u8], state: &[u8], party: usize, r: usize) -> u8
         return 14;
     }
     0
+}
+
+// 33 MakeCredential.
+pub fn decide_make_credential(file: &[u8], state: &[u8], party: usize, r: usize) -> u8
+    requires { ⌜ Holds (now file) (now state) × Wellformed (fileIn (now file)) (makeCredential party r) ⌝ }
+    ensures { λ x. ⌜ Decides (now (file .entry)) (now (state .entry)) (makeCredential party r) x ⌝ }
+{
+    if !loaded::is_role(file, party, rules::DEVICE) {
+        return 13;
+    }
+    let content = loaded::credential_term_of(file, state, r);
+    if !state::knows(state, party, content) {
+        return 14;
+    }
+    let number = loaded::credential_number_of(file, state, r);
+    if !state::knows(state, party, number) {
+        return 14;
+    }
+    let key = loaded::credential_key_of(file, state, r);
+    if !state::knows(state, party, key) {
+        return 14;
+    }
+    0
+}
+
+// Role 0, and two terms known: what 35, 36 and 37 ask.
+fn both_known(file: &[u8], state: &[u8], party: usize, t: usize, u: usize) -> u8
+    requires { ⌜ Holds (now file) (now state) × (party < length (fileIn (now file) .roles)) × (t < length (fileIn (now file) .terms)) × (u < length (fileIn (now file) .terms)) ⌝ }
+    ensures { λ x. ⌜ x ≡ chain (need 13 (isRole (fileIn (now (file .entry))) device party) ∷ need 14 (view (now (state .entry)) .knows party t) ∷ need 14 (view (now (state .entry)) .knows party u) ∷ []) ⌝ }
+{
+    if !loaded::is_role(file, party, rules::DEVICE) {
+        return 13;
+    }
+    if !state::knows(state, party, t) {
+        return 14;
+    }
+    if !state::knows(state, party, u) {
+        return 14;
+    }
+    0
+}
+
+// 35 MakeIdevidRequest.
+pub fn decide_idevid_request(file: &[u8], state: &[u8], party: usize, r: usize) -> u8
+    requires { ⌜ Holds (now file) (now state) × Wellformed (fileIn (now file)) (makeIdevidRequest party r) ⌝ }
+    ensures { λ x. ⌜ Decides (now (file .entry)) (now (state .entry)) (makeIdevidRequest party r) x ⌝ }
+{
+    let certificate = loaded::idevid_certificate_of(file, state, r);
+    let key = loaded::idevid_key_of(file, state, r);
+    both_known(file, state, party, certificate, key)
+}
+
+// 36 MakeLdevidRequest.
+pub fn decide_ldevid_request(file: &[u8], state: &[u8], party: usize, r: usize) -> u8
+    requires { ⌜ Holds (now file) (now state) × Wellformed (fileIn (now file)) (makeLdevidRequest party r) ⌝ }
+    ensures { λ x. ⌜ Decides (now (file .entry)) (now (state .entry)) (makeLdevidRequest party r) x ⌝ }
+{
+    let message = loaded::ldevid_message_of(file, state, r);
+    let certificate = loaded::ldevid_certificate_of(file, state, r);
+    both_known(file, state, party, message, certificate)
+}
+
+// 37 MakePair.
+pub fn decide_pair(file: &[u8], state: &[u8], party: usize, r: usize) -> u8
+    requires { ⌜ Holds (now file) (now state) × Wellformed (fileIn (now file)) (makePair party r) ⌝ }
+    ensures { λ x. ⌜ Decides (now (file .entry)) (now (state .entry)) (makePair party r) x ⌝ }
+{
+    let left = loaded::left_of(file, state, r);
+    let right = loaded::right_of(file, state, r);
+    both_known(file, state, party, left, right)
+}
+
+// Whether a party is an OEM or an owner desk.
+fn is_desk(file: &[u8], party: usize) -> bool
+    requires { ⌜ PartyHere (now file) party ⌝ }
+    ensures { λ x. ⌜ x ≡ (isRole (fileIn (now (file .entry))) oemDesk party || isRole (fileIn (now (file .entry))) ownerDesk party) ⌝ }
+{
+    if loaded::is_role(file, party, OEM_DESK) {
+        return true;
+    }
+    loaded::is_role(file, party, OWNER_DESK)
+}
+
+// Whether a desk may send a term: a public key, a credential or a certificate.
+fn sent_by_desks(file: &[u8], state: &[u8], t: usize) -> bool
+    requires { ⌜ TermHere (now file) (now state) t ⌝ }
+    ensures { λ x. ⌜ x ≡ mayBeSentByDesk (fileIn (now (file .entry))) t ⌝ }
+{
+    if loaded::is_kind(file, state, t, 0x10) {
+        return true;
+    }
+    if loaded::is_kind(file, state, t, 0x15) {
+        return true;
+    }
+    loaded::is_kind(file, state, t, 0x19)
+}
+
+// Whether a party may send a term.
+fn may_send(file: &[u8], state: &[u8], party: usize, t: usize) -> bool
+    requires { ⌜ PartyHere (now file) party × TermHere (now file) (now state) t ⌝ }
+    ensures { λ x. ⌜ x ≡ maySend (fileIn (now (file .entry))) party t ⌝ }
+{
+    if loaded::is_role(file, party, rules::DEVICE) {
+        return true;
+    }
+    if !is_desk(file, party) {
+        return false;
+    }
+    sent_by_desks(file, state, t)
+}
+
+// 3C Send, to any party.
+pub fn decide_send(file: &[u8], state: &[u8], party: usize, other: usize, t: usize) -> u8
+    requires { ⌜ Holds (now file) (now state) × Wellformed (fileIn (now file)) (send party other t) ⌝ }
+    ensures { λ x. ⌜ Decides (now (file .entry)) (now (state .entry)) (send party other t) x ⌝ }
+{
+    if !may_send(file, state, party, t) {
+        return 13;
+    }
+    if !state::knows(state, party, t) {
+        return 14;
+    }
+    0
+}
+
+// 3D SelfIssue.
+pub fn decide_self_issue(file: &[u8], state: &[u8], party: usize, r: usize) -> u8
+    requires { ⌜ Holds (now file) (now state) × Wellformed (fileIn (now file)) (selfIssue party r) ⌝ }
+    ensures { λ x. ⌜ Decides (now (file .entry)) (now (state .entry)) (selfIssue party r) x ⌝ }
+{
+    if !loaded::is_role(file, party, rules::DEVICE) {
+        return 13;
+    }
+    let certified = loaded::certified_key_of(file, state, r);
+    if !state::knows(state, party, certified) {
+        return 14;
+    }
+    let signer = loaded::signer_of(file, state, r);
+    if !state::in_table(state, party, signer) {
+        return 15;
+    }
+    if !loaded::key_has(file, state, signer, rules::Attributes::SIGN) {
+        return 16;
+    }
+    if loaded::key_has(file, state, signer, rules::Attributes::RESTRICTED) {
+        return 16;
+    }
+    0
+}
+
+// Whether a term is known, where that is asked.
+fn known_unless(state: &[u8], party: usize, t: usize, free: bool) -> bool
+    requires { ⌜ (party < partyLimit) × (rowWidth * t + rowWidth ≤ length (now state)) ⌝ }
+    ensures { λ x. ⌜ x ≡ (free || view (now (state .entry)) .knows party t) ⌝ }
+{
+    if free {
+        return true;
+    }
+    state::knows(state, party, t)
+}
+
+// 31 Sign: a Restricted key signs a 12 of this TPM's table, another key what is known.
+pub fn decide_sign(file: &[u8], state: &[u8], party: usize, r: usize) -> u8
+    requires { ⌜ Holds (now file) (now state) × Wellformed (fileIn (now file)) (sign party r) ⌝ }
+    ensures { λ x. ⌜ Decides (now (file .entry)) (now (state .entry)) (sign party r) x ⌝ }
+{
+    if !loaded::is_role(file, party, rules::DEVICE) {
+        return 13;
+    }
+    let key = loaded::signing_key_of(file, state, r);
+    let message = loaded::message_of(file, state, r);
+    let restricted = loaded::key_has(file, state, key, rules::Attributes::RESTRICTED);
+    if !known_unless(state, party, message, restricted) {
+        return 14;
+    }
+    if !state::in_table(state, party, key) {
+        return 15;
+    }
+    if !loaded::key_has(file, state, key, rules::Attributes::SIGN) {
+        return 16;
+    }
+    if !restricted {
+        return 0;
+    }
+    if !loaded::is_kind(file, state, message, 0x12) {
+        return 17;
+    }
+    if !state::in_table(state, party, message) {
+        return 17;
+    }
+    0
+}
+
+// 32 Certify.
+pub fn decide_certify(
+    file: &[u8],
+    state: &[u8],
+    tables: &[u16; tables::WORDS],
+    party: usize,
+    r: usize,
+) -> u8
+    requires { ⌜ Holds (now file) (now state) × Wellformed (fileIn (now file)) (certify party r) × Finds (now file) (now tables) ⌝ }
+    ensures { λ x. ⌜ Decides (now (file .entry)) (now (state .entry)) (certify party r) x ⌝ }
+{
+    if !loaded::is_role(file, party, rules::DEVICE) {
+        return 13;
+    }
+    let key = loaded::signing_key_of(file, state, r);
+    if !state::in_table(state, party, key) {
+        return 15;
+    }
+    let message = loaded::message_of(file, state, r);
+    let attested = loaded::attested_key_of(file, state, message);
+    if !lookup::holds_half(state, tables, party, attested) {
+        return 15;
+    }
+    if !loaded::key_has(file, state, key, rules::Attributes::SIGN) {
+        return 16;
+    }
+    0
+}
+
+// 34 ActivateCredential.
+pub fn decide_activate(
+    file: &[u8],
+    state: &[u8],
+    tables: &[u16; tables::WORDS],
+    party: usize,
+    r: usize,
+) -> u8
+    requires { ⌜ Holds (now file) (now state) × Wellformed (fileIn (now file)) (activateCredential party r) × Finds (now file) (now tables) ⌝ }
+    ensures { λ x. ⌜ Decides (now (file .entry)) (now (state .entry)) (activateCredential party r) x ⌝ }
+{
+    if !loaded::is_role(file, party, rules::DEVICE) {
+        return 13;
+    }
+    if !state::knows(state, party, r) {
+        return 14;
+    }
+    let key = loaded::credential_key_of(file, state, r);
+    if !lookup::holds_half(state, tables, party, key) {
+        return 15;
+    }
+    let content = loaded::credential_term_of(file, state, r);
+    if !loaded::is_kind(file, state, content, 0x12) {
+        return 15;
+    }
+    let named = loaded::hashed_term(file, state, content);
+    if !loaded::is_kind(file, state, named, 0x10) {
+        return 15;
+    }
+    if !lookup::holds_half(state, tables, party, named) {
+        return 15;
+    }
+    if !loaded::key_has(file, state, key, rules::Attributes::RESTRICTED) {
+        return 16;
+    }
+    if !loaded::key_has(file, state, key, rules::Attributes::DECRYPT) {
+        return 16;
+    }
+    0
+}
+
+// Whether a party may check: a device or a desk.
+fn may_check(file: &[u8], party: usize) -> bool
+    requires { ⌜ PartyHere (now file) party ⌝ }
+    ensures { λ x. ⌜ x ≡ (isRole (fileIn (now (file .entry))) device party || isRole (fileIn (now (file .entry))) oemDesk party || isRole (fileIn (now (file .entry))) ownerDesk party) ⌝ }
+{
+    if loaded::is_role(file, party, rules::DEVICE) {
+        return true;
+    }
+    is_desk(file, party)
+}
+
+// The role, two terms known and what is checked: what 38 to 3B ask.
+fn checked(file: &[u8], state: &[u8], party: usize, t: usize, u: usize, right: bool) -> u8
+    requires { ⌜ Holds (now file) (now state) × (party < length (fileIn (now file) .roles)) × (t < length (fileIn (now file) .terms)) × (u < length (fileIn (now file) .terms)) ⌝ }
+    ensures { λ x. ⌜ x ≡ chain (need 13 (isRole (fileIn (now (file .entry))) device party || isRole (fileIn (now (file .entry))) oemDesk party || isRole (fileIn (now (file .entry))) ownerDesk party) ∷ need 14 (view (now (state .entry)) .knows party t) ∷ need 14 (view (now (state .entry)) .knows party u) ∷ need 18 right ∷ []) ⌝ }
+{
+    if !may_check(file, party) {
+        return 13;
+    }
+    if !state::knows(state, party, t) {
+        return 14;
+    }
+    if !state::knows(state, party, u) {
+        return 14;
+    }
+    if !right {
+        return 18;
+    }
+    0
+}
+
+// Whether a term is noted as the private half of a key.
+fn is_half(tables: &[u16; tables::WORDS], key: usize, half: usize) -> bool
+    requires { ⌜ (key < termLimit) × (half < termLimit) ⌝ }
+    ensures { λ x. ⌜ x ≡ eqb (tablesIn (now (tables .entry)) .half key) (half + 1) ⌝ }
+{
+    let noted = tables::half_of(tables, key) as usize;
+    noted == half + 1
+}
+
+// 38 CheckHash.
+pub fn decide_check_hash(file: &[u8], state: &[u8], party: usize, h: usize, t: usize) -> u8
+    requires { ⌜ Holds (now file) (now state) × Wellformed (fileIn (now file)) (checkHash party h t) ⌝ }
+    ensures { λ x. ⌜ Decides (now (file .entry)) (now (state .entry)) (checkHash party h t) x ⌝ }
+{
+    let content = loaded::hashed_term(file, state, h);
+    checked(file, state, party, h, t, content == t)
+}
+
+// 39 CheckSignature.
+pub fn decide_check_signature(
+    file: &[u8],
+    state: &[u8],
+    tables: &[u16; tables::WORDS],
+    party: usize,
+    t: usize,
+    k: usize,
+) -> u8
+    requires { ⌜ Holds (now file) (now state) × Wellformed (fileIn (now file)) (checkSignature party t k) × Finds (now file) (now tables) ⌝ }
+    ensures { λ x. ⌜ Decides (now (file .entry)) (now (state .entry)) (checkSignature party t k) x ⌝ }
+{
+    let key = loaded::signing_key_of(file, state, t);
+    let right = is_half(tables, k, key);
+    checked(file, state, party, t, k, right)
+}
+
+// 3A CheckCertificate.
+pub fn decide_check_certificate(
+    file: &[u8],
+    state: &[u8],
+    tables: &[u16; tables::WORDS],
+    party: usize,
+    t: usize,
+    k: usize,
+) -> u8
+    requires { ⌜ Holds (now file) (now state) × Wellformed (fileIn (now file)) (checkCertificate party t k) × Finds (now file) (now tables) ⌝ }
+    ensures { λ x. ⌜ Decides (now (file .entry)) (now (state .entry)) (checkCertificate party t k) x ⌝ }
+{
+    let key = loaded::signer_of(file, state, t);
+    let right = is_half(tables, k, key);
+    checked(file, state, party, t, k, right)
+}
+
+// 3B CheckAttributes.
+pub fn decide_check_attributes(file: &[u8], state: &[u8], party: usize, k: usize, bits: u8) -> u8
+    requires { ⌜ Holds (now file) (now state) × Wellformed (fileIn (now file)) (checkAttributes party k bits) ⌝ }
+    ensures { λ x. ⌜ Decides (now (file .entry)) (now (state .entry)) (checkAttributes party k bits) x ⌝ }
+{
+    let at = state::place_of(state, k);
+    let attributes = learning::attributes_at(file, at);
+    checked(file, state, party, k, k, attributes.bits == bits)
+}
+
+// What 30 leaves: the party learns the hash, and its TPM table has it unless it is of an attest.
+pub fn effect_hash(file: &[u8], state: &mut [u8], party: usize, r: usize)
+    requires { ⌜ Holds (now file) (now state) × Wellformed (fileIn (now file)) (hash party r) ⌝ }
+    ensures { λ _. ⌜ Leaves (now (file .entry)) (now (state .entry)) (now (state .exit)) (hash party r) ⌝ }
+{
+    let content = loaded::hashed_term(file, state, r);
+    let attested = loaded::is_kind(file, state, content, 0x14);
+    loaded::learn(file, state, party, r);
+    if attested {
+        return;
+    }
+    state::note_table(state, party, r);
+}
+
+// What 34 leaves: the party learns the number.
+pub fn effect_activate(file: &[u8], state: &mut [u8], party: usize, r: usize)
+    requires { ⌜ Holds (now file) (now state) × Wellformed (fileIn (now file)) (activateCredential party r) ⌝ }
+    ensures { λ _. ⌜ Leaves (now (file .entry)) (now (state .entry)) (now (state .exit)) (activateCredential party r) ⌝ }
+{
+    let number = loaded::credential_number_of(file, state, r);
+    loaded::learn(file, state, party, number);
 }

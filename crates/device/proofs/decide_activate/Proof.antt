@@ -1,0 +1,175 @@
+use mathlib.Core.Path.{sym, ap, _∙_}
+use Prim.Native.Nat.{ℕ}
+use native.Mathlib.Omega.{arith}
+use borrow.Author.Tests.{not-true, not-false}
+use denote.Ref.{now}
+use Rattle.rules.specs.Attributes.{restricted, decrypt}
+use Rattle.rules.specs.Term.{publicKeyKind, hashKind}
+use Rattle.rules.specs.File.{isKind, hashedTerm}
+use Rattle.rules.specs.Device.{keyHas}
+use Rattle.theorems.proofs.Terms.{isKind-kind}
+use Rattle.state.specs.View.{view}
+use Rattle.state.proofs.Exact.{stateOf}
+use Rattle.loaded.specs.Loaded.{fileIn}
+use Rattle.loaded.proofs.Chain.{chain-none, chain-passes, chain-fails}
+use Rattle.loaded.proofs.Standing.{party-here, term-here, kind-declared, hashed-declared, credential-term-declared, credential-key-declared}
+use Rattle.device.proofs.Tested.{of-read}
+use Rattle.device.proofs.Halves.{half-asked, half-read}
+use Rattle.device.proofs.Outcomes.{activate-chain}
+use Rattle.device.proofs.decide_activate.Statement.{statement}
+use Rattle.device.proofs.decide_activate.Tie as tie
+
+is-role-requires : tie.Need-is-role-requires
+is-role-requires c κs =
+    let p = c .before .before .pre in
+    party-here (p .0) (p .1 .0)
+
+returns : tie.Need-returns
+returns c ledger =
+    let a = c .before .before .before .before .args in
+    sym (activate-chain (fileIn (now (a .file))) (stateOf (view (now (a .state))) ledger) (a .party) (a .r)
+    ∙ chain-fails 13 _ _ (sym (c .before .is-role .ensures) ∙ not-true _ (c .if1 .taken)))
+
+knows-requires : tie.Need-knows-requires
+knows-requires c κs =
+    let p = c .before .before .before .before .pre in
+    (omega (arith, p .0 .parties, p .1 .0), term-here (p .0) (kind-declared _ (p .1 .1) (λ q. omega arith)) .row)
+
+returns-2 : tie.Need-returns-2
+returns-2 c ledger =
+    let a = c .before .before .before .before .before .before .args in
+    sym (activate-chain (fileIn (now (a .file))) (stateOf (view (now (a .state))) ledger) (a .party) (a .r)
+    ∙ chain-passes 13 _ _ (sym (c .before .before .before .is-role .ensures) ∙ not-false _ (c .before .before .if1 .left))
+    ∙ chain-fails 14 _ _ (sym (c .before .knows .ensures) ∙ not-true _ (c .if2 .taken)))
+
+credential-key-of-requires : tie.Need-credential-key-of-requires
+credential-key-of-requires c κs =
+    let p = c .before .before .before .before .before .before .pre in
+    (term-here (p .0) (kind-declared _ (p .1 .1) (λ q. omega arith)), p .1 .1)
+
+holds-half-requires : tie.Need-holds-half-requires
+holds-half-requires c κs =
+    let p = c .before .before .before .before .before .before .before .pre in
+    rw (c .credential-key-of .ensures) (half-asked (p .0) (p .2) (credential-key-declared (p .0) (kind-declared _ (p .1 .1) (λ q. omega arith)) (p .1 .1)) (p .1 .0))
+
+returns-3 : tie.Need-returns-3
+returns-3 c ledger =
+    let a = c .before .before .before .before .before .before .before .before .before .args in
+    let p = c .before .before .before .before .before .before .before .before .before .pre in
+    sym (activate-chain (fileIn (now (a .file))) (stateOf (view (now (a .state))) ledger) (a .party) (a .r)
+    ∙ chain-passes 13 _ _ (sym (c .before .before .before .before .before .before .is-role .ensures) ∙ not-false _ (c .before .before .before .before .before .if1 .left))
+    ∙ chain-passes 14 _ _ (sym (c .before .before .before .before .knows .ensures) ∙ not-false _ (c .before .before .before .if2 .left))
+    ∙ chain-fails 15 _ _ (half-read (p .0) (p .2) (credential-key-declared (p .0) (kind-declared _ (p .1 .1) (λ q. omega arith)) (p .1 .1)) (view (now (a .state)) .table (a .party)) (c .before .before .credential-key-of .ensures) (c .before .holds-half .ensures) (not-true _ (c .if3 .taken))))
+
+credential-term-of-requires : tie.Need-credential-term-of-requires
+credential-term-of-requires c κs =
+    let p = c .before .before .before .before .before .before .before .before .before .pre in
+    (term-here (p .0) (kind-declared _ (p .1 .1) (λ q. omega arith)), p .1 .1)
+
+is-kind-requires : tie.Need-is-kind-requires
+is-kind-requires c κs =
+    let p = c .before .before .before .before .before .before .before .before .before .before .pre in
+    rw (c .credential-term-of .ensures) (term-here (p .0) (credential-term-declared (p .0) (kind-declared _ (p .1 .1) (λ q. omega arith)) (p .1 .1)))
+
+returns-4 : tie.Need-returns-4
+returns-4 c ledger =
+    let a = c .before .before .before .before .before .before .before .before .before .before .before .before .args in
+    let p = c .before .before .before .before .before .before .before .before .before .before .before .before .pre in
+    sym (activate-chain (fileIn (now (a .file))) (stateOf (view (now (a .state))) ledger) (a .party) (a .r)
+    ∙ chain-passes 13 _ _ (sym (c .before .before .before .before .before .before .before .before .before .is-role .ensures) ∙ not-false _ (c .before .before .before .before .before .before .before .before .if1 .left))
+    ∙ chain-passes 14 _ _ (sym (c .before .before .before .before .before .before .before .knows .ensures) ∙ not-false _ (c .before .before .before .before .before .before .if2 .left))
+    ∙ chain-passes 15 _ _ (half-read (p .0) (p .2) (credential-key-declared (p .0) (kind-declared _ (p .1 .1) (λ q. omega arith)) (p .1 .1)) (view (now (a .state)) .table (a .party)) (c .before .before .before .before .before .credential-key-of .ensures) (c .before .before .before .before .holds-half .ensures) (not-false _ (c .before .before .before .if3 .left)))
+    ∙ chain-fails 15 _ _ (of-read (isKind (fileIn (now (a .file))) hashKind) (c .before .before .credential-term-of .ensures) (c .before .is-kind .ensures) (not-true _ (c .if4 .taken))))
+
+hashed-term-requires : tie.Need-hashed-term-requires
+hashed-term-requires c κs =
+    let p = c .before .before .before .before .before .before .before .before .before .before .before .before .pre in
+    rw (c .before .before .credential-term-of .ensures) (term-here (p .0) (credential-term-declared (p .0) (kind-declared _ (p .1 .1) (λ q. omega arith)) (p .1 .1)), isKind-kind _ _ _ (of-read (isKind _ hashKind) (c .before .before .credential-term-of .ensures) (c .before .is-kind .ensures) (not-false _ (c .if4 .left))))
+
+is-kind-requires-2 : tie.Need-is-kind-requires-2
+is-kind-requires-2 c κs =
+    let p = c .before .before .before .before .before .before .before .before .before .before .before .before .before .pre in
+    rw (c .hashed-term .ensures, c .before .before .before .credential-term-of .ensures) (term-here (p .0) (hashed-declared (p .0) (credential-term-declared (p .0) (kind-declared _ (p .1 .1) (λ q. omega arith)) (p .1 .1)) (isKind-kind _ _ _ (of-read (isKind _ hashKind) (c .before .before .before .credential-term-of .ensures) (c .before .before .is-kind .ensures) (not-false _ (c .before .if4 .left))))))
+
+returns-5 : tie.Need-returns-5
+returns-5 c ledger =
+    let a = c .before .before .before .before .before .before .before .before .before .before .before .before .before .before .before .args in
+    let p = c .before .before .before .before .before .before .before .before .before .before .before .before .before .before .before .pre in
+    sym (activate-chain (fileIn (now (a .file))) (stateOf (view (now (a .state))) ledger) (a .party) (a .r)
+    ∙ chain-passes 13 _ _ (sym (c .before .before .before .before .before .before .before .before .before .before .before .before .is-role .ensures) ∙ not-false _ (c .before .before .before .before .before .before .before .before .before .before .before .if1 .left))
+    ∙ chain-passes 14 _ _ (sym (c .before .before .before .before .before .before .before .before .before .before .knows .ensures) ∙ not-false _ (c .before .before .before .before .before .before .before .before .before .if2 .left))
+    ∙ chain-passes 15 _ _ (half-read (p .0) (p .2) (credential-key-declared (p .0) (kind-declared _ (p .1 .1) (λ q. omega arith)) (p .1 .1)) (view (now (a .state)) .table (a .party)) (c .before .before .before .before .before .before .before .before .credential-key-of .ensures) (c .before .before .before .before .before .before .before .holds-half .ensures) (not-false _ (c .before .before .before .before .before .before .if3 .left)))
+    ∙ chain-passes 15 _ _ (of-read (isKind (fileIn (now (a .file))) hashKind) (c .before .before .before .before .before .credential-term-of .ensures) (c .before .before .before .before .is-kind .ensures) (not-false _ (c .before .before .before .if4 .left)))
+    ∙ chain-fails 15 _ _ (of-read (isKind (fileIn (now (a .file))) publicKeyKind) (c .before .before .hashed-term .ensures ∙ ap (hashedTerm (fileIn (now (a .file)))) (c .before .before .before .before .before .credential-term-of .ensures)) (c .before .is-kind2 .ensures) (not-true _ (c .if5 .taken))))
+
+holds-half-requires-2 : tie.Need-holds-half-requires-2
+holds-half-requires-2 c κs =
+    let p = c .before .before .before .before .before .before .before .before .before .before .before .before .before .before .before .pre in
+    rw (c .before .before .hashed-term .ensures, c .before .before .before .before .before .credential-term-of .ensures) (half-asked (p .0) (p .2) (hashed-declared (p .0) (credential-term-declared (p .0) (kind-declared _ (p .1 .1) (λ q. omega arith)) (p .1 .1)) (isKind-kind _ _ _ (of-read (isKind _ hashKind) (c .before .before .before .before .before .credential-term-of .ensures) (c .before .before .before .before .is-kind .ensures) (not-false _ (c .before .before .before .if4 .left))))) (p .1 .0))
+
+returns-6 : tie.Need-returns-6
+returns-6 c ledger =
+    let a = c .before .before .before .before .before .before .before .before .before .before .before .before .before .before .before .before .before .args in
+    let p = c .before .before .before .before .before .before .before .before .before .before .before .before .before .before .before .before .before .pre in
+    sym (activate-chain (fileIn (now (a .file))) (stateOf (view (now (a .state))) ledger) (a .party) (a .r)
+    ∙ chain-passes 13 _ _ (sym (c .before .before .before .before .before .before .before .before .before .before .before .before .before .before .is-role .ensures) ∙ not-false _ (c .before .before .before .before .before .before .before .before .before .before .before .before .before .if1 .left))
+    ∙ chain-passes 14 _ _ (sym (c .before .before .before .before .before .before .before .before .before .before .before .before .knows .ensures) ∙ not-false _ (c .before .before .before .before .before .before .before .before .before .before .before .if2 .left))
+    ∙ chain-passes 15 _ _ (half-read (p .0) (p .2) (credential-key-declared (p .0) (kind-declared _ (p .1 .1) (λ q. omega arith)) (p .1 .1)) (view (now (a .state)) .table (a .party)) (c .before .before .before .before .before .before .before .before .before .before .credential-key-of .ensures) (c .before .before .before .before .before .before .before .before .before .holds-half .ensures) (not-false _ (c .before .before .before .before .before .before .before .before .if3 .left)))
+    ∙ chain-passes 15 _ _ (of-read (isKind (fileIn (now (a .file))) hashKind) (c .before .before .before .before .before .before .before .credential-term-of .ensures) (c .before .before .before .before .before .before .is-kind .ensures) (not-false _ (c .before .before .before .before .before .if4 .left)))
+    ∙ chain-passes 15 _ _ (of-read (isKind (fileIn (now (a .file))) publicKeyKind) (c .before .before .before .before .hashed-term .ensures ∙ ap (hashedTerm (fileIn (now (a .file)))) (c .before .before .before .before .before .before .before .credential-term-of .ensures)) (c .before .before .before .is-kind2 .ensures) (not-false _ (c .before .before .if5 .left)))
+    ∙ chain-fails 15 _ _ (half-read (p .0) (p .2) (hashed-declared (p .0) (credential-term-declared (p .0) (kind-declared _ (p .1 .1) (λ q. omega arith)) (p .1 .1)) (isKind-kind _ _ _ (of-read (isKind _ hashKind) (c .before .before .before .before .before .before .before .credential-term-of .ensures) (c .before .before .before .before .before .before .is-kind .ensures) (not-false _ (c .before .before .before .before .before .if4 .left))))) (view (now (a .state)) .table (a .party)) (c .before .before .before .before .hashed-term .ensures ∙ ap (hashedTerm (fileIn (now (a .file)))) (c .before .before .before .before .before .before .before .credential-term-of .ensures)) (c .before .holds-half2 .ensures) (not-true _ (c .if6 .taken))))
+
+key-has-requires : tie.Need-key-has-requires
+key-has-requires c κs =
+    let p = c .before .before .before .before .before .before .before .before .before .before .before .before .before .before .before .before .before .pre in
+    (rw (c .before .before .before .before .before .before .before .before .before .before .credential-key-of .ensures) (term-here (p .0) (credential-key-declared (p .0) (kind-declared _ (p .1 .1) (λ q. omega arith)) (p .1 .1))), omega arith)
+
+returns-7 : tie.Need-returns-7
+returns-7 c ledger =
+    let a = c .before .before .before .before .before .before .before .before .before .before .before .before .before .before .before .before .before .before .before .args in
+    let p = c .before .before .before .before .before .before .before .before .before .before .before .before .before .before .before .before .before .before .before .pre in
+    sym (activate-chain (fileIn (now (a .file))) (stateOf (view (now (a .state))) ledger) (a .party) (a .r)
+    ∙ chain-passes 13 _ _ (sym (c .before .before .before .before .before .before .before .before .before .before .before .before .before .before .before .before .is-role .ensures) ∙ not-false _ (c .before .before .before .before .before .before .before .before .before .before .before .before .before .before .before .if1 .left))
+    ∙ chain-passes 14 _ _ (sym (c .before .before .before .before .before .before .before .before .before .before .before .before .before .before .knows .ensures) ∙ not-false _ (c .before .before .before .before .before .before .before .before .before .before .before .before .before .if2 .left))
+    ∙ chain-passes 15 _ _ (half-read (p .0) (p .2) (credential-key-declared (p .0) (kind-declared _ (p .1 .1) (λ q. omega arith)) (p .1 .1)) (view (now (a .state)) .table (a .party)) (c .before .before .before .before .before .before .before .before .before .before .before .before .credential-key-of .ensures) (c .before .before .before .before .before .before .before .before .before .before .before .holds-half .ensures) (not-false _ (c .before .before .before .before .before .before .before .before .before .before .if3 .left)))
+    ∙ chain-passes 15 _ _ (of-read (isKind (fileIn (now (a .file))) hashKind) (c .before .before .before .before .before .before .before .before .before .credential-term-of .ensures) (c .before .before .before .before .before .before .before .before .is-kind .ensures) (not-false _ (c .before .before .before .before .before .before .before .if4 .left)))
+    ∙ chain-passes 15 _ _ (of-read (isKind (fileIn (now (a .file))) publicKeyKind) (c .before .before .before .before .before .before .hashed-term .ensures ∙ ap (hashedTerm (fileIn (now (a .file)))) (c .before .before .before .before .before .before .before .before .before .credential-term-of .ensures)) (c .before .before .before .before .before .is-kind2 .ensures) (not-false _ (c .before .before .before .before .if5 .left)))
+    ∙ chain-passes 15 _ _ (half-read (p .0) (p .2) (hashed-declared (p .0) (credential-term-declared (p .0) (kind-declared _ (p .1 .1) (λ q. omega arith)) (p .1 .1)) (isKind-kind _ _ _ (of-read (isKind _ hashKind) (c .before .before .before .before .before .before .before .before .before .credential-term-of .ensures) (c .before .before .before .before .before .before .before .before .is-kind .ensures) (not-false _ (c .before .before .before .before .before .before .before .if4 .left))))) (view (now (a .state)) .table (a .party)) (c .before .before .before .before .before .before .hashed-term .ensures ∙ ap (hashedTerm (fileIn (now (a .file)))) (c .before .before .before .before .before .before .before .before .before .credential-term-of .ensures)) (c .before .before .before .holds-half2 .ensures) (not-false _ (c .before .before .if6 .left)))
+    ∙ chain-fails 16 _ _ (of-read (λ (k : ℕ). keyHas (fileIn (now (a .file))) k restricted) (c .before .before .before .before .before .before .before .before .before .before .before .before .credential-key-of .ensures) (c .before .key-has .ensures) (not-true _ (c .if7 .taken))))
+
+key-has-requires-2 : tie.Need-key-has-requires-2
+key-has-requires-2 c κs =
+    let p = c .before .before .before .before .before .before .before .before .before .before .before .before .before .before .before .before .before .before .before .pre in
+    (rw (c .before .before .before .before .before .before .before .before .before .before .before .before .credential-key-of .ensures) (term-here (p .0) (credential-key-declared (p .0) (kind-declared _ (p .1 .1) (λ q. omega arith)) (p .1 .1))), omega arith)
+
+returns-8 : tie.Need-returns-8
+returns-8 c ledger =
+    let a = c .before .before .before .before .before .before .before .before .before .before .before .before .before .before .before .before .before .before .before .before .before .args in
+    let p = c .before .before .before .before .before .before .before .before .before .before .before .before .before .before .before .before .before .before .before .before .before .pre in
+    sym (activate-chain (fileIn (now (a .file))) (stateOf (view (now (a .state))) ledger) (a .party) (a .r)
+    ∙ chain-passes 13 _ _ (sym (c .before .before .before .before .before .before .before .before .before .before .before .before .before .before .before .before .before .before .is-role .ensures) ∙ not-false _ (c .before .before .before .before .before .before .before .before .before .before .before .before .before .before .before .before .before .if1 .left))
+    ∙ chain-passes 14 _ _ (sym (c .before .before .before .before .before .before .before .before .before .before .before .before .before .before .before .before .knows .ensures) ∙ not-false _ (c .before .before .before .before .before .before .before .before .before .before .before .before .before .before .before .if2 .left))
+    ∙ chain-passes 15 _ _ (half-read (p .0) (p .2) (credential-key-declared (p .0) (kind-declared _ (p .1 .1) (λ q. omega arith)) (p .1 .1)) (view (now (a .state)) .table (a .party)) (c .before .before .before .before .before .before .before .before .before .before .before .before .before .before .credential-key-of .ensures) (c .before .before .before .before .before .before .before .before .before .before .before .before .before .holds-half .ensures) (not-false _ (c .before .before .before .before .before .before .before .before .before .before .before .before .if3 .left)))
+    ∙ chain-passes 15 _ _ (of-read (isKind (fileIn (now (a .file))) hashKind) (c .before .before .before .before .before .before .before .before .before .before .before .credential-term-of .ensures) (c .before .before .before .before .before .before .before .before .before .before .is-kind .ensures) (not-false _ (c .before .before .before .before .before .before .before .before .before .if4 .left)))
+    ∙ chain-passes 15 _ _ (of-read (isKind (fileIn (now (a .file))) publicKeyKind) (c .before .before .before .before .before .before .before .before .hashed-term .ensures ∙ ap (hashedTerm (fileIn (now (a .file)))) (c .before .before .before .before .before .before .before .before .before .before .before .credential-term-of .ensures)) (c .before .before .before .before .before .before .before .is-kind2 .ensures) (not-false _ (c .before .before .before .before .before .before .if5 .left)))
+    ∙ chain-passes 15 _ _ (half-read (p .0) (p .2) (hashed-declared (p .0) (credential-term-declared (p .0) (kind-declared _ (p .1 .1) (λ q. omega arith)) (p .1 .1)) (isKind-kind _ _ _ (of-read (isKind _ hashKind) (c .before .before .before .before .before .before .before .before .before .before .before .credential-term-of .ensures) (c .before .before .before .before .before .before .before .before .before .before .is-kind .ensures) (not-false _ (c .before .before .before .before .before .before .before .before .before .if4 .left))))) (view (now (a .state)) .table (a .party)) (c .before .before .before .before .before .before .before .before .hashed-term .ensures ∙ ap (hashedTerm (fileIn (now (a .file)))) (c .before .before .before .before .before .before .before .before .before .before .before .credential-term-of .ensures)) (c .before .before .before .before .before .holds-half2 .ensures) (not-false _ (c .before .before .before .before .if6 .left)))
+    ∙ chain-passes 16 _ _ (of-read (λ (k : ℕ). keyHas (fileIn (now (a .file))) k restricted) (c .before .before .before .before .before .before .before .before .before .before .before .before .before .before .credential-key-of .ensures) (c .before .before .before .key-has .ensures) (not-false _ (c .before .before .if7 .left)))
+    ∙ chain-fails 16 _ _ (of-read (λ (k : ℕ). keyHas (fileIn (now (a .file))) k decrypt) (c .before .before .before .before .before .before .before .before .before .before .before .before .before .before .credential-key-of .ensures) (c .before .key-has2 .ensures) (not-true _ (c .if8 .taken))))
+
+returns-9 : tie.Need-returns-9
+returns-9 c ledger =
+    let a = c .before .before .before .before .before .before .before .before .before .before .before .before .before .before .before .before .before .before .before .before .before .args in
+    let p = c .before .before .before .before .before .before .before .before .before .before .before .before .before .before .before .before .before .before .before .before .before .pre in
+    sym (activate-chain (fileIn (now (a .file))) (stateOf (view (now (a .state))) ledger) (a .party) (a .r)
+    ∙ chain-passes 13 _ _ (sym (c .before .before .before .before .before .before .before .before .before .before .before .before .before .before .before .before .before .before .is-role .ensures) ∙ not-false _ (c .before .before .before .before .before .before .before .before .before .before .before .before .before .before .before .before .before .if1 .left))
+    ∙ chain-passes 14 _ _ (sym (c .before .before .before .before .before .before .before .before .before .before .before .before .before .before .before .before .knows .ensures) ∙ not-false _ (c .before .before .before .before .before .before .before .before .before .before .before .before .before .before .before .if2 .left))
+    ∙ chain-passes 15 _ _ (half-read (p .0) (p .2) (credential-key-declared (p .0) (kind-declared _ (p .1 .1) (λ q. omega arith)) (p .1 .1)) (view (now (a .state)) .table (a .party)) (c .before .before .before .before .before .before .before .before .before .before .before .before .before .before .credential-key-of .ensures) (c .before .before .before .before .before .before .before .before .before .before .before .before .before .holds-half .ensures) (not-false _ (c .before .before .before .before .before .before .before .before .before .before .before .before .if3 .left)))
+    ∙ chain-passes 15 _ _ (of-read (isKind (fileIn (now (a .file))) hashKind) (c .before .before .before .before .before .before .before .before .before .before .before .credential-term-of .ensures) (c .before .before .before .before .before .before .before .before .before .before .is-kind .ensures) (not-false _ (c .before .before .before .before .before .before .before .before .before .if4 .left)))
+    ∙ chain-passes 15 _ _ (of-read (isKind (fileIn (now (a .file))) publicKeyKind) (c .before .before .before .before .before .before .before .before .hashed-term .ensures ∙ ap (hashedTerm (fileIn (now (a .file)))) (c .before .before .before .before .before .before .before .before .before .before .before .credential-term-of .ensures)) (c .before .before .before .before .before .before .before .is-kind2 .ensures) (not-false _ (c .before .before .before .before .before .before .if5 .left)))
+    ∙ chain-passes 15 _ _ (half-read (p .0) (p .2) (hashed-declared (p .0) (credential-term-declared (p .0) (kind-declared _ (p .1 .1) (λ q. omega arith)) (p .1 .1)) (isKind-kind _ _ _ (of-read (isKind _ hashKind) (c .before .before .before .before .before .before .before .before .before .before .before .credential-term-of .ensures) (c .before .before .before .before .before .before .before .before .before .before .is-kind .ensures) (not-false _ (c .before .before .before .before .before .before .before .before .before .if4 .left))))) (view (now (a .state)) .table (a .party)) (c .before .before .before .before .before .before .before .before .hashed-term .ensures ∙ ap (hashedTerm (fileIn (now (a .file)))) (c .before .before .before .before .before .before .before .before .before .before .before .credential-term-of .ensures)) (c .before .before .before .before .before .holds-half2 .ensures) (not-false _ (c .before .before .before .before .if6 .left)))
+    ∙ chain-passes 16 _ _ (of-read (λ (k : ℕ). keyHas (fileIn (now (a .file))) k restricted) (c .before .before .before .before .before .before .before .before .before .before .before .before .before .before .credential-key-of .ensures) (c .before .before .before .key-has .ensures) (not-false _ (c .before .before .if7 .left)))
+    ∙ chain-passes 16 _ _ (of-read (λ (k : ℕ). keyHas (fileIn (now (a .file))) k decrypt) (c .before .before .before .before .before .before .before .before .before .before .before .before .before .before .credential-key-of .ensures) (c .before .key-has2 .ensures) (not-false _ (c .if8 .left)))
+    ∙ chain-none)
+
+pub decide-activate-spec : {M : Type 1} → statement M
+decide-activate-spec = tie.close (tie.spec is-role-requires returns knows-requires returns-2 credential-key-of-requires holds-half-requires returns-3 credential-term-of-requires is-kind-requires returns-4 hashed-term-requires is-kind-requires-2 returns-5 holds-half-requires-2 returns-6 key-has-requires returns-7 key-has-requires-2 returns-8 returns-9)

@@ -1,0 +1,91 @@
+use mathlib.Core.Path.{sym, _∙_}
+use native.Mathlib.Omega.{arith}
+use borrow.Author.Tests.{not-true, not-false}
+use denote.Ref.{now}
+use Rattle.state.specs.View.{view}
+use Rattle.state.proofs.Exact.{stateOf}
+use Rattle.loaded.specs.Loaded.{fileIn}
+use Rattle.loaded.proofs.Chain.{chain-none, chain-passes, chain-fails}
+use Rattle.loaded.proofs.Standing.{party-here, term-here, kind-declared, credential-term-declared, credential-number-declared, credential-key-declared}
+use Rattle.device.proofs.Tested.{of-read}
+use Rattle.device.proofs.Outcomes.{make-credential-chain}
+use Rattle.device.proofs.decide_make_credential.Statement.{statement}
+use Rattle.device.proofs.decide_make_credential.Tie as tie
+
+is-role-requires : tie.Need-is-role-requires
+is-role-requires c κs =
+    let p = c .before .before .pre in
+    party-here (p .0) (p .1 .0)
+
+returns : tie.Need-returns
+returns c ledger =
+    let a = c .before .before .before .before .args in
+    sym (make-credential-chain (fileIn (now (a .file))) (stateOf (view (now (a .state))) ledger) (a .party) (a .r)
+    ∙ chain-fails 13 _ _ (sym (c .before .is-role .ensures) ∙ not-true _ (c .if1 .taken)))
+
+credential-term-of-requires : tie.Need-credential-term-of-requires
+credential-term-of-requires c κs =
+    let p = c .before .before .before .before .pre in
+    (term-here (p .0) (kind-declared _ (p .1 .1) (λ q. omega arith)), p .1 .1)
+
+knows-requires : tie.Need-knows-requires
+knows-requires c κs =
+    let p = c .before .before .before .before .before .pre in
+    (omega (arith, p .0 .parties, p .1 .0), rw (c .credential-term-of .ensures) (term-here (p .0) (credential-term-declared (p .0) (kind-declared _ (p .1 .1) (λ q. omega arith)) (p .1 .1)) .row))
+
+returns-2 : tie.Need-returns-2
+returns-2 c ledger =
+    let a = c .before .before .before .before .before .before .before .args in
+    sym (make-credential-chain (fileIn (now (a .file))) (stateOf (view (now (a .state))) ledger) (a .party) (a .r)
+    ∙ chain-passes 13 _ _ (sym (c .before .before .before .before .is-role .ensures) ∙ not-false _ (c .before .before .before .if1 .left))
+    ∙ chain-fails 14 _ _ (of-read (view (now (a .state)) .knows (a .party)) (c .before .before .credential-term-of .ensures) (c .before .knows .ensures) (not-true _ (c .if2 .taken))))
+
+credential-number-of-requires : tie.Need-credential-number-of-requires
+credential-number-of-requires c κs =
+    let p = c .before .before .before .before .before .before .before .pre in
+    (term-here (p .0) (kind-declared _ (p .1 .1) (λ q. omega arith)), p .1 .1)
+
+knows-requires-2 : tie.Need-knows-requires-2
+knows-requires-2 c κs =
+    let p = c .before .before .before .before .before .before .before .before .pre in
+    (omega (arith, p .0 .parties, p .1 .0), rw (c .credential-number-of .ensures) (term-here (p .0) (credential-number-declared (p .0) (kind-declared _ (p .1 .1) (λ q. omega arith)) (p .1 .1)) .row))
+
+returns-3 : tie.Need-returns-3
+returns-3 c ledger =
+    let a = c .before .before .before .before .before .before .before .before .before .before .args in
+    sym (make-credential-chain (fileIn (now (a .file))) (stateOf (view (now (a .state))) ledger) (a .party) (a .r)
+    ∙ chain-passes 13 _ _ (sym (c .before .before .before .before .before .before .before .is-role .ensures) ∙ not-false _ (c .before .before .before .before .before .before .if1 .left))
+    ∙ chain-passes 14 _ _ (of-read (view (now (a .state)) .knows (a .party)) (c .before .before .before .before .before .credential-term-of .ensures) (c .before .before .before .before .knows .ensures) (not-false _ (c .before .before .before .if2 .left)))
+    ∙ chain-fails 14 _ _ (of-read (view (now (a .state)) .knows (a .party)) (c .before .before .credential-number-of .ensures) (c .before .knows2 .ensures) (not-true _ (c .if3 .taken))))
+
+credential-key-of-requires : tie.Need-credential-key-of-requires
+credential-key-of-requires c κs =
+    let p = c .before .before .before .before .before .before .before .before .before .before .pre in
+    (term-here (p .0) (kind-declared _ (p .1 .1) (λ q. omega arith)), p .1 .1)
+
+knows-requires-3 : tie.Need-knows-requires-3
+knows-requires-3 c κs =
+    let p = c .before .before .before .before .before .before .before .before .before .before .before .pre in
+    (omega (arith, p .0 .parties, p .1 .0), rw (c .credential-key-of .ensures) (term-here (p .0) (credential-key-declared (p .0) (kind-declared _ (p .1 .1) (λ q. omega arith)) (p .1 .1)) .row))
+
+returns-4 : tie.Need-returns-4
+returns-4 c ledger =
+    let a = c .before .before .before .before .before .before .before .before .before .before .before .before .before .args in
+    sym (make-credential-chain (fileIn (now (a .file))) (stateOf (view (now (a .state))) ledger) (a .party) (a .r)
+    ∙ chain-passes 13 _ _ (sym (c .before .before .before .before .before .before .before .before .before .before .is-role .ensures) ∙ not-false _ (c .before .before .before .before .before .before .before .before .before .if1 .left))
+    ∙ chain-passes 14 _ _ (of-read (view (now (a .state)) .knows (a .party)) (c .before .before .before .before .before .before .before .before .credential-term-of .ensures) (c .before .before .before .before .before .before .before .knows .ensures) (not-false _ (c .before .before .before .before .before .before .if2 .left)))
+    ∙ chain-passes 14 _ _ (of-read (view (now (a .state)) .knows (a .party)) (c .before .before .before .before .before .credential-number-of .ensures) (c .before .before .before .before .knows2 .ensures) (not-false _ (c .before .before .before .if3 .left)))
+    ∙ chain-fails 14 _ _ (of-read (view (now (a .state)) .knows (a .party)) (c .before .before .credential-key-of .ensures) (c .before .knows3 .ensures) (not-true _ (c .if4 .taken))))
+
+returns-5 : tie.Need-returns-5
+returns-5 c ledger =
+    let a = c .before .before .before .before .before .before .before .before .before .before .before .before .before .args in
+    sym (make-credential-chain (fileIn (now (a .file))) (stateOf (view (now (a .state))) ledger) (a .party) (a .r)
+    ∙ chain-passes 13 _ _ (sym (c .before .before .before .before .before .before .before .before .before .before .is-role .ensures) ∙ not-false _ (c .before .before .before .before .before .before .before .before .before .if1 .left))
+    ∙ chain-passes 14 _ _ (of-read (view (now (a .state)) .knows (a .party)) (c .before .before .before .before .before .before .before .before .credential-term-of .ensures) (c .before .before .before .before .before .before .before .knows .ensures) (not-false _ (c .before .before .before .before .before .before .if2 .left)))
+    ∙ chain-passes 14 _ _ (of-read (view (now (a .state)) .knows (a .party)) (c .before .before .before .before .before .credential-number-of .ensures) (c .before .before .before .before .knows2 .ensures) (not-false _ (c .before .before .before .if3 .left)))
+    ∙ chain-passes 14 _ _ (of-read (view (now (a .state)) .knows (a .party)) (c .before .before .credential-key-of .ensures) (c .before .knows3 .ensures) (not-false _ (c .if4 .left)))
+    ∙ chain-none)
+
+pub decide-make-credential-spec : {M : Type 1} → statement M
+decide-make-credential-spec = tie.close (tie.spec is-role-requires returns credential-term-of-requires knows-requires returns-2 credential-number-of-requires knows-requires-2 returns-3 credential-key-of-requires knows-requires-3 returns-4 returns-5)

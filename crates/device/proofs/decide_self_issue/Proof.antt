@@ -1,0 +1,106 @@
+use mathlib.Core.Path.{sym, ap, _∙_}
+use mathlib.Core.Bool.{not}
+use Prim.Native.Nat.{ℕ}
+use native.Mathlib.Omega.{arith}
+use borrow.Author.Tests.{not-true, not-false}
+use denote.Ref.{now}
+use Rattle.rules.specs.Attributes.{restricted, sign}
+use Rattle.rules.specs.Device.{keyHas}
+use Rattle.state.specs.View.{view}
+use Rattle.state.proofs.Exact.{stateOf}
+use Rattle.loaded.specs.Loaded.{fileIn}
+use Rattle.loaded.proofs.Chain.{chain-none, chain-passes, chain-fails}
+use Rattle.loaded.proofs.Standing.{party-here, term-here, kind-declared, certified-key-declared, signer-declared}
+use Rattle.device.proofs.Tested.{of-read}
+use Rattle.device.proofs.Outcomes.{self-issue-chain}
+use Rattle.device.proofs.decide_self_issue.Statement.{statement}
+use Rattle.device.proofs.decide_self_issue.Tie as tie
+
+is-role-requires : tie.Need-is-role-requires
+is-role-requires c κs =
+    let p = c .before .before .pre in
+    party-here (p .0) (p .1 .0)
+
+returns : tie.Need-returns
+returns c ledger =
+    let a = c .before .before .before .before .args in
+    sym (self-issue-chain (fileIn (now (a .file))) (stateOf (view (now (a .state))) ledger) (a .party) (a .r)
+    ∙ chain-fails 13 _ _ (sym (c .before .is-role .ensures) ∙ not-true _ (c .if1 .taken)))
+
+certified-key-of-requires : tie.Need-certified-key-of-requires
+certified-key-of-requires c κs =
+    let p = c .before .before .before .before .pre in
+    (term-here (p .0) (kind-declared _ (p .1 .1) (λ q. omega arith)), p .1 .1)
+
+knows-requires : tie.Need-knows-requires
+knows-requires c κs =
+    let p = c .before .before .before .before .before .pre in
+    (omega (arith, p .0 .parties, p .1 .0), rw (c .certified-key-of .ensures) (term-here (p .0) (certified-key-declared (p .0) (kind-declared _ (p .1 .1) (λ q. omega arith)) (p .1 .1)) .row))
+
+returns-2 : tie.Need-returns-2
+returns-2 c ledger =
+    let a = c .before .before .before .before .before .before .before .args in
+    sym (self-issue-chain (fileIn (now (a .file))) (stateOf (view (now (a .state))) ledger) (a .party) (a .r)
+    ∙ chain-passes 13 _ _ (sym (c .before .before .before .before .is-role .ensures) ∙ not-false _ (c .before .before .before .if1 .left))
+    ∙ chain-fails 14 _ _ (of-read (view (now (a .state)) .knows (a .party)) (c .before .before .certified-key-of .ensures) (c .before .knows .ensures) (not-true _ (c .if2 .taken))))
+
+signer-of-requires : tie.Need-signer-of-requires
+signer-of-requires c κs =
+    let p = c .before .before .before .before .before .before .before .pre in
+    (term-here (p .0) (kind-declared _ (p .1 .1) (λ q. omega arith)), p .1 .1)
+
+in-table-requires : tie.Need-in-table-requires
+in-table-requires c κs =
+    let p = c .before .before .before .before .before .before .before .before .pre in
+    (omega (arith, p .0 .parties, p .1 .0), rw (c .signer-of .ensures) (term-here (p .0) (signer-declared (p .0) (kind-declared _ (p .1 .1) (λ q. omega arith)) (p .1 .1)) .row))
+
+returns-3 : tie.Need-returns-3
+returns-3 c ledger =
+    let a = c .before .before .before .before .before .before .before .before .before .before .args in
+    sym (self-issue-chain (fileIn (now (a .file))) (stateOf (view (now (a .state))) ledger) (a .party) (a .r)
+    ∙ chain-passes 13 _ _ (sym (c .before .before .before .before .before .before .before .is-role .ensures) ∙ not-false _ (c .before .before .before .before .before .before .if1 .left))
+    ∙ chain-passes 14 _ _ (of-read (view (now (a .state)) .knows (a .party)) (c .before .before .before .before .before .certified-key-of .ensures) (c .before .before .before .before .knows .ensures) (not-false _ (c .before .before .before .if2 .left)))
+    ∙ chain-fails 15 _ _ (of-read (view (now (a .state)) .table (a .party)) (c .before .before .signer-of .ensures) (c .before .in-table .ensures) (not-true _ (c .if3 .taken))))
+
+key-has-requires : tie.Need-key-has-requires
+key-has-requires c κs =
+    let p = c .before .before .before .before .before .before .before .before .before .before .pre in
+    (rw (c .before .before .signer-of .ensures) (term-here (p .0) (signer-declared (p .0) (kind-declared _ (p .1 .1) (λ q. omega arith)) (p .1 .1))), omega arith)
+
+returns-4 : tie.Need-returns-4
+returns-4 c ledger =
+    let a = c .before .before .before .before .before .before .before .before .before .before .before .before .args in
+    sym (self-issue-chain (fileIn (now (a .file))) (stateOf (view (now (a .state))) ledger) (a .party) (a .r)
+    ∙ chain-passes 13 _ _ (sym (c .before .before .before .before .before .before .before .before .before .is-role .ensures) ∙ not-false _ (c .before .before .before .before .before .before .before .before .if1 .left))
+    ∙ chain-passes 14 _ _ (of-read (view (now (a .state)) .knows (a .party)) (c .before .before .before .before .before .before .before .certified-key-of .ensures) (c .before .before .before .before .before .before .knows .ensures) (not-false _ (c .before .before .before .before .before .if2 .left)))
+    ∙ chain-passes 15 _ _ (of-read (view (now (a .state)) .table (a .party)) (c .before .before .before .before .signer-of .ensures) (c .before .before .before .in-table .ensures) (not-false _ (c .before .before .if3 .left)))
+    ∙ chain-fails 16 _ _ (of-read (λ (k : ℕ). keyHas (fileIn (now (a .file))) k sign) (c .before .before .before .before .signer-of .ensures) (c .before .key-has .ensures) (not-true _ (c .if4 .taken))))
+
+key-has-requires-2 : tie.Need-key-has-requires-2
+key-has-requires-2 c κs =
+    let p = c .before .before .before .before .before .before .before .before .before .before .before .before .pre in
+    (rw (c .before .before .before .before .signer-of .ensures) (term-here (p .0) (signer-declared (p .0) (kind-declared _ (p .1 .1) (λ q. omega arith)) (p .1 .1))), omega arith)
+
+returns-5 : tie.Need-returns-5
+returns-5 c ledger =
+    let a = c .before .before .before .before .before .before .before .before .before .before .before .before .before .before .args in
+    sym (self-issue-chain (fileIn (now (a .file))) (stateOf (view (now (a .state))) ledger) (a .party) (a .r)
+    ∙ chain-passes 13 _ _ (sym (c .before .before .before .before .before .before .before .before .before .before .before .is-role .ensures) ∙ not-false _ (c .before .before .before .before .before .before .before .before .before .before .if1 .left))
+    ∙ chain-passes 14 _ _ (of-read (view (now (a .state)) .knows (a .party)) (c .before .before .before .before .before .before .before .before .before .certified-key-of .ensures) (c .before .before .before .before .before .before .before .before .knows .ensures) (not-false _ (c .before .before .before .before .before .before .before .if2 .left)))
+    ∙ chain-passes 15 _ _ (of-read (view (now (a .state)) .table (a .party)) (c .before .before .before .before .before .before .signer-of .ensures) (c .before .before .before .before .before .in-table .ensures) (not-false _ (c .before .before .before .before .if3 .left)))
+    ∙ chain-passes 16 _ _ (of-read (λ (k : ℕ). keyHas (fileIn (now (a .file))) k sign) (c .before .before .before .before .before .before .signer-of .ensures) (c .before .before .before .key-has .ensures) (not-false _ (c .before .before .if4 .left)))
+    ∙ chain-fails 16 _ _ (ap not (of-read (λ (k : ℕ). keyHas (fileIn (now (a .file))) k restricted) (c .before .before .before .before .before .before .signer-of .ensures) (c .before .key-has2 .ensures) (c .if5 .taken))))
+
+returns-6 : tie.Need-returns-6
+returns-6 c ledger =
+    let a = c .before .before .before .before .before .before .before .before .before .before .before .before .before .before .args in
+    sym (self-issue-chain (fileIn (now (a .file))) (stateOf (view (now (a .state))) ledger) (a .party) (a .r)
+    ∙ chain-passes 13 _ _ (sym (c .before .before .before .before .before .before .before .before .before .before .before .is-role .ensures) ∙ not-false _ (c .before .before .before .before .before .before .before .before .before .before .if1 .left))
+    ∙ chain-passes 14 _ _ (of-read (view (now (a .state)) .knows (a .party)) (c .before .before .before .before .before .before .before .before .before .certified-key-of .ensures) (c .before .before .before .before .before .before .before .before .knows .ensures) (not-false _ (c .before .before .before .before .before .before .before .if2 .left)))
+    ∙ chain-passes 15 _ _ (of-read (view (now (a .state)) .table (a .party)) (c .before .before .before .before .before .before .signer-of .ensures) (c .before .before .before .before .before .in-table .ensures) (not-false _ (c .before .before .before .before .if3 .left)))
+    ∙ chain-passes 16 _ _ (of-read (λ (k : ℕ). keyHas (fileIn (now (a .file))) k sign) (c .before .before .before .before .before .before .signer-of .ensures) (c .before .before .before .key-has .ensures) (not-false _ (c .before .before .if4 .left)))
+    ∙ chain-passes 16 _ _ (ap not (of-read (λ (k : ℕ). keyHas (fileIn (now (a .file))) k restricted) (c .before .before .before .before .before .before .signer-of .ensures) (c .before .key-has2 .ensures) (c .if5 .left)))
+    ∙ chain-none)
+
+pub decide-self-issue-spec : {M : Type 1} → statement M
+decide-self-issue-spec = tie.close (tie.spec is-role-requires returns certified-key-of-requires knows-requires returns-2 signer-of-requires in-table-requires returns-3 key-has-requires returns-4 key-has-requires-2 returns-5 returns-6)

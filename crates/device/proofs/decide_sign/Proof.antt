@@ -1,0 +1,141 @@
+use mathlib.Core.Path.{sym, ap, _∙_}
+use Prim.Native.Nat.{ℕ}
+use native.Mathlib.Omega.{arith}
+use borrow.Author.Tests.{not-true, not-false}
+use denote.Ref.{now}
+use Rattle.rules.specs.Attributes.{restricted, sign}
+use Rattle.rules.specs.Term.{hashKind}
+use Rattle.rules.specs.File.{isKind}
+use Rattle.rules.specs.Device.{keyHas}
+use Rattle.state.specs.View.{view}
+use Rattle.state.proofs.Exact.{stateOf}
+use Rattle.loaded.specs.Loaded.{fileIn}
+use Rattle.loaded.proofs.Chain.{chain-none, chain-passes, chain-fails}
+use Rattle.loaded.proofs.Standing.{party-here, term-here, kind-declared, message-declared, signing-key-declared}
+use Rattle.device.proofs.Tested.{of-read, either-read, unless, free}
+use Rattle.device.proofs.Outcomes.{sign-chain}
+use Rattle.device.proofs.decide_sign.Statement.{statement}
+use Rattle.device.proofs.decide_sign.Tie as tie
+
+is-role-requires : tie.Need-is-role-requires
+is-role-requires c κs =
+    let p = c .before .before .pre in
+    party-here (p .0) (p .1 .0)
+
+returns : tie.Need-returns
+returns c ledger =
+    let a = c .before .before .before .before .args in
+    sym (sign-chain (fileIn (now (a .file))) (stateOf (view (now (a .state))) ledger) (a .party) (a .r)
+    ∙ chain-fails 13 _ _ (sym (c .before .is-role .ensures) ∙ not-true _ (c .if1 .taken)))
+
+signing-key-of-requires : tie.Need-signing-key-of-requires
+signing-key-of-requires c κs =
+    let p = c .before .before .before .before .pre in
+    (term-here (p .0) (kind-declared _ (p .1 .1) (λ q. omega arith)), p .1 .1)
+
+message-of-requires : tie.Need-message-of-requires
+message-of-requires c κs =
+    let p = c .before .before .before .before .before .pre in
+    (term-here (p .0) (kind-declared _ (p .1 .1) (λ q. omega arith)), p .1 .1)
+
+key-has-requires : tie.Need-key-has-requires
+key-has-requires c κs =
+    let p = c .before .before .before .before .before .before .pre in
+    (rw (c .before .signing-key-of .ensures) (term-here (p .0) (signing-key-declared (p .0) (kind-declared _ (p .1 .1) (λ q. omega arith)) (p .1 .1))), omega arith)
+
+known-unless-requires : tie.Need-known-unless-requires
+known-unless-requires c κs =
+    let p = c .before .before .before .before .before .before .before .pre in
+    (omega (arith, p .0 .parties, p .1 .0), rw (c .before .message-of .ensures) (term-here (p .0) (message-declared (p .0) (kind-declared _ (p .1 .1) (λ q. omega arith)) (p .1 .1)) .row))
+
+returns-2 : tie.Need-returns-2
+returns-2 c ledger =
+    let a = c .before .before .before .before .before .before .before .before .before .args in
+    sym (sign-chain (fileIn (now (a .file))) (stateOf (view (now (a .state))) ledger) (a .party) (a .r)
+    ∙ chain-passes 13 _ _ (sym (c .before .before .before .before .before .before .is-role .ensures) ∙ not-false _ (c .before .before .before .before .before .if1 .left))
+    ∙ chain-fails 14 _ _ (either-read (view (now (a .state)) .knows (a .party)) (c .before .before .key-has .ensures ∙ ap (λ (k : ℕ). keyHas (fileIn (now (a .file))) k restricted) (c .before .before .before .before .signing-key-of .ensures)) (c .before .before .before .message-of .ensures) (c .before .known-unless .ensures) (not-true _ (c .if2 .taken))))
+
+in-table-requires : tie.Need-in-table-requires
+in-table-requires c κs =
+    let p = c .before .before .before .before .before .before .before .before .before .pre in
+    (omega (arith, p .0 .parties, p .1 .0), rw (c .before .before .before .before .signing-key-of .ensures) (term-here (p .0) (signing-key-declared (p .0) (kind-declared _ (p .1 .1) (λ q. omega arith)) (p .1 .1)) .row))
+
+returns-3 : tie.Need-returns-3
+returns-3 c ledger =
+    let a = c .before .before .before .before .before .before .before .before .before .before .before .args in
+    sym (sign-chain (fileIn (now (a .file))) (stateOf (view (now (a .state))) ledger) (a .party) (a .r)
+    ∙ chain-passes 13 _ _ (sym (c .before .before .before .before .before .before .before .before .is-role .ensures) ∙ not-false _ (c .before .before .before .before .before .before .before .if1 .left))
+    ∙ chain-passes 14 _ _ (either-read (view (now (a .state)) .knows (a .party)) (c .before .before .before .before .key-has .ensures ∙ ap (λ (k : ℕ). keyHas (fileIn (now (a .file))) k restricted) (c .before .before .before .before .before .before .signing-key-of .ensures)) (c .before .before .before .before .before .message-of .ensures) (c .before .before .before .known-unless .ensures) (not-false _ (c .before .before .if2 .left)))
+    ∙ chain-fails 15 _ _ (of-read (view (now (a .state)) .table (a .party)) (c .before .before .before .before .before .before .signing-key-of .ensures) (c .before .in-table .ensures) (not-true _ (c .if3 .taken))))
+
+key-has-requires-2 : tie.Need-key-has-requires-2
+key-has-requires-2 c κs =
+    let p = c .before .before .before .before .before .before .before .before .before .before .before .pre in
+    (rw (c .before .before .before .before .before .before .signing-key-of .ensures) (term-here (p .0) (signing-key-declared (p .0) (kind-declared _ (p .1 .1) (λ q. omega arith)) (p .1 .1))), omega arith)
+
+returns-4 : tie.Need-returns-4
+returns-4 c ledger =
+    let a = c .before .before .before .before .before .before .before .before .before .before .before .before .before .args in
+    sym (sign-chain (fileIn (now (a .file))) (stateOf (view (now (a .state))) ledger) (a .party) (a .r)
+    ∙ chain-passes 13 _ _ (sym (c .before .before .before .before .before .before .before .before .before .before .is-role .ensures) ∙ not-false _ (c .before .before .before .before .before .before .before .before .before .if1 .left))
+    ∙ chain-passes 14 _ _ (either-read (view (now (a .state)) .knows (a .party)) (c .before .before .before .before .before .before .key-has .ensures ∙ ap (λ (k : ℕ). keyHas (fileIn (now (a .file))) k restricted) (c .before .before .before .before .before .before .before .before .signing-key-of .ensures)) (c .before .before .before .before .before .before .before .message-of .ensures) (c .before .before .before .before .before .known-unless .ensures) (not-false _ (c .before .before .before .before .if2 .left)))
+    ∙ chain-passes 15 _ _ (of-read (view (now (a .state)) .table (a .party)) (c .before .before .before .before .before .before .before .before .signing-key-of .ensures) (c .before .before .before .in-table .ensures) (not-false _ (c .before .before .if3 .left)))
+    ∙ chain-fails 16 _ _ (of-read (λ (k : ℕ). keyHas (fileIn (now (a .file))) k sign) (c .before .before .before .before .before .before .before .before .signing-key-of .ensures) (c .before .key-has2 .ensures) (not-true _ (c .if4 .taken))))
+
+returns-5 : tie.Need-returns-5
+returns-5 c ledger =
+    let a = c .before .before .before .before .before .before .before .before .before .before .before .before .before .before .args in
+    sym (sign-chain (fileIn (now (a .file))) (stateOf (view (now (a .state))) ledger) (a .party) (a .r)
+    ∙ chain-passes 13 _ _ (sym (c .before .before .before .before .before .before .before .before .before .before .before .is-role .ensures) ∙ not-false _ (c .before .before .before .before .before .before .before .before .before .before .if1 .left))
+    ∙ chain-passes 14 _ _ (either-read (view (now (a .state)) .knows (a .party)) (c .before .before .before .before .before .before .before .key-has .ensures ∙ ap (λ (k : ℕ). keyHas (fileIn (now (a .file))) k restricted) (c .before .before .before .before .before .before .before .before .before .signing-key-of .ensures)) (c .before .before .before .before .before .before .before .before .message-of .ensures) (c .before .before .before .before .before .before .known-unless .ensures) (not-false _ (c .before .before .before .before .before .if2 .left)))
+    ∙ chain-passes 15 _ _ (of-read (view (now (a .state)) .table (a .party)) (c .before .before .before .before .before .before .before .before .before .signing-key-of .ensures) (c .before .before .before .before .in-table .ensures) (not-false _ (c .before .before .before .if3 .left)))
+    ∙ chain-passes 16 _ _ (of-read (λ (k : ℕ). keyHas (fileIn (now (a .file))) k sign) (c .before .before .before .before .before .before .before .before .before .signing-key-of .ensures) (c .before .before .key-has2 .ensures) (not-false _ (c .before .if4 .left)))
+    ∙ chain-passes 17 _ _ (free _ (of-read (λ (k : ℕ). keyHas (fileIn (now (a .file))) k restricted) (c .before .before .before .before .before .before .before .before .before .signing-key-of .ensures) (c .before .before .before .before .before .before .before .key-has .ensures) (not-true _ (c .if5 .taken))))
+    ∙ chain-passes 17 _ _ (free _ (of-read (λ (k : ℕ). keyHas (fileIn (now (a .file))) k restricted) (c .before .before .before .before .before .before .before .before .before .signing-key-of .ensures) (c .before .before .before .before .before .before .before .key-has .ensures) (not-true _ (c .if5 .taken))))
+    ∙ chain-none)
+
+is-kind-requires : tie.Need-is-kind-requires
+is-kind-requires c κs =
+    let p = c .before .before .before .before .before .before .before .before .before .before .before .before .before .before .pre in
+    rw (c .before .before .before .before .before .before .before .before .message-of .ensures) (term-here (p .0) (message-declared (p .0) (kind-declared _ (p .1 .1) (λ q. omega arith)) (p .1 .1)))
+
+returns-6 : tie.Need-returns-6
+returns-6 c ledger =
+    let a = c .before .before .before .before .before .before .before .before .before .before .before .before .before .before .before .before .args in
+    sym (sign-chain (fileIn (now (a .file))) (stateOf (view (now (a .state))) ledger) (a .party) (a .r)
+    ∙ chain-passes 13 _ _ (sym (c .before .before .before .before .before .before .before .before .before .before .before .before .before .is-role .ensures) ∙ not-false _ (c .before .before .before .before .before .before .before .before .before .before .before .before .if1 .left))
+    ∙ chain-passes 14 _ _ (either-read (view (now (a .state)) .knows (a .party)) (c .before .before .before .before .before .before .before .before .before .key-has .ensures ∙ ap (λ (k : ℕ). keyHas (fileIn (now (a .file))) k restricted) (c .before .before .before .before .before .before .before .before .before .before .before .signing-key-of .ensures)) (c .before .before .before .before .before .before .before .before .before .before .message-of .ensures) (c .before .before .before .before .before .before .before .before .known-unless .ensures) (not-false _ (c .before .before .before .before .before .before .before .if2 .left)))
+    ∙ chain-passes 15 _ _ (of-read (view (now (a .state)) .table (a .party)) (c .before .before .before .before .before .before .before .before .before .before .before .signing-key-of .ensures) (c .before .before .before .before .before .before .in-table .ensures) (not-false _ (c .before .before .before .before .before .if3 .left)))
+    ∙ chain-passes 16 _ _ (of-read (λ (k : ℕ). keyHas (fileIn (now (a .file))) k sign) (c .before .before .before .before .before .before .before .before .before .before .before .signing-key-of .ensures) (c .before .before .before .before .key-has2 .ensures) (not-false _ (c .before .before .before .if4 .left)))
+    ∙ chain-fails 17 _ _ (unless (of-read (λ (k : ℕ). keyHas (fileIn (now (a .file))) k restricted) (c .before .before .before .before .before .before .before .before .before .before .before .signing-key-of .ensures) (c .before .before .before .before .before .before .before .before .before .key-has .ensures) (not-false _ (c .before .before .if5 .left))) (of-read (isKind (fileIn (now (a .file))) hashKind) (c .before .before .before .before .before .before .before .before .before .before .message-of .ensures) (c .before .is-kind .ensures) (not-true _ (c .if6 .taken)))))
+
+in-table-requires-2 : tie.Need-in-table-requires-2
+in-table-requires-2 c κs =
+    let p = c .before .before .before .before .before .before .before .before .before .before .before .before .before .before .before .before .pre in
+    (omega (arith, p .0 .parties, p .1 .0), rw (c .before .before .before .before .before .before .before .before .before .before .message-of .ensures) (term-here (p .0) (message-declared (p .0) (kind-declared _ (p .1 .1) (λ q. omega arith)) (p .1 .1)) .row))
+
+returns-7 : tie.Need-returns-7
+returns-7 c ledger =
+    let a = c .before .before .before .before .before .before .before .before .before .before .before .before .before .before .before .before .before .before .args in
+    sym (sign-chain (fileIn (now (a .file))) (stateOf (view (now (a .state))) ledger) (a .party) (a .r)
+    ∙ chain-passes 13 _ _ (sym (c .before .before .before .before .before .before .before .before .before .before .before .before .before .before .before .is-role .ensures) ∙ not-false _ (c .before .before .before .before .before .before .before .before .before .before .before .before .before .before .if1 .left))
+    ∙ chain-passes 14 _ _ (either-read (view (now (a .state)) .knows (a .party)) (c .before .before .before .before .before .before .before .before .before .before .before .key-has .ensures ∙ ap (λ (k : ℕ). keyHas (fileIn (now (a .file))) k restricted) (c .before .before .before .before .before .before .before .before .before .before .before .before .before .signing-key-of .ensures)) (c .before .before .before .before .before .before .before .before .before .before .before .before .message-of .ensures) (c .before .before .before .before .before .before .before .before .before .before .known-unless .ensures) (not-false _ (c .before .before .before .before .before .before .before .before .before .if2 .left)))
+    ∙ chain-passes 15 _ _ (of-read (view (now (a .state)) .table (a .party)) (c .before .before .before .before .before .before .before .before .before .before .before .before .before .signing-key-of .ensures) (c .before .before .before .before .before .before .before .before .in-table .ensures) (not-false _ (c .before .before .before .before .before .before .before .if3 .left)))
+    ∙ chain-passes 16 _ _ (of-read (λ (k : ℕ). keyHas (fileIn (now (a .file))) k sign) (c .before .before .before .before .before .before .before .before .before .before .before .before .before .signing-key-of .ensures) (c .before .before .before .before .before .before .key-has2 .ensures) (not-false _ (c .before .before .before .before .before .if4 .left)))
+    ∙ chain-passes 17 _ _ (unless (of-read (λ (k : ℕ). keyHas (fileIn (now (a .file))) k restricted) (c .before .before .before .before .before .before .before .before .before .before .before .before .before .signing-key-of .ensures) (c .before .before .before .before .before .before .before .before .before .before .before .key-has .ensures) (not-false _ (c .before .before .before .before .if5 .left))) (of-read (isKind (fileIn (now (a .file))) hashKind) (c .before .before .before .before .before .before .before .before .before .before .before .before .message-of .ensures) (c .before .before .before .is-kind .ensures) (not-false _ (c .before .before .if6 .left))))
+    ∙ chain-fails 17 _ _ (unless (of-read (λ (k : ℕ). keyHas (fileIn (now (a .file))) k restricted) (c .before .before .before .before .before .before .before .before .before .before .before .before .before .signing-key-of .ensures) (c .before .before .before .before .before .before .before .before .before .before .before .key-has .ensures) (not-false _ (c .before .before .before .before .if5 .left))) (of-read (view (now (a .state)) .table (a .party)) (c .before .before .before .before .before .before .before .before .before .before .before .before .message-of .ensures) (c .before .in-table2 .ensures) (not-true _ (c .if7 .taken)))))
+
+returns-8 : tie.Need-returns-8
+returns-8 c ledger =
+    let a = c .before .before .before .before .before .before .before .before .before .before .before .before .before .before .before .before .before .before .args in
+    sym (sign-chain (fileIn (now (a .file))) (stateOf (view (now (a .state))) ledger) (a .party) (a .r)
+    ∙ chain-passes 13 _ _ (sym (c .before .before .before .before .before .before .before .before .before .before .before .before .before .before .before .is-role .ensures) ∙ not-false _ (c .before .before .before .before .before .before .before .before .before .before .before .before .before .before .if1 .left))
+    ∙ chain-passes 14 _ _ (either-read (view (now (a .state)) .knows (a .party)) (c .before .before .before .before .before .before .before .before .before .before .before .key-has .ensures ∙ ap (λ (k : ℕ). keyHas (fileIn (now (a .file))) k restricted) (c .before .before .before .before .before .before .before .before .before .before .before .before .before .signing-key-of .ensures)) (c .before .before .before .before .before .before .before .before .before .before .before .before .message-of .ensures) (c .before .before .before .before .before .before .before .before .before .before .known-unless .ensures) (not-false _ (c .before .before .before .before .before .before .before .before .before .if2 .left)))
+    ∙ chain-passes 15 _ _ (of-read (view (now (a .state)) .table (a .party)) (c .before .before .before .before .before .before .before .before .before .before .before .before .before .signing-key-of .ensures) (c .before .before .before .before .before .before .before .before .in-table .ensures) (not-false _ (c .before .before .before .before .before .before .before .if3 .left)))
+    ∙ chain-passes 16 _ _ (of-read (λ (k : ℕ). keyHas (fileIn (now (a .file))) k sign) (c .before .before .before .before .before .before .before .before .before .before .before .before .before .signing-key-of .ensures) (c .before .before .before .before .before .before .key-has2 .ensures) (not-false _ (c .before .before .before .before .before .if4 .left)))
+    ∙ chain-passes 17 _ _ (unless (of-read (λ (k : ℕ). keyHas (fileIn (now (a .file))) k restricted) (c .before .before .before .before .before .before .before .before .before .before .before .before .before .signing-key-of .ensures) (c .before .before .before .before .before .before .before .before .before .before .before .key-has .ensures) (not-false _ (c .before .before .before .before .if5 .left))) (of-read (isKind (fileIn (now (a .file))) hashKind) (c .before .before .before .before .before .before .before .before .before .before .before .before .message-of .ensures) (c .before .before .before .is-kind .ensures) (not-false _ (c .before .before .if6 .left))))
+    ∙ chain-passes 17 _ _ (unless (of-read (λ (k : ℕ). keyHas (fileIn (now (a .file))) k restricted) (c .before .before .before .before .before .before .before .before .before .before .before .before .before .signing-key-of .ensures) (c .before .before .before .before .before .before .before .before .before .before .before .key-has .ensures) (not-false _ (c .before .before .before .before .if5 .left))) (of-read (view (now (a .state)) .table (a .party)) (c .before .before .before .before .before .before .before .before .before .before .before .before .message-of .ensures) (c .before .in-table2 .ensures) (not-false _ (c .if7 .left))))
+    ∙ chain-none)
+
+pub decide-sign-spec : {M : Type 1} → statement M
+decide-sign-spec = tie.close (tie.spec is-role-requires returns signing-key-of-requires message-of-requires key-has-requires known-unless-requires returns-2 in-table-requires returns-3 key-has-requires-2 returns-4 returns-5 is-kind-requires returns-6 in-table-requires-2 returns-7 returns-8)
