@@ -1,10 +1,12 @@
-use mathlib.Core.Path.{sym, ap, _∙_}
+use mathlib.Core.Path.{_≡_, sym, ap, _∙_}
+use mathlib.Core.Bool.{true}
 use Prim.Native.Nat.{ℕ}
 use native.Mathlib.Omega.{arith}
 use borrow.Author.Tests.{not-true, not-false}
 use denote.Ref.{now}
+use Rattle.rules.specs.Limits.{device}
 use Rattle.rules.specs.Attributes.{sign}
-use Rattle.rules.specs.File.{attestedKey}
+use Rattle.rules.specs.File.{isRole, halfIn, message, signingKey, attestedKey}
 use Rattle.rules.specs.Device.{keyHas}
 use Rattle.state.specs.View.{view}
 use Rattle.state.proofs.Exact.{stateOf}
@@ -28,6 +30,10 @@ returns c ledger =
     sym (certify-chain (fileIn (now (a .file))) (stateOf (view (now (a .state))) ledger) (a .party) (a .r)
     ∙ chain-fails 13 _ _ (sym (c .before .is-role .ensures) ∙ not-true _ (c .if1 .taken)))
 
+passes-1 : (c : tie.Else1) → let a = c .before .before .before .before .args in isRole (fileIn (now (a .file))) device (a .party) ≡ true
+passes-1 c =
+    sym (c .before .is-role .ensures) ∙ not-false _ (c .if1 .left)
+
 signing-key-of-requires : tie.Need-signing-key-of-requires
 signing-key-of-requires c κs =
     let p = c .before .before .before .before .pre in
@@ -42,8 +48,13 @@ returns-2 : tie.Need-returns-2
 returns-2 c ledger =
     let a = c .before .before .before .before .before .before .before .args in
     sym (certify-chain (fileIn (now (a .file))) (stateOf (view (now (a .state))) ledger) (a .party) (a .r)
-    ∙ chain-passes 13 _ _ (sym (c .before .before .before .before .is-role .ensures) ∙ not-false _ (c .before .before .before .if1 .left))
+    ∙ chain-passes 13 _ _ (passes-1 (c .before .before .before))
     ∙ chain-fails 15 _ _ (of-read (view (now (a .state)) .table (a .party)) (c .before .before .signing-key-of .ensures) (c .before .in-table .ensures) (not-true _ (c .if2 .taken))))
+
+passes-2 : (c : tie.Else2) → let a = c .before .before .before .before .before .before .before .args in view (now (a .state)) .table (a .party) (signingKey (fileIn (now (a .file))) (a .r)) ≡ true
+passes-2 c =
+    let a = c .before .before .before .before .before .before .before .args in
+    of-read (view (now (a .state)) .table (a .party)) (c .before .before .signing-key-of .ensures) (c .before .in-table .ensures) (not-false _ (c .if2 .left))
 
 message-of-requires : tie.Need-message-of-requires
 message-of-requires c κs =
@@ -65,9 +76,15 @@ returns-3 c ledger =
     let a = c .before .before .before .before .before .before .before .before .before .before .before .args in
     let p = c .before .before .before .before .before .before .before .before .before .before .before .pre in
     sym (certify-chain (fileIn (now (a .file))) (stateOf (view (now (a .state))) ledger) (a .party) (a .r)
-    ∙ chain-passes 13 _ _ (sym (c .before .before .before .before .before .before .before .before .is-role .ensures) ∙ not-false _ (c .before .before .before .before .before .before .before .if1 .left))
-    ∙ chain-passes 15 _ _ (of-read (view (now (a .state)) .table (a .party)) (c .before .before .before .before .before .before .signing-key-of .ensures) (c .before .before .before .before .before .in-table .ensures) (not-false _ (c .before .before .before .before .if2 .left)))
+    ∙ chain-passes 13 _ _ (passes-1 (c .before .before .before .before .before .before .before))
+    ∙ chain-passes 15 _ _ (passes-2 (c .before .before .before .before))
     ∙ chain-fails 15 _ _ (half-read (p .0) (p .2) (attested-key-declared (p .0) (message-declared (p .0) (kind-declared _ (p .1 .1) (λ q. omega arith)) (p .1 .1)) (p .1 .2)) (view (now (a .state)) .table (a .party)) (c .before .before .attested-key-of .ensures ∙ ap (attestedKey (fileIn (now (a .file)))) (c .before .before .before .message-of .ensures)) (c .before .holds-half .ensures) (not-true _ (c .if3 .taken))))
+
+passes-3 : (c : tie.Else3) → let a = c .before .before .before .before .before .before .before .before .before .before .before .args in halfIn (fileIn (now (a .file))) (view (now (a .state)) .table (a .party)) (attestedKey (fileIn (now (a .file))) (message (fileIn (now (a .file))) (a .r))) ≡ true
+passes-3 c =
+    let a = c .before .before .before .before .before .before .before .before .before .before .before .args in
+    let p = c .before .before .before .before .before .before .before .before .before .before .before .pre in
+    half-read (p .0) (p .2) (attested-key-declared (p .0) (message-declared (p .0) (kind-declared _ (p .1 .1) (λ q. omega arith)) (p .1 .1)) (p .1 .2)) (view (now (a .state)) .table (a .party)) (c .before .before .attested-key-of .ensures ∙ ap (attestedKey (fileIn (now (a .file)))) (c .before .before .before .message-of .ensures)) (c .before .holds-half .ensures) (not-false _ (c .if3 .left))
 
 key-has-requires : tie.Need-key-has-requires
 key-has-requires c κs =
@@ -77,22 +94,25 @@ key-has-requires c κs =
 returns-4 : tie.Need-returns-4
 returns-4 c ledger =
     let a = c .before .before .before .before .before .before .before .before .before .before .before .before .before .args in
-    let p = c .before .before .before .before .before .before .before .before .before .before .before .before .before .pre in
     sym (certify-chain (fileIn (now (a .file))) (stateOf (view (now (a .state))) ledger) (a .party) (a .r)
-    ∙ chain-passes 13 _ _ (sym (c .before .before .before .before .before .before .before .before .before .before .is-role .ensures) ∙ not-false _ (c .before .before .before .before .before .before .before .before .before .if1 .left))
-    ∙ chain-passes 15 _ _ (of-read (view (now (a .state)) .table (a .party)) (c .before .before .before .before .before .before .before .before .signing-key-of .ensures) (c .before .before .before .before .before .before .before .in-table .ensures) (not-false _ (c .before .before .before .before .before .before .if2 .left)))
-    ∙ chain-passes 15 _ _ (half-read (p .0) (p .2) (attested-key-declared (p .0) (message-declared (p .0) (kind-declared _ (p .1 .1) (λ q. omega arith)) (p .1 .1)) (p .1 .2)) (view (now (a .state)) .table (a .party)) (c .before .before .before .before .attested-key-of .ensures ∙ ap (attestedKey (fileIn (now (a .file)))) (c .before .before .before .before .before .message-of .ensures)) (c .before .before .before .holds-half .ensures) (not-false _ (c .before .before .if3 .left)))
+    ∙ chain-passes 13 _ _ (passes-1 (c .before .before .before .before .before .before .before .before .before))
+    ∙ chain-passes 15 _ _ (passes-2 (c .before .before .before .before .before .before))
+    ∙ chain-passes 15 _ _ (passes-3 (c .before .before))
     ∙ chain-fails 16 _ _ (of-read (λ (k : ℕ). keyHas (fileIn (now (a .file))) k sign) (c .before .before .before .before .before .before .before .before .signing-key-of .ensures) (c .before .key-has .ensures) (not-true _ (c .if4 .taken))))
+
+passes-4 : (c : tie.Else4) → let a = c .before .before .before .before .before .before .before .before .before .before .before .before .before .args in keyHas (fileIn (now (a .file))) (signingKey (fileIn (now (a .file))) (a .r)) sign ≡ true
+passes-4 c =
+    let a = c .before .before .before .before .before .before .before .before .before .before .before .before .before .args in
+    of-read (λ (k : ℕ). keyHas (fileIn (now (a .file))) k sign) (c .before .before .before .before .before .before .before .before .signing-key-of .ensures) (c .before .key-has .ensures) (not-false _ (c .if4 .left))
 
 returns-5 : tie.Need-returns-5
 returns-5 c ledger =
     let a = c .before .before .before .before .before .before .before .before .before .before .before .before .before .args in
-    let p = c .before .before .before .before .before .before .before .before .before .before .before .before .before .pre in
     sym (certify-chain (fileIn (now (a .file))) (stateOf (view (now (a .state))) ledger) (a .party) (a .r)
-    ∙ chain-passes 13 _ _ (sym (c .before .before .before .before .before .before .before .before .before .before .is-role .ensures) ∙ not-false _ (c .before .before .before .before .before .before .before .before .before .if1 .left))
-    ∙ chain-passes 15 _ _ (of-read (view (now (a .state)) .table (a .party)) (c .before .before .before .before .before .before .before .before .signing-key-of .ensures) (c .before .before .before .before .before .before .before .in-table .ensures) (not-false _ (c .before .before .before .before .before .before .if2 .left)))
-    ∙ chain-passes 15 _ _ (half-read (p .0) (p .2) (attested-key-declared (p .0) (message-declared (p .0) (kind-declared _ (p .1 .1) (λ q. omega arith)) (p .1 .1)) (p .1 .2)) (view (now (a .state)) .table (a .party)) (c .before .before .before .before .attested-key-of .ensures ∙ ap (attestedKey (fileIn (now (a .file)))) (c .before .before .before .before .before .message-of .ensures)) (c .before .before .before .holds-half .ensures) (not-false _ (c .before .before .if3 .left)))
-    ∙ chain-passes 16 _ _ (of-read (λ (k : ℕ). keyHas (fileIn (now (a .file))) k sign) (c .before .before .before .before .before .before .before .before .signing-key-of .ensures) (c .before .key-has .ensures) (not-false _ (c .if4 .left)))
+    ∙ chain-passes 13 _ _ (passes-1 (c .before .before .before .before .before .before .before .before .before))
+    ∙ chain-passes 15 _ _ (passes-2 (c .before .before .before .before .before .before))
+    ∙ chain-passes 15 _ _ (passes-3 (c .before .before))
+    ∙ chain-passes 16 _ _ (passes-4 c)
     ∙ chain-none)
 
 pub decide-certify-spec : {M : Type 1} → statement M

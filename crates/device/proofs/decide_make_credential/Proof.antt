@@ -1,7 +1,10 @@
-use mathlib.Core.Path.{sym, _∙_}
+use mathlib.Core.Path.{_≡_, sym, _∙_}
+use mathlib.Core.Bool.{true}
 use native.Mathlib.Omega.{arith}
 use borrow.Author.Tests.{not-true, not-false}
 use denote.Ref.{now}
+use Rattle.rules.specs.Limits.{device}
+use Rattle.rules.specs.File.{isRole, credentialTerm, credentialNumber, credentialKey}
 use Rattle.state.specs.View.{view}
 use Rattle.state.proofs.Exact.{stateOf}
 use Rattle.loaded.specs.Loaded.{fileIn}
@@ -23,6 +26,10 @@ returns c ledger =
     sym (make-credential-chain (fileIn (now (a .file))) (stateOf (view (now (a .state))) ledger) (a .party) (a .r)
     ∙ chain-fails 13 _ _ (sym (c .before .is-role .ensures) ∙ not-true _ (c .if1 .taken)))
 
+passes-1 : (c : tie.Else1) → let a = c .before .before .before .before .args in isRole (fileIn (now (a .file))) device (a .party) ≡ true
+passes-1 c =
+    sym (c .before .is-role .ensures) ∙ not-false _ (c .if1 .left)
+
 credential-term-of-requires : tie.Need-credential-term-of-requires
 credential-term-of-requires c κs =
     let p = c .before .before .before .before .pre in
@@ -37,8 +44,13 @@ returns-2 : tie.Need-returns-2
 returns-2 c ledger =
     let a = c .before .before .before .before .before .before .before .args in
     sym (make-credential-chain (fileIn (now (a .file))) (stateOf (view (now (a .state))) ledger) (a .party) (a .r)
-    ∙ chain-passes 13 _ _ (sym (c .before .before .before .before .is-role .ensures) ∙ not-false _ (c .before .before .before .if1 .left))
+    ∙ chain-passes 13 _ _ (passes-1 (c .before .before .before))
     ∙ chain-fails 14 _ _ (of-read (view (now (a .state)) .knows (a .party)) (c .before .before .credential-term-of .ensures) (c .before .knows .ensures) (not-true _ (c .if2 .taken))))
+
+passes-2 : (c : tie.Else2) → let a = c .before .before .before .before .before .before .before .args in view (now (a .state)) .knows (a .party) (credentialTerm (fileIn (now (a .file))) (a .r)) ≡ true
+passes-2 c =
+    let a = c .before .before .before .before .before .before .before .args in
+    of-read (view (now (a .state)) .knows (a .party)) (c .before .before .credential-term-of .ensures) (c .before .knows .ensures) (not-false _ (c .if2 .left))
 
 credential-number-of-requires : tie.Need-credential-number-of-requires
 credential-number-of-requires c κs =
@@ -54,9 +66,14 @@ returns-3 : tie.Need-returns-3
 returns-3 c ledger =
     let a = c .before .before .before .before .before .before .before .before .before .before .args in
     sym (make-credential-chain (fileIn (now (a .file))) (stateOf (view (now (a .state))) ledger) (a .party) (a .r)
-    ∙ chain-passes 13 _ _ (sym (c .before .before .before .before .before .before .before .is-role .ensures) ∙ not-false _ (c .before .before .before .before .before .before .if1 .left))
-    ∙ chain-passes 14 _ _ (of-read (view (now (a .state)) .knows (a .party)) (c .before .before .before .before .before .credential-term-of .ensures) (c .before .before .before .before .knows .ensures) (not-false _ (c .before .before .before .if2 .left)))
+    ∙ chain-passes 13 _ _ (passes-1 (c .before .before .before .before .before .before))
+    ∙ chain-passes 14 _ _ (passes-2 (c .before .before .before))
     ∙ chain-fails 14 _ _ (of-read (view (now (a .state)) .knows (a .party)) (c .before .before .credential-number-of .ensures) (c .before .knows2 .ensures) (not-true _ (c .if3 .taken))))
+
+passes-3 : (c : tie.Else3) → let a = c .before .before .before .before .before .before .before .before .before .before .args in view (now (a .state)) .knows (a .party) (credentialNumber (fileIn (now (a .file))) (a .r)) ≡ true
+passes-3 c =
+    let a = c .before .before .before .before .before .before .before .before .before .before .args in
+    of-read (view (now (a .state)) .knows (a .party)) (c .before .before .credential-number-of .ensures) (c .before .knows2 .ensures) (not-false _ (c .if3 .left))
 
 credential-key-of-requires : tie.Need-credential-key-of-requires
 credential-key-of-requires c κs =
@@ -72,19 +89,24 @@ returns-4 : tie.Need-returns-4
 returns-4 c ledger =
     let a = c .before .before .before .before .before .before .before .before .before .before .before .before .before .args in
     sym (make-credential-chain (fileIn (now (a .file))) (stateOf (view (now (a .state))) ledger) (a .party) (a .r)
-    ∙ chain-passes 13 _ _ (sym (c .before .before .before .before .before .before .before .before .before .before .is-role .ensures) ∙ not-false _ (c .before .before .before .before .before .before .before .before .before .if1 .left))
-    ∙ chain-passes 14 _ _ (of-read (view (now (a .state)) .knows (a .party)) (c .before .before .before .before .before .before .before .before .credential-term-of .ensures) (c .before .before .before .before .before .before .before .knows .ensures) (not-false _ (c .before .before .before .before .before .before .if2 .left)))
-    ∙ chain-passes 14 _ _ (of-read (view (now (a .state)) .knows (a .party)) (c .before .before .before .before .before .credential-number-of .ensures) (c .before .before .before .before .knows2 .ensures) (not-false _ (c .before .before .before .if3 .left)))
+    ∙ chain-passes 13 _ _ (passes-1 (c .before .before .before .before .before .before .before .before .before))
+    ∙ chain-passes 14 _ _ (passes-2 (c .before .before .before .before .before .before))
+    ∙ chain-passes 14 _ _ (passes-3 (c .before .before .before))
     ∙ chain-fails 14 _ _ (of-read (view (now (a .state)) .knows (a .party)) (c .before .before .credential-key-of .ensures) (c .before .knows3 .ensures) (not-true _ (c .if4 .taken))))
+
+passes-4 : (c : tie.Else4) → let a = c .before .before .before .before .before .before .before .before .before .before .before .before .before .args in view (now (a .state)) .knows (a .party) (credentialKey (fileIn (now (a .file))) (a .r)) ≡ true
+passes-4 c =
+    let a = c .before .before .before .before .before .before .before .before .before .before .before .before .before .args in
+    of-read (view (now (a .state)) .knows (a .party)) (c .before .before .credential-key-of .ensures) (c .before .knows3 .ensures) (not-false _ (c .if4 .left))
 
 returns-5 : tie.Need-returns-5
 returns-5 c ledger =
     let a = c .before .before .before .before .before .before .before .before .before .before .before .before .before .args in
     sym (make-credential-chain (fileIn (now (a .file))) (stateOf (view (now (a .state))) ledger) (a .party) (a .r)
-    ∙ chain-passes 13 _ _ (sym (c .before .before .before .before .before .before .before .before .before .before .is-role .ensures) ∙ not-false _ (c .before .before .before .before .before .before .before .before .before .if1 .left))
-    ∙ chain-passes 14 _ _ (of-read (view (now (a .state)) .knows (a .party)) (c .before .before .before .before .before .before .before .before .credential-term-of .ensures) (c .before .before .before .before .before .before .before .knows .ensures) (not-false _ (c .before .before .before .before .before .before .if2 .left)))
-    ∙ chain-passes 14 _ _ (of-read (view (now (a .state)) .knows (a .party)) (c .before .before .before .before .before .credential-number-of .ensures) (c .before .before .before .before .knows2 .ensures) (not-false _ (c .before .before .before .if3 .left)))
-    ∙ chain-passes 14 _ _ (of-read (view (now (a .state)) .knows (a .party)) (c .before .before .credential-key-of .ensures) (c .before .knows3 .ensures) (not-false _ (c .if4 .left)))
+    ∙ chain-passes 13 _ _ (passes-1 (c .before .before .before .before .before .before .before .before .before))
+    ∙ chain-passes 14 _ _ (passes-2 (c .before .before .before .before .before .before))
+    ∙ chain-passes 14 _ _ (passes-3 (c .before .before .before))
+    ∙ chain-passes 14 _ _ (passes-4 c)
     ∙ chain-none)
 
 pub decide-make-credential-spec : {M : Type 1} → statement M

@@ -1,10 +1,12 @@
-use mathlib.Core.Path.{sym, ap, _∙_}
-use mathlib.Core.Bool.{not}
+use mathlib.Core.Path.{_≡_, sym, ap, _∙_}
+use mathlib.Core.Bool.{true, not}
 use Prim.Native.Nat.{ℕ}
 use native.Mathlib.Omega.{arith}
 use borrow.Author.Tests.{not-true, not-false}
 use denote.Ref.{now}
+use Rattle.rules.specs.Limits.{device}
 use Rattle.rules.specs.Attributes.{restricted, sign}
+use Rattle.rules.specs.File.{isRole, certifiedKey, signer}
 use Rattle.rules.specs.Device.{keyHas}
 use Rattle.state.specs.View.{view}
 use Rattle.state.proofs.Exact.{stateOf}
@@ -27,6 +29,10 @@ returns c ledger =
     sym (self-issue-chain (fileIn (now (a .file))) (stateOf (view (now (a .state))) ledger) (a .party) (a .r)
     ∙ chain-fails 13 _ _ (sym (c .before .is-role .ensures) ∙ not-true _ (c .if1 .taken)))
 
+passes-1 : (c : tie.Else1) → let a = c .before .before .before .before .args in isRole (fileIn (now (a .file))) device (a .party) ≡ true
+passes-1 c =
+    sym (c .before .is-role .ensures) ∙ not-false _ (c .if1 .left)
+
 certified-key-of-requires : tie.Need-certified-key-of-requires
 certified-key-of-requires c κs =
     let p = c .before .before .before .before .pre in
@@ -41,8 +47,13 @@ returns-2 : tie.Need-returns-2
 returns-2 c ledger =
     let a = c .before .before .before .before .before .before .before .args in
     sym (self-issue-chain (fileIn (now (a .file))) (stateOf (view (now (a .state))) ledger) (a .party) (a .r)
-    ∙ chain-passes 13 _ _ (sym (c .before .before .before .before .is-role .ensures) ∙ not-false _ (c .before .before .before .if1 .left))
+    ∙ chain-passes 13 _ _ (passes-1 (c .before .before .before))
     ∙ chain-fails 14 _ _ (of-read (view (now (a .state)) .knows (a .party)) (c .before .before .certified-key-of .ensures) (c .before .knows .ensures) (not-true _ (c .if2 .taken))))
+
+passes-2 : (c : tie.Else2) → let a = c .before .before .before .before .before .before .before .args in view (now (a .state)) .knows (a .party) (certifiedKey (fileIn (now (a .file))) (a .r)) ≡ true
+passes-2 c =
+    let a = c .before .before .before .before .before .before .before .args in
+    of-read (view (now (a .state)) .knows (a .party)) (c .before .before .certified-key-of .ensures) (c .before .knows .ensures) (not-false _ (c .if2 .left))
 
 signer-of-requires : tie.Need-signer-of-requires
 signer-of-requires c κs =
@@ -58,9 +69,14 @@ returns-3 : tie.Need-returns-3
 returns-3 c ledger =
     let a = c .before .before .before .before .before .before .before .before .before .before .args in
     sym (self-issue-chain (fileIn (now (a .file))) (stateOf (view (now (a .state))) ledger) (a .party) (a .r)
-    ∙ chain-passes 13 _ _ (sym (c .before .before .before .before .before .before .before .is-role .ensures) ∙ not-false _ (c .before .before .before .before .before .before .if1 .left))
-    ∙ chain-passes 14 _ _ (of-read (view (now (a .state)) .knows (a .party)) (c .before .before .before .before .before .certified-key-of .ensures) (c .before .before .before .before .knows .ensures) (not-false _ (c .before .before .before .if2 .left)))
+    ∙ chain-passes 13 _ _ (passes-1 (c .before .before .before .before .before .before))
+    ∙ chain-passes 14 _ _ (passes-2 (c .before .before .before))
     ∙ chain-fails 15 _ _ (of-read (view (now (a .state)) .table (a .party)) (c .before .before .signer-of .ensures) (c .before .in-table .ensures) (not-true _ (c .if3 .taken))))
+
+passes-3 : (c : tie.Else3) → let a = c .before .before .before .before .before .before .before .before .before .before .args in view (now (a .state)) .table (a .party) (signer (fileIn (now (a .file))) (a .r)) ≡ true
+passes-3 c =
+    let a = c .before .before .before .before .before .before .before .before .before .before .args in
+    of-read (view (now (a .state)) .table (a .party)) (c .before .before .signer-of .ensures) (c .before .in-table .ensures) (not-false _ (c .if3 .left))
 
 key-has-requires : tie.Need-key-has-requires
 key-has-requires c κs =
@@ -71,10 +87,15 @@ returns-4 : tie.Need-returns-4
 returns-4 c ledger =
     let a = c .before .before .before .before .before .before .before .before .before .before .before .before .args in
     sym (self-issue-chain (fileIn (now (a .file))) (stateOf (view (now (a .state))) ledger) (a .party) (a .r)
-    ∙ chain-passes 13 _ _ (sym (c .before .before .before .before .before .before .before .before .before .is-role .ensures) ∙ not-false _ (c .before .before .before .before .before .before .before .before .if1 .left))
-    ∙ chain-passes 14 _ _ (of-read (view (now (a .state)) .knows (a .party)) (c .before .before .before .before .before .before .before .certified-key-of .ensures) (c .before .before .before .before .before .before .knows .ensures) (not-false _ (c .before .before .before .before .before .if2 .left)))
-    ∙ chain-passes 15 _ _ (of-read (view (now (a .state)) .table (a .party)) (c .before .before .before .before .signer-of .ensures) (c .before .before .before .in-table .ensures) (not-false _ (c .before .before .if3 .left)))
+    ∙ chain-passes 13 _ _ (passes-1 (c .before .before .before .before .before .before .before .before))
+    ∙ chain-passes 14 _ _ (passes-2 (c .before .before .before .before .before))
+    ∙ chain-passes 15 _ _ (passes-3 (c .before .before))
     ∙ chain-fails 16 _ _ (of-read (λ (k : ℕ). keyHas (fileIn (now (a .file))) k sign) (c .before .before .before .before .signer-of .ensures) (c .before .key-has .ensures) (not-true _ (c .if4 .taken))))
+
+passes-4 : (c : tie.Else4) → let a = c .before .before .before .before .before .before .before .before .before .before .before .before .args in keyHas (fileIn (now (a .file))) (signer (fileIn (now (a .file))) (a .r)) sign ≡ true
+passes-4 c =
+    let a = c .before .before .before .before .before .before .before .before .before .before .before .before .args in
+    of-read (λ (k : ℕ). keyHas (fileIn (now (a .file))) k sign) (c .before .before .before .before .signer-of .ensures) (c .before .key-has .ensures) (not-false _ (c .if4 .left))
 
 key-has-requires-2 : tie.Need-key-has-requires-2
 key-has-requires-2 c κs =
@@ -85,21 +106,26 @@ returns-5 : tie.Need-returns-5
 returns-5 c ledger =
     let a = c .before .before .before .before .before .before .before .before .before .before .before .before .before .before .args in
     sym (self-issue-chain (fileIn (now (a .file))) (stateOf (view (now (a .state))) ledger) (a .party) (a .r)
-    ∙ chain-passes 13 _ _ (sym (c .before .before .before .before .before .before .before .before .before .before .before .is-role .ensures) ∙ not-false _ (c .before .before .before .before .before .before .before .before .before .before .if1 .left))
-    ∙ chain-passes 14 _ _ (of-read (view (now (a .state)) .knows (a .party)) (c .before .before .before .before .before .before .before .before .before .certified-key-of .ensures) (c .before .before .before .before .before .before .before .before .knows .ensures) (not-false _ (c .before .before .before .before .before .before .before .if2 .left)))
-    ∙ chain-passes 15 _ _ (of-read (view (now (a .state)) .table (a .party)) (c .before .before .before .before .before .before .signer-of .ensures) (c .before .before .before .before .before .in-table .ensures) (not-false _ (c .before .before .before .before .if3 .left)))
-    ∙ chain-passes 16 _ _ (of-read (λ (k : ℕ). keyHas (fileIn (now (a .file))) k sign) (c .before .before .before .before .before .before .signer-of .ensures) (c .before .before .before .key-has .ensures) (not-false _ (c .before .before .if4 .left)))
+    ∙ chain-passes 13 _ _ (passes-1 (c .before .before .before .before .before .before .before .before .before .before))
+    ∙ chain-passes 14 _ _ (passes-2 (c .before .before .before .before .before .before .before))
+    ∙ chain-passes 15 _ _ (passes-3 (c .before .before .before .before))
+    ∙ chain-passes 16 _ _ (passes-4 (c .before .before))
     ∙ chain-fails 16 _ _ (ap not (of-read (λ (k : ℕ). keyHas (fileIn (now (a .file))) k restricted) (c .before .before .before .before .before .before .signer-of .ensures) (c .before .key-has2 .ensures) (c .if5 .taken))))
+
+passes-5 : (c : tie.Else5) → let a = c .before .before .before .before .before .before .before .before .before .before .before .before .before .before .args in not (keyHas (fileIn (now (a .file))) (signer (fileIn (now (a .file))) (a .r)) restricted) ≡ true
+passes-5 c =
+    let a = c .before .before .before .before .before .before .before .before .before .before .before .before .before .before .args in
+    ap not (of-read (λ (k : ℕ). keyHas (fileIn (now (a .file))) k restricted) (c .before .before .before .before .before .before .signer-of .ensures) (c .before .key-has2 .ensures) (c .if5 .left))
 
 returns-6 : tie.Need-returns-6
 returns-6 c ledger =
     let a = c .before .before .before .before .before .before .before .before .before .before .before .before .before .before .args in
     sym (self-issue-chain (fileIn (now (a .file))) (stateOf (view (now (a .state))) ledger) (a .party) (a .r)
-    ∙ chain-passes 13 _ _ (sym (c .before .before .before .before .before .before .before .before .before .before .before .is-role .ensures) ∙ not-false _ (c .before .before .before .before .before .before .before .before .before .before .if1 .left))
-    ∙ chain-passes 14 _ _ (of-read (view (now (a .state)) .knows (a .party)) (c .before .before .before .before .before .before .before .before .before .certified-key-of .ensures) (c .before .before .before .before .before .before .before .before .knows .ensures) (not-false _ (c .before .before .before .before .before .before .before .if2 .left)))
-    ∙ chain-passes 15 _ _ (of-read (view (now (a .state)) .table (a .party)) (c .before .before .before .before .before .before .signer-of .ensures) (c .before .before .before .before .before .in-table .ensures) (not-false _ (c .before .before .before .before .if3 .left)))
-    ∙ chain-passes 16 _ _ (of-read (λ (k : ℕ). keyHas (fileIn (now (a .file))) k sign) (c .before .before .before .before .before .before .signer-of .ensures) (c .before .before .before .key-has .ensures) (not-false _ (c .before .before .if4 .left)))
-    ∙ chain-passes 16 _ _ (ap not (of-read (λ (k : ℕ). keyHas (fileIn (now (a .file))) k restricted) (c .before .before .before .before .before .before .signer-of .ensures) (c .before .key-has2 .ensures) (c .if5 .left)))
+    ∙ chain-passes 13 _ _ (passes-1 (c .before .before .before .before .before .before .before .before .before .before))
+    ∙ chain-passes 14 _ _ (passes-2 (c .before .before .before .before .before .before .before))
+    ∙ chain-passes 15 _ _ (passes-3 (c .before .before .before .before))
+    ∙ chain-passes 16 _ _ (passes-4 (c .before .before))
+    ∙ chain-passes 16 _ _ (passes-5 c)
     ∙ chain-none)
 
 pub decide-self-issue-spec : {M : Type 1} → statement M

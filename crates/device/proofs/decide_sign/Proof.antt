@@ -1,11 +1,13 @@
-use mathlib.Core.Path.{sym, ap, _∙_}
+use mathlib.Core.Path.{_≡_, sym, ap, _∙_}
+use mathlib.Core.Bool.{true, not, _||_}
 use Prim.Native.Nat.{ℕ}
 use native.Mathlib.Omega.{arith}
 use borrow.Author.Tests.{not-true, not-false}
 use denote.Ref.{now}
+use Rattle.rules.specs.Limits.{device}
 use Rattle.rules.specs.Attributes.{restricted, sign}
 use Rattle.rules.specs.Term.{hashKind}
-use Rattle.rules.specs.File.{isKind}
+use Rattle.rules.specs.File.{isRole, isKind, message, signingKey}
 use Rattle.rules.specs.Device.{keyHas}
 use Rattle.state.specs.View.{view}
 use Rattle.state.proofs.Exact.{stateOf}
@@ -27,6 +29,10 @@ returns c ledger =
     let a = c .before .before .before .before .args in
     sym (sign-chain (fileIn (now (a .file))) (stateOf (view (now (a .state))) ledger) (a .party) (a .r)
     ∙ chain-fails 13 _ _ (sym (c .before .is-role .ensures) ∙ not-true _ (c .if1 .taken)))
+
+passes-1 : (c : tie.Else1) → let a = c .before .before .before .before .args in isRole (fileIn (now (a .file))) device (a .party) ≡ true
+passes-1 c =
+    sym (c .before .is-role .ensures) ∙ not-false _ (c .if1 .left)
 
 signing-key-of-requires : tie.Need-signing-key-of-requires
 signing-key-of-requires c κs =
@@ -52,8 +58,13 @@ returns-2 : tie.Need-returns-2
 returns-2 c ledger =
     let a = c .before .before .before .before .before .before .before .before .before .args in
     sym (sign-chain (fileIn (now (a .file))) (stateOf (view (now (a .state))) ledger) (a .party) (a .r)
-    ∙ chain-passes 13 _ _ (sym (c .before .before .before .before .before .before .is-role .ensures) ∙ not-false _ (c .before .before .before .before .before .if1 .left))
+    ∙ chain-passes 13 _ _ (passes-1 (c .before .before .before .before .before))
     ∙ chain-fails 14 _ _ (either-read (view (now (a .state)) .knows (a .party)) (c .before .before .key-has .ensures ∙ ap (λ (k : ℕ). keyHas (fileIn (now (a .file))) k restricted) (c .before .before .before .before .signing-key-of .ensures)) (c .before .before .before .message-of .ensures) (c .before .known-unless .ensures) (not-true _ (c .if2 .taken))))
+
+passes-2 : (c : tie.Else2) → let a = c .before .before .before .before .before .before .before .before .before .args in (keyHas (fileIn (now (a .file))) (signingKey (fileIn (now (a .file))) (a .r)) restricted || view (now (a .state)) .knows (a .party) (message (fileIn (now (a .file))) (a .r))) ≡ true
+passes-2 c =
+    let a = c .before .before .before .before .before .before .before .before .before .args in
+    either-read (view (now (a .state)) .knows (a .party)) (c .before .before .key-has .ensures ∙ ap (λ (k : ℕ). keyHas (fileIn (now (a .file))) k restricted) (c .before .before .before .before .signing-key-of .ensures)) (c .before .before .before .message-of .ensures) (c .before .known-unless .ensures) (not-false _ (c .if2 .left))
 
 in-table-requires : tie.Need-in-table-requires
 in-table-requires c κs =
@@ -64,9 +75,14 @@ returns-3 : tie.Need-returns-3
 returns-3 c ledger =
     let a = c .before .before .before .before .before .before .before .before .before .before .before .args in
     sym (sign-chain (fileIn (now (a .file))) (stateOf (view (now (a .state))) ledger) (a .party) (a .r)
-    ∙ chain-passes 13 _ _ (sym (c .before .before .before .before .before .before .before .before .is-role .ensures) ∙ not-false _ (c .before .before .before .before .before .before .before .if1 .left))
-    ∙ chain-passes 14 _ _ (either-read (view (now (a .state)) .knows (a .party)) (c .before .before .before .before .key-has .ensures ∙ ap (λ (k : ℕ). keyHas (fileIn (now (a .file))) k restricted) (c .before .before .before .before .before .before .signing-key-of .ensures)) (c .before .before .before .before .before .message-of .ensures) (c .before .before .before .known-unless .ensures) (not-false _ (c .before .before .if2 .left)))
+    ∙ chain-passes 13 _ _ (passes-1 (c .before .before .before .before .before .before .before))
+    ∙ chain-passes 14 _ _ (passes-2 (c .before .before))
     ∙ chain-fails 15 _ _ (of-read (view (now (a .state)) .table (a .party)) (c .before .before .before .before .before .before .signing-key-of .ensures) (c .before .in-table .ensures) (not-true _ (c .if3 .taken))))
+
+passes-3 : (c : tie.Else3) → let a = c .before .before .before .before .before .before .before .before .before .before .before .args in view (now (a .state)) .table (a .party) (signingKey (fileIn (now (a .file))) (a .r)) ≡ true
+passes-3 c =
+    let a = c .before .before .before .before .before .before .before .before .before .before .before .args in
+    of-read (view (now (a .state)) .table (a .party)) (c .before .before .before .before .before .before .signing-key-of .ensures) (c .before .in-table .ensures) (not-false _ (c .if3 .left))
 
 key-has-requires-2 : tie.Need-key-has-requires-2
 key-has-requires-2 c κs =
@@ -77,19 +93,24 @@ returns-4 : tie.Need-returns-4
 returns-4 c ledger =
     let a = c .before .before .before .before .before .before .before .before .before .before .before .before .before .args in
     sym (sign-chain (fileIn (now (a .file))) (stateOf (view (now (a .state))) ledger) (a .party) (a .r)
-    ∙ chain-passes 13 _ _ (sym (c .before .before .before .before .before .before .before .before .before .before .is-role .ensures) ∙ not-false _ (c .before .before .before .before .before .before .before .before .before .if1 .left))
-    ∙ chain-passes 14 _ _ (either-read (view (now (a .state)) .knows (a .party)) (c .before .before .before .before .before .before .key-has .ensures ∙ ap (λ (k : ℕ). keyHas (fileIn (now (a .file))) k restricted) (c .before .before .before .before .before .before .before .before .signing-key-of .ensures)) (c .before .before .before .before .before .before .before .message-of .ensures) (c .before .before .before .before .before .known-unless .ensures) (not-false _ (c .before .before .before .before .if2 .left)))
-    ∙ chain-passes 15 _ _ (of-read (view (now (a .state)) .table (a .party)) (c .before .before .before .before .before .before .before .before .signing-key-of .ensures) (c .before .before .before .in-table .ensures) (not-false _ (c .before .before .if3 .left)))
+    ∙ chain-passes 13 _ _ (passes-1 (c .before .before .before .before .before .before .before .before .before))
+    ∙ chain-passes 14 _ _ (passes-2 (c .before .before .before .before))
+    ∙ chain-passes 15 _ _ (passes-3 (c .before .before))
     ∙ chain-fails 16 _ _ (of-read (λ (k : ℕ). keyHas (fileIn (now (a .file))) k sign) (c .before .before .before .before .before .before .before .before .signing-key-of .ensures) (c .before .key-has2 .ensures) (not-true _ (c .if4 .taken))))
+
+passes-4 : (c : tie.Else4) → let a = c .before .before .before .before .before .before .before .before .before .before .before .before .before .args in keyHas (fileIn (now (a .file))) (signingKey (fileIn (now (a .file))) (a .r)) sign ≡ true
+passes-4 c =
+    let a = c .before .before .before .before .before .before .before .before .before .before .before .before .before .args in
+    of-read (λ (k : ℕ). keyHas (fileIn (now (a .file))) k sign) (c .before .before .before .before .before .before .before .before .signing-key-of .ensures) (c .before .key-has2 .ensures) (not-false _ (c .if4 .left))
 
 returns-5 : tie.Need-returns-5
 returns-5 c ledger =
     let a = c .before .before .before .before .before .before .before .before .before .before .before .before .before .before .args in
     sym (sign-chain (fileIn (now (a .file))) (stateOf (view (now (a .state))) ledger) (a .party) (a .r)
-    ∙ chain-passes 13 _ _ (sym (c .before .before .before .before .before .before .before .before .before .before .before .is-role .ensures) ∙ not-false _ (c .before .before .before .before .before .before .before .before .before .before .if1 .left))
-    ∙ chain-passes 14 _ _ (either-read (view (now (a .state)) .knows (a .party)) (c .before .before .before .before .before .before .before .key-has .ensures ∙ ap (λ (k : ℕ). keyHas (fileIn (now (a .file))) k restricted) (c .before .before .before .before .before .before .before .before .before .signing-key-of .ensures)) (c .before .before .before .before .before .before .before .before .message-of .ensures) (c .before .before .before .before .before .before .known-unless .ensures) (not-false _ (c .before .before .before .before .before .if2 .left)))
-    ∙ chain-passes 15 _ _ (of-read (view (now (a .state)) .table (a .party)) (c .before .before .before .before .before .before .before .before .before .signing-key-of .ensures) (c .before .before .before .before .in-table .ensures) (not-false _ (c .before .before .before .if3 .left)))
-    ∙ chain-passes 16 _ _ (of-read (λ (k : ℕ). keyHas (fileIn (now (a .file))) k sign) (c .before .before .before .before .before .before .before .before .before .signing-key-of .ensures) (c .before .before .key-has2 .ensures) (not-false _ (c .before .if4 .left)))
+    ∙ chain-passes 13 _ _ (passes-1 (c .before .before .before .before .before .before .before .before .before .before))
+    ∙ chain-passes 14 _ _ (passes-2 (c .before .before .before .before .before))
+    ∙ chain-passes 15 _ _ (passes-3 (c .before .before .before))
+    ∙ chain-passes 16 _ _ (passes-4 (c .before))
     ∙ chain-passes 17 _ _ (free _ (of-read (λ (k : ℕ). keyHas (fileIn (now (a .file))) k restricted) (c .before .before .before .before .before .before .before .before .before .signing-key-of .ensures) (c .before .before .before .before .before .before .before .key-has .ensures) (not-true _ (c .if5 .taken))))
     ∙ chain-passes 17 _ _ (free _ (of-read (λ (k : ℕ). keyHas (fileIn (now (a .file))) k restricted) (c .before .before .before .before .before .before .before .before .before .signing-key-of .ensures) (c .before .before .before .before .before .before .before .key-has .ensures) (not-true _ (c .if5 .taken))))
     ∙ chain-none)
@@ -103,11 +124,16 @@ returns-6 : tie.Need-returns-6
 returns-6 c ledger =
     let a = c .before .before .before .before .before .before .before .before .before .before .before .before .before .before .before .before .args in
     sym (sign-chain (fileIn (now (a .file))) (stateOf (view (now (a .state))) ledger) (a .party) (a .r)
-    ∙ chain-passes 13 _ _ (sym (c .before .before .before .before .before .before .before .before .before .before .before .before .before .is-role .ensures) ∙ not-false _ (c .before .before .before .before .before .before .before .before .before .before .before .before .if1 .left))
-    ∙ chain-passes 14 _ _ (either-read (view (now (a .state)) .knows (a .party)) (c .before .before .before .before .before .before .before .before .before .key-has .ensures ∙ ap (λ (k : ℕ). keyHas (fileIn (now (a .file))) k restricted) (c .before .before .before .before .before .before .before .before .before .before .before .signing-key-of .ensures)) (c .before .before .before .before .before .before .before .before .before .before .message-of .ensures) (c .before .before .before .before .before .before .before .before .known-unless .ensures) (not-false _ (c .before .before .before .before .before .before .before .if2 .left)))
-    ∙ chain-passes 15 _ _ (of-read (view (now (a .state)) .table (a .party)) (c .before .before .before .before .before .before .before .before .before .before .before .signing-key-of .ensures) (c .before .before .before .before .before .before .in-table .ensures) (not-false _ (c .before .before .before .before .before .if3 .left)))
-    ∙ chain-passes 16 _ _ (of-read (λ (k : ℕ). keyHas (fileIn (now (a .file))) k sign) (c .before .before .before .before .before .before .before .before .before .before .before .signing-key-of .ensures) (c .before .before .before .before .key-has2 .ensures) (not-false _ (c .before .before .before .if4 .left)))
+    ∙ chain-passes 13 _ _ (passes-1 (c .before .before .before .before .before .before .before .before .before .before .before .before))
+    ∙ chain-passes 14 _ _ (passes-2 (c .before .before .before .before .before .before .before))
+    ∙ chain-passes 15 _ _ (passes-3 (c .before .before .before .before .before))
+    ∙ chain-passes 16 _ _ (passes-4 (c .before .before .before))
     ∙ chain-fails 17 _ _ (unless (of-read (λ (k : ℕ). keyHas (fileIn (now (a .file))) k restricted) (c .before .before .before .before .before .before .before .before .before .before .before .signing-key-of .ensures) (c .before .before .before .before .before .before .before .before .before .key-has .ensures) (not-false _ (c .before .before .if5 .left))) (of-read (isKind (fileIn (now (a .file))) hashKind) (c .before .before .before .before .before .before .before .before .before .before .message-of .ensures) (c .before .is-kind .ensures) (not-true _ (c .if6 .taken)))))
+
+passes-6 : (c : tie.Else6) → let a = c .before .before .before .before .before .before .before .before .before .before .before .before .before .before .before .before .args in (not (keyHas (fileIn (now (a .file))) (signingKey (fileIn (now (a .file))) (a .r)) restricted) || isKind (fileIn (now (a .file))) hashKind (message (fileIn (now (a .file))) (a .r))) ≡ true
+passes-6 c =
+    let a = c .before .before .before .before .before .before .before .before .before .before .before .before .before .before .before .before .args in
+    unless (of-read (λ (k : ℕ). keyHas (fileIn (now (a .file))) k restricted) (c .before .before .before .before .before .before .before .before .before .before .before .signing-key-of .ensures) (c .before .before .before .before .before .before .before .before .before .key-has .ensures) (not-false _ (c .before .before .if5 .left))) (of-read (isKind (fileIn (now (a .file))) hashKind) (c .before .before .before .before .before .before .before .before .before .before .message-of .ensures) (c .before .is-kind .ensures) (not-false _ (c .if6 .left)))
 
 in-table-requires-2 : tie.Need-in-table-requires-2
 in-table-requires-2 c κs =
@@ -118,23 +144,28 @@ returns-7 : tie.Need-returns-7
 returns-7 c ledger =
     let a = c .before .before .before .before .before .before .before .before .before .before .before .before .before .before .before .before .before .before .args in
     sym (sign-chain (fileIn (now (a .file))) (stateOf (view (now (a .state))) ledger) (a .party) (a .r)
-    ∙ chain-passes 13 _ _ (sym (c .before .before .before .before .before .before .before .before .before .before .before .before .before .before .before .is-role .ensures) ∙ not-false _ (c .before .before .before .before .before .before .before .before .before .before .before .before .before .before .if1 .left))
-    ∙ chain-passes 14 _ _ (either-read (view (now (a .state)) .knows (a .party)) (c .before .before .before .before .before .before .before .before .before .before .before .key-has .ensures ∙ ap (λ (k : ℕ). keyHas (fileIn (now (a .file))) k restricted) (c .before .before .before .before .before .before .before .before .before .before .before .before .before .signing-key-of .ensures)) (c .before .before .before .before .before .before .before .before .before .before .before .before .message-of .ensures) (c .before .before .before .before .before .before .before .before .before .before .known-unless .ensures) (not-false _ (c .before .before .before .before .before .before .before .before .before .if2 .left)))
-    ∙ chain-passes 15 _ _ (of-read (view (now (a .state)) .table (a .party)) (c .before .before .before .before .before .before .before .before .before .before .before .before .before .signing-key-of .ensures) (c .before .before .before .before .before .before .before .before .in-table .ensures) (not-false _ (c .before .before .before .before .before .before .before .if3 .left)))
-    ∙ chain-passes 16 _ _ (of-read (λ (k : ℕ). keyHas (fileIn (now (a .file))) k sign) (c .before .before .before .before .before .before .before .before .before .before .before .before .before .signing-key-of .ensures) (c .before .before .before .before .before .before .key-has2 .ensures) (not-false _ (c .before .before .before .before .before .if4 .left)))
-    ∙ chain-passes 17 _ _ (unless (of-read (λ (k : ℕ). keyHas (fileIn (now (a .file))) k restricted) (c .before .before .before .before .before .before .before .before .before .before .before .before .before .signing-key-of .ensures) (c .before .before .before .before .before .before .before .before .before .before .before .key-has .ensures) (not-false _ (c .before .before .before .before .if5 .left))) (of-read (isKind (fileIn (now (a .file))) hashKind) (c .before .before .before .before .before .before .before .before .before .before .before .before .message-of .ensures) (c .before .before .before .is-kind .ensures) (not-false _ (c .before .before .if6 .left))))
+    ∙ chain-passes 13 _ _ (passes-1 (c .before .before .before .before .before .before .before .before .before .before .before .before .before .before))
+    ∙ chain-passes 14 _ _ (passes-2 (c .before .before .before .before .before .before .before .before .before))
+    ∙ chain-passes 15 _ _ (passes-3 (c .before .before .before .before .before .before .before))
+    ∙ chain-passes 16 _ _ (passes-4 (c .before .before .before .before .before))
+    ∙ chain-passes 17 _ _ (passes-6 (c .before .before))
     ∙ chain-fails 17 _ _ (unless (of-read (λ (k : ℕ). keyHas (fileIn (now (a .file))) k restricted) (c .before .before .before .before .before .before .before .before .before .before .before .before .before .signing-key-of .ensures) (c .before .before .before .before .before .before .before .before .before .before .before .key-has .ensures) (not-false _ (c .before .before .before .before .if5 .left))) (of-read (view (now (a .state)) .table (a .party)) (c .before .before .before .before .before .before .before .before .before .before .before .before .message-of .ensures) (c .before .in-table2 .ensures) (not-true _ (c .if7 .taken)))))
+
+passes-7 : (c : tie.Else7) → let a = c .before .before .before .before .before .before .before .before .before .before .before .before .before .before .before .before .before .before .args in (not (keyHas (fileIn (now (a .file))) (signingKey (fileIn (now (a .file))) (a .r)) restricted) || view (now (a .state)) .table (a .party) (message (fileIn (now (a .file))) (a .r))) ≡ true
+passes-7 c =
+    let a = c .before .before .before .before .before .before .before .before .before .before .before .before .before .before .before .before .before .before .args in
+    unless (of-read (λ (k : ℕ). keyHas (fileIn (now (a .file))) k restricted) (c .before .before .before .before .before .before .before .before .before .before .before .before .before .signing-key-of .ensures) (c .before .before .before .before .before .before .before .before .before .before .before .key-has .ensures) (not-false _ (c .before .before .before .before .if5 .left))) (of-read (view (now (a .state)) .table (a .party)) (c .before .before .before .before .before .before .before .before .before .before .before .before .message-of .ensures) (c .before .in-table2 .ensures) (not-false _ (c .if7 .left)))
 
 returns-8 : tie.Need-returns-8
 returns-8 c ledger =
     let a = c .before .before .before .before .before .before .before .before .before .before .before .before .before .before .before .before .before .before .args in
     sym (sign-chain (fileIn (now (a .file))) (stateOf (view (now (a .state))) ledger) (a .party) (a .r)
-    ∙ chain-passes 13 _ _ (sym (c .before .before .before .before .before .before .before .before .before .before .before .before .before .before .before .is-role .ensures) ∙ not-false _ (c .before .before .before .before .before .before .before .before .before .before .before .before .before .before .if1 .left))
-    ∙ chain-passes 14 _ _ (either-read (view (now (a .state)) .knows (a .party)) (c .before .before .before .before .before .before .before .before .before .before .before .key-has .ensures ∙ ap (λ (k : ℕ). keyHas (fileIn (now (a .file))) k restricted) (c .before .before .before .before .before .before .before .before .before .before .before .before .before .signing-key-of .ensures)) (c .before .before .before .before .before .before .before .before .before .before .before .before .message-of .ensures) (c .before .before .before .before .before .before .before .before .before .before .known-unless .ensures) (not-false _ (c .before .before .before .before .before .before .before .before .before .if2 .left)))
-    ∙ chain-passes 15 _ _ (of-read (view (now (a .state)) .table (a .party)) (c .before .before .before .before .before .before .before .before .before .before .before .before .before .signing-key-of .ensures) (c .before .before .before .before .before .before .before .before .in-table .ensures) (not-false _ (c .before .before .before .before .before .before .before .if3 .left)))
-    ∙ chain-passes 16 _ _ (of-read (λ (k : ℕ). keyHas (fileIn (now (a .file))) k sign) (c .before .before .before .before .before .before .before .before .before .before .before .before .before .signing-key-of .ensures) (c .before .before .before .before .before .before .key-has2 .ensures) (not-false _ (c .before .before .before .before .before .if4 .left)))
-    ∙ chain-passes 17 _ _ (unless (of-read (λ (k : ℕ). keyHas (fileIn (now (a .file))) k restricted) (c .before .before .before .before .before .before .before .before .before .before .before .before .before .signing-key-of .ensures) (c .before .before .before .before .before .before .before .before .before .before .before .key-has .ensures) (not-false _ (c .before .before .before .before .if5 .left))) (of-read (isKind (fileIn (now (a .file))) hashKind) (c .before .before .before .before .before .before .before .before .before .before .before .before .message-of .ensures) (c .before .before .before .is-kind .ensures) (not-false _ (c .before .before .if6 .left))))
-    ∙ chain-passes 17 _ _ (unless (of-read (λ (k : ℕ). keyHas (fileIn (now (a .file))) k restricted) (c .before .before .before .before .before .before .before .before .before .before .before .before .before .signing-key-of .ensures) (c .before .before .before .before .before .before .before .before .before .before .before .key-has .ensures) (not-false _ (c .before .before .before .before .if5 .left))) (of-read (view (now (a .state)) .table (a .party)) (c .before .before .before .before .before .before .before .before .before .before .before .before .message-of .ensures) (c .before .in-table2 .ensures) (not-false _ (c .if7 .left))))
+    ∙ chain-passes 13 _ _ (passes-1 (c .before .before .before .before .before .before .before .before .before .before .before .before .before .before))
+    ∙ chain-passes 14 _ _ (passes-2 (c .before .before .before .before .before .before .before .before .before))
+    ∙ chain-passes 15 _ _ (passes-3 (c .before .before .before .before .before .before .before))
+    ∙ chain-passes 16 _ _ (passes-4 (c .before .before .before .before .before))
+    ∙ chain-passes 17 _ _ (passes-6 (c .before .before))
+    ∙ chain-passes 17 _ _ (passes-7 c)
     ∙ chain-none)
 
 pub decide-sign-spec : {M : Type 1} → statement M
