@@ -1,4 +1,2 @@
 pub mod Outcomes
-pub mod Tested
-pub mod Halves
 pub mod Effects

@@ -3,15 +3,13 @@ ghost use mathlib.Core.Path.{_≡_};
 ghost use mathlib.Core.Bool.{_||_};
 ghost use mathlib.Core.List.{[], _∷_};
 ghost use Prim.Native.Nat.{_+_, _*_, _<_, _≤_};
-ghost use lib.Dec.{eqb};
 ghost use lib.ListN.{length};
-ghost use Rattle.rules.specs.Limits.{rowWidth, partyLimit, termLimit, device, oemDesk, ownerDesk};
+ghost use Rattle.rules.specs.Limits.{rowWidth, partyLimit, device, oemDesk, ownerDesk};
 ghost use Rattle.rules.specs.Refusals.{need};
 ghost use Rattle.rules.specs.File.{hash, sign, certify, makeCredential, activateCredential, makeIdevidRequest, makeLdevidRequest, makePair, isRole, checkHash, checkSignature, checkCertificate, checkAttributes, send, selfIssue};
 ghost use Rattle.rules.specs.Device.{maySend, mayBeSentByDesk};
 ghost use Rattle.theorems.proofs.Loading.{Wellformed};
 ghost use Rattle.state.specs.View.{view};
-ghost use Rattle.tables.specs.Regions.{tablesIn};
 ghost use Rattle.loaded.specs.Chain.{chain};
 ghost use Rattle.loaded.specs.Loaded.{fileIn, Holds, Finds, PartyHere, TermHere, Decides, Leaves};
 
@@ -327,15 +325,6 @@ fn checked(file: &[u8], state: &[u8], party: usize, t: usize, u: usize, right: b
     0
 }
 
-// Whether a term is noted as the private half of a key.
-fn is_half(tables: &[u16; tables::WORDS], key: usize, half: usize) -> bool
-    requires { ⌜ (key < termLimit) × (half < termLimit) ⌝ }
-    ensures { λ x. ⌜ x ≡ eqb (tablesIn (now (tables .entry)) .half key) (half + 1) ⌝ }
-{
-    let noted = tables::half_of(tables, key) as usize;
-    noted == half + 1
-}
-
 // 38 CheckHash.
 pub fn decide_check_hash(file: &[u8], state: &[u8], party: usize, h: usize, t: usize) -> u8
     requires { ⌜ Holds (now file) (now state) × Wellformed (fileIn (now file)) (checkHash party h t) ⌝ }
@@ -358,7 +347,7 @@ pub fn decide_check_signature(
     ensures { λ x. ⌜ Decides (now (file .entry)) (now (state .entry)) (checkSignature party t k) x ⌝ }
 {
     let key = loaded::signing_key_of(file, state, t);
-    let right = is_half(tables, k, key);
+    let right = loaded::is_half(tables, k, key);
     checked(file, state, party, t, k, right)
 }
 
@@ -375,7 +364,7 @@ pub fn decide_check_certificate(
     ensures { λ x. ⌜ Decides (now (file .entry)) (now (state .entry)) (checkCertificate party t k) x ⌝ }
 {
     let key = loaded::signer_of(file, state, t);
-    let right = is_half(tables, k, key);
+    let right = loaded::is_half(tables, k, key);
     checked(file, state, party, t, k, right)
 }
 

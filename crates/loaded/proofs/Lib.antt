@@ -3,3 +3,5 @@ pub mod Fields
 pub mod Standing
 pub mod Filled
 pub mod Learning
+pub mod Halves
+pub mod Tested

@@ -1,13 +1,15 @@
 // A loaded file in bytes: what commands read of its parties and terms, word by word where they stand.
 ghost use mathlib.Core.Path.{_≡_};
 ghost use Prim.Native.Nat.{_+_, _*_, _<_, _≤_};
+ghost use lib.Dec.{eqb};
 ghost use lib.ListN.{length};
-ghost use Rattle.rules.specs.Limits.{rowWidth};
+ghost use Rattle.rules.specs.Limits.{rowWidth, termLimit};
 ghost use Rattle.rules.specs.Term.{hashKind, signatureKind, attestKind, credentialKind, idevidRequestKind, ldevidRequestKind, certificateKind, pairKind};
 ghost use Rattle.rules.specs.Record.{word};
 ghost use Rattle.rules.specs.File.{isRole, kind, isKind, hashedTerm, message, signingKey, attestedKey, credentialTerm, credentialNumber, credentialKey, idevidCertificate, idevidKey, ldevidMessage, ldevidCertificate, certifiedKey, signer, leftOf, rightOf};
 ghost use Rattle.rules.specs.Device.{keyHas};
 ghost use Rattle.state.specs.View.{view};
+ghost use Rattle.tables.specs.Regions.{tablesIn};
 ghost use Rattle.loaded.specs.Loaded.{fileIn, Holds, PartyHere, TermHere, Learns};
 
 // Whether a party has a role.
@@ -157,6 +159,15 @@ pub fn right_of(file: &[u8], state: &[u8], t: usize) -> usize
     ensures { λ r. ⌜ r ≡ rightOf (fileIn (now (file .entry))) t ⌝ }
 {
     word_of(file, state, t, 3)
+}
+
+// Whether a term is noted as the private half of a key.
+pub fn is_half(tables: &[u16; tables::WORDS], key: usize, half: usize) -> bool
+    requires { ⌜ (key < termLimit) × (half < termLimit) ⌝ }
+    ensures { λ x. ⌜ x ≡ eqb (tablesIn (now (tables .entry)) .half key) (half + 1) ⌝ }
+{
+    let noted = tables::half_of(tables, key) as usize;
+    noted == half + 1
 }
 
 // A party learns a term and everything in it; one that it knows needs no opening.

@@ -15,8 +15,8 @@ use Rattle.state.proofs.Exact.{stateOf}
 use Rattle.loaded.specs.Loaded.{fileIn}
 use Rattle.loaded.proofs.Chain.{chain-none, chain-passes, chain-fails}
 use Rattle.loaded.proofs.Standing.{party-here, term-here, kind-declared, hashed-declared, credential-term-declared, credential-key-declared}
-use Rattle.device.proofs.Tested.{of-read}
-use Rattle.device.proofs.Halves.{half-asked, half-read}
+use Rattle.loaded.proofs.Tested.{of-read}
+use Rattle.loaded.proofs.Halves.{half-asked, half-read}
 use Rattle.device.proofs.Outcomes.{activate-chain}
 use Rattle.device.proofs.decide_activate.Statement.{statement}
 use Rattle.device.proofs.decide_activate.Tie as tie

@@ -13,8 +13,8 @@ use Rattle.state.proofs.Exact.{stateOf}
 use Rattle.loaded.specs.Loaded.{fileIn}
 use Rattle.loaded.proofs.Chain.{chain-none, chain-passes, chain-fails}
 use Rattle.loaded.proofs.Standing.{party-here, term-here, kind-declared, message-declared, signing-key-declared, attested-key-declared}
-use Rattle.device.proofs.Tested.{of-read}
-use Rattle.device.proofs.Halves.{half-asked, half-read}
+use Rattle.loaded.proofs.Tested.{of-read}
+use Rattle.loaded.proofs.Halves.{half-asked, half-read}
 use Rattle.device.proofs.Outcomes.{certify-chain}
 use Rattle.device.proofs.decide_certify.Statement.{statement}
 use Rattle.device.proofs.decide_certify.Tie as tie

@@ -12,7 +12,7 @@ use Rattle.state.specs.View.{view}
 use Rattle.state.proofs.Exact.{stateOf}
 use Rattle.loaded.specs.Loaded.{fileIn}
 use Rattle.loaded.proofs.Standing.{term-here, kind-declared}
-use Rattle.device.proofs.Tested.{right-read}
+use Rattle.loaded.proofs.Tested.{right-read}
 use Rattle.device.proofs.Outcomes.{check-attributes-chain}
 use Rattle.device.proofs.decide_check_attributes.Statement.{statement}
 use Rattle.device.proofs.decide_check_attributes.Tie as tie

@@ -8,8 +8,8 @@ use Rattle.state.specs.View.{view}
 use Rattle.state.proofs.Exact.{stateOf}
 use Rattle.loaded.specs.Loaded.{fileIn}
 use Rattle.loaded.proofs.Standing.{checked-here, term-here, kind-declared, signer-declared}
-use Rattle.device.proofs.Tested.{right-read}
-use Rattle.device.proofs.Halves.{paired-half}
+use Rattle.loaded.proofs.Tested.{right-read}
+use Rattle.loaded.proofs.Halves.{paired-half}
 use Rattle.device.proofs.Outcomes.{check-certificate-chain}
 use Rattle.device.proofs.decide_check_certificate.Statement.{statement}
 use Rattle.device.proofs.decide_check_certificate.Tie as tie

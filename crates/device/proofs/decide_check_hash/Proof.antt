@@ -6,7 +6,7 @@ use Rattle.state.specs.View.{view}
 use Rattle.state.proofs.Exact.{stateOf}
 use Rattle.loaded.specs.Loaded.{fileIn}
 use Rattle.loaded.proofs.Standing.{term-here}
-use Rattle.device.proofs.Tested.{right-read}
+use Rattle.loaded.proofs.Tested.{right-read}
 use Rattle.device.proofs.Outcomes.{check-hash-chain}
 use Rattle.device.proofs.decide_check_hash.Statement.{statement}
 use Rattle.device.proofs.decide_check_hash.Tie as tie

@@ -10,7 +10,7 @@ use Rattle.state.proofs.Exact.{stateOf}
 use Rattle.loaded.specs.Loaded.{fileIn}
 use Rattle.loaded.proofs.Chain.{chain-none, chain-passes, chain-fails}
 use Rattle.loaded.proofs.Standing.{party-here, term-here, kind-declared, credential-term-declared, credential-number-declared, credential-key-declared}
-use Rattle.device.proofs.Tested.{of-read}
+use Rattle.loaded.proofs.Tested.{of-read}
 use Rattle.device.proofs.Outcomes.{make-credential-chain}
 use Rattle.device.proofs.decide_make_credential.Statement.{statement}
 use Rattle.device.proofs.decide_make_credential.Tie as tie

@@ -5,7 +5,7 @@ use Rattle.state.specs.View.{view}
 use Rattle.state.proofs.Exact.{stateOf}
 use Rattle.loaded.specs.Loaded.{fileIn}
 use Rattle.loaded.proofs.Standing.{term-here, kind-declared, left-declared, right-declared}
-use Rattle.device.proofs.Tested.{both-read}
+use Rattle.loaded.proofs.Tested.{both-read}
 use Rattle.device.proofs.Outcomes.{pair-chain}
 use Rattle.device.proofs.decide_pair.Statement.{statement}
 use Rattle.device.proofs.decide_pair.Tie as tie

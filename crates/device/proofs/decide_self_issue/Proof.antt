@@ -13,7 +13,7 @@ use Rattle.state.proofs.Exact.{stateOf}
 use Rattle.loaded.specs.Loaded.{fileIn}
 use Rattle.loaded.proofs.Chain.{chain-none, chain-passes, chain-fails}
 use Rattle.loaded.proofs.Standing.{party-here, term-here, kind-declared, certified-key-declared, signer-declared}
-use Rattle.device.proofs.Tested.{of-read}
+use Rattle.loaded.proofs.Tested.{of-read}
 use Rattle.device.proofs.Outcomes.{self-issue-chain}
 use Rattle.device.proofs.decide_self_issue.Statement.{statement}
 use Rattle.device.proofs.decide_self_issue.Tie as tie

@@ -14,7 +14,7 @@ use Rattle.state.proofs.Exact.{stateOf}
 use Rattle.loaded.specs.Loaded.{fileIn}
 use Rattle.loaded.proofs.Chain.{chain-none, chain-passes, chain-fails}
 use Rattle.loaded.proofs.Standing.{party-here, term-here, kind-declared, message-declared, signing-key-declared}
-use Rattle.device.proofs.Tested.{of-read, either-read, unless, free}
+use Rattle.loaded.proofs.Tested.{of-read, either-read, unless, free}
 use Rattle.device.proofs.Outcomes.{sign-chain}
 use Rattle.device.proofs.decide_sign.Statement.{statement}
 use Rattle.device.proofs.decide_sign.Tie as tie

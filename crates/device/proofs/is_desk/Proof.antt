@@ -1,5 +1,5 @@
 use mathlib.Core.Path.{sym, _∙_}
-use Rattle.device.proofs.Tested.{or-first, or-second}
+use Rattle.loaded.proofs.Tested.{or-first, or-second}
 use Rattle.device.proofs.is_desk.Statement.{statement}
 use Rattle.device.proofs.is_desk.Tie as tie
 

@@ -1,4 +1,4 @@
-use Rattle.device.proofs.Tested.{or-first, or-second}
+use Rattle.loaded.proofs.Tested.{or-first, or-second}
 use Rattle.device.proofs.known_unless.Statement.{statement}
 use Rattle.device.proofs.known_unless.Tie as tie
 

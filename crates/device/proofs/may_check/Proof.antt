@@ -3,7 +3,7 @@ use denote.Ref.{now}
 use Rattle.rules.specs.Limits.{oemDesk, ownerDesk}
 use Rattle.rules.specs.File.{isRole}
 use Rattle.loaded.specs.Loaded.{fileIn}
-use Rattle.device.proofs.Tested.{or-first, or-rest}
+use Rattle.loaded.proofs.Tested.{or-first, or-rest}
 use Rattle.device.proofs.may_check.Statement.{statement}
 use Rattle.device.proofs.may_check.Tie as tie
 

@@ -1,7 +1,7 @@
 use mathlib.Core.Path.{sym, _∙_}
 use borrow.Author.Tests.{not-true, not-false}
 use Rattle.rules.specs.Device.{maySend}
-use Rattle.device.proofs.Tested.{or-first, or-second, and-first, and-second}
+use Rattle.loaded.proofs.Tested.{or-first, or-second, and-first, and-second}
 use Rattle.device.proofs.may_send.Statement.{statement}
 use Rattle.device.proofs.may_send.Tie as tie
 

@@ -1,6 +1,6 @@
 use mathlib.Core.Path.{sym, _∙_}
 use Rattle.rules.specs.Device.{mayBeSentByDesk}
-use Rattle.device.proofs.Tested.{or-first, or-second}
+use Rattle.loaded.proofs.Tested.{or-first, or-second}
 use Rattle.device.proofs.sent_by_desks.Statement.{statement}
 use Rattle.device.proofs.sent_by_desks.Tie as tie
 

@@ -68,3 +68,9 @@ number-passes (suc t) j = go (eqb t j) refl
 -- a pair, by the table
 pub paired-half : {bs tables : List ℕ} {k j : ℕ} → Finds bs tables → k < length (fileIn bs .terms) → j < length (fileIn bs .terms) → paired (fileIn bs) k j ≡ eqb (tablesIn tables .half k) (j + 1)
 paired-half {bs} {tables} {k} {j} d l m = pair-found (fileIn bs) k j m ∙ d .half (λ (i : ℕ). eqb i j) k l ∙ number-passes (tablesIn tables .half k) j
+
+-- of a private key whose number was read
+pub pair-read :
+    {bs tables : List ℕ} {k j i : ℕ} {x b : Bool} → Finds bs tables → k < length (fileIn bs .terms) → j < length (fileIn bs .terms) → i ≡ j → x ≡ eqb (tablesIn tables .half k) (i + 1) → x ≡ b
+    → paired (fileIn bs) k j ≡ b
+pair-read {bs} {tables} {k} d l m e q w = paired-half d l m ∙ ap (λ (n : ℕ). eqb (tablesIn tables .half k) (n + 1)) (sym e) ∙ sym q ∙ w

@@ -2,8 +2,8 @@ use mathlib.Core.Path.{ap}
 use Prim.Native.Nat.{ℕ, _+_}
 use lib.Dec.{eqb}
 use borrow.Author.Needs.{needs}
-use Rattle.device.proofs.is_half.Statement.{statement}
-use Rattle.device.proofs.is_half.Tie as tie
+use Rattle.loaded.proofs.is_half.Statement.{statement}
+use Rattle.loaded.proofs.is_half.Tie as tie
 
 half-of-requires : tie.Need-half-of-requires
 half-of-requires c κs = search needs

@@ -1,0 +1,5 @@
+pub mod Read
+pub mod Forms
+pub mod Signers
+pub mod Outcomes
+pub mod Entries

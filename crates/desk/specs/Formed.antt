@@ -1,0 +1,10 @@
+-- A request of the form that desks take: a pair, the second of which is a signature over a hash.
+use mathlib.Core.Path.{_≡_}
+use Prim.Native.Nat.{ℕ}
+use Rattle.rules.specs.Term.{hashKind, signatureKind, pairKind}
+use Rattle.rules.specs.File.{File, kind, message, rightOf}
+
+pub record Formed (f : File) (q : ℕ) : Type 0 where
+  pub pair : kind f q ≡ pairKind
+  pub signature : kind f (rightOf f q) ≡ signatureKind
+  pub hash : kind f (message f (rightOf f q)) ≡ hashKind

@@ -1,0 +1,272 @@
+// Desk commands: what each decides, by the terms of their numbers.
+use rules::Attributes;
+use rules::Term;
+ghost use mathlib.Core.Path.{_≡_};
+ghost use mathlib.Core.Bool.{_&&_};
+ghost use mathlib.Core.List.{List};
+ghost use Prim.Native.Nat.{ℕ, _+_, _*_, _<_, _≤_};
+ghost use lib.Dec.{eqb};
+ghost use lib.ListN.{length};
+ghost use Rattle.rules.specs.declared.Entry.{Entry};
+ghost use Rattle.rules.specs.Limits.{rowWidth, partyLimit, termLimit};
+ghost use Rattle.rules.specs.Attributes.{sameAttributes};
+ghost use Rattle.rules.specs.Term.{idevidRequestKind, certificateKind, credentialKind, isTpmSubject, isDeviceSubject};
+ghost use Rattle.rules.specs.File.{challenge, isRole, kind, subject, attributes, signsForRole};
+ghost use Rattle.rules.specs.State.{listed, depthOf};
+ghost use Rattle.rules.specs.Desk.{formTests, proofTests, numberTests};
+ghost use Rattle.theorems.proofs.Loading.{Checked, Wellformed};
+ghost use Rattle.state.specs.View.{view};
+ghost use Rattle.state.proofs.Exact.{stateOf};
+ghost use Rattle.setup.specs.Allowed.{noKey};
+ghost use Rattle.tables.specs.Regions.{tablesIn};
+ghost use Rattle.loaded.specs.Chain.{chain};
+ghost use Rattle.loaded.specs.Loaded.{fileIn, Holds, Finds, PartyHere, TermHere, Decides};
+ghost use Rattle.loaded.specs.Entries.{Enters};
+ghost use Rattle.desk.specs.Formed.{Formed};
+ghost use Rattle.desk.specs.Tests.{endorsementTests, credentialTests};
+
+// The role of OEM desks.
+const OEM_DESK: u8 = 2;
+
+// The mark of a used number.
+const NUMBER_USED: u8 = 1;
+
+// The form of a request: a pair of its body and a signature over a hash.
+pub fn form(file: &[u8], state: &[u8], q: usize, kind: u8) -> u8
+    requires { ⌜ Holds (now file) (now state) × (q < length (fileIn (now file) .terms)) ⌝ }
+    ensures { λ x. ⌜ x ≡ chain (formTests (fileIn (now (file .entry))) kind q) ⌝ }
+{
+    let request = learning::term_of(file, state, q);
+    let Term::Pair(left, right) = request else {
+        return 19;
+    };
+    let body = left as usize;
+    if !loaded::is_kind(file, state, body, kind) {
+        return 19;
+    }
+    let signature = right as usize;
+    let signed = learning::term_of(file, state, signature);
+    let Term::Signature(content, _) = signed else {
+        return 19;
+    };
+    let message = content as usize;
+    if !loaded::is_kind(file, state, message, 0x12) {
+        return 19;
+    }
+    0
+}
+
+// The proof of a key: the signature is over the body's hash, by the key's private half.
+pub fn proof_of_key(
+    file: &[u8],
+    state: &[u8],
+    tables: &[u16; tables::WORDS],
+    q: usize,
+    key: usize,
+) -> u8
+    requires { ⌜ Holds (now file) (now state) × Finds (now file) (now tables) × (q < length (fileIn (now file) .terms)) × Formed (fileIn (now file)) q × (key < length (fileIn (now file) .terms)) ⌝ }
+    ensures { λ x. ⌜ x ≡ chain (proofTests (fileIn (now (file .entry))) q key) ⌝ }
+{
+    let body = loaded::left_of(file, state, q);
+    let signature = loaded::right_of(file, state, q);
+    let message = loaded::message_of(file, state, signature);
+    let content = loaded::hashed_term(file, state, message);
+    if content != body {
+        return 20;
+    }
+    let signer = loaded::signing_key_of(file, state, signature);
+    if !loaded::is_half(tables, key, signer) {
+        return 20;
+    }
+    0
+}
+
+// Whether a party of a role signs with a key.
+fn signs_as(file: &[u8], tables: &[u16; tables::WORDS], role: u8, key: usize, p: usize) -> bool
+    requires { ⌜ PartyHere (now file) p × (p < partyLimit) ⌝ }
+    ensures { λ x. ⌜ x ≡ (eqb (tablesIn (now (tables .entry)) .signer p) key && isRole (fileIn (now (file .entry))) role p) ⌝ }
+{
+    let signer = tables::signer_of(tables, p) as usize;
+    if signer != key {
+        return false;
+    }
+    loaded::is_role(file, p, role)
+}
+
+// Whether a key is the signing key of a party of a role.
+pub fn signs_for_role(
+    file: &[u8],
+    tables: &[u16; tables::WORDS],
+    role: u8,
+    key: usize,
+    parties: usize,
+) -> bool
+    requires { ⌜ Checked (fileIn (now file)) × Finds (now file) (now tables) × (parties ≡ length (fileIn (now file) .roles)) × ((p : ℕ) → p < parties → PartyHere (now file) p) × (key < noKey) ⌝ }
+    ensures { λ x. ⌜ x ≡ signsForRole (fileIn (now (file .entry))) role key ⌝ }
+{
+    let mut p = 0;
+    while p < parties {
+        if signs_as(file, tables, role, key, p) {
+            return true;
+        }
+        p += 1;
+    }
+    false
+}
+
+// The number of a challenge: known to the desk, to one party in all, and unused.
+fn fresh_number(state: &[u8], party: usize, number: usize) -> u8
+    requires { ⌜ (party < partyLimit) × (rowWidth * number + rowWidth ≤ length (now state)) ⌝ }
+    ensures { λ x. ⌜ ((ledger : List Entry) → x ≡ chain (numberTests (stateOf (view (now (state .entry))) ledger) party number)) ⌝ }
+{
+    if !state::knows(state, party, number) {
+        return 24;
+    }
+    if state::knowers_of(state, number) != 1 {
+        return 24;
+    }
+    if state::mark_of(state, number) == NUMBER_USED {
+        return 24;
+    }
+    0
+}
+
+// Whether a certificate is a TPM's.
+fn is_tpm(file: &[u8], state: &[u8], t: usize) -> bool
+    requires { ⌜ TermHere (now file) (now state) t × (kind (fileIn (now file)) t ≡ certificateKind) ⌝ }
+    ensures { λ x. ⌜ x ≡ isTpmSubject (subject (fileIn (now (file .entry))) t) ⌝ }
+{
+    let at = state::place_of(state, t);
+    file[at + 3] == 0
+}
+
+// Whether a request is a device's.
+fn is_device(file: &[u8], state: &[u8], t: usize) -> bool
+    requires { ⌜ TermHere (now file) (now state) t × (kind (fileIn (now file)) t ≡ idevidRequestKind) ⌝ }
+    ensures { λ x. ⌜ x ≡ isDeviceSubject (subject (fileIn (now (file .entry))) t) ⌝ }
+{
+    let at = state::place_of(state, t);
+    file[at + 1] != 0
+}
+
+// Whether a key has exactly these attributes.
+fn has_exactly(file: &[u8], state: &[u8], t: usize, wanted: Attributes) -> bool
+    requires { ⌜ TermHere (now file) (now state) t ⌝ }
+    ensures { λ x. ⌜ x ≡ sameAttributes (attributes (fileIn (now (file .entry))) t) wanted ⌝ }
+{
+    let at = state::place_of(state, t);
+    let found = learning::attributes_at(file, at);
+    found.same(wanted)
+}
+
+// The endorsement of a challenge: a TPM's certificate by a TPM maker, and the attributes of both keys.
+fn endorsement(
+    file: &[u8],
+    state: &[u8],
+    tables: &[u16; tables::WORDS],
+    parties: usize,
+    certificate: usize,
+    iak: usize,
+    ek: usize,
+) -> u8
+    requires { ⌜ Holds (now file) (now state) × Finds (now file) (now tables) × (parties ≡ length (fileIn (now file) .roles)) × (kind (fileIn (now file)) certificate ≡ certificateKind) × (iak < length (fileIn (now file) .terms)) × (ek < length (fileIn (now file) .terms)) ⌝ }
+    ensures { λ x. ⌜ x ≡ chain (endorsementTests (fileIn (now (file .entry))) certificate iak ek) ⌝ }
+{
+    if !is_tpm(file, state, certificate) {
+        return 21;
+    }
+    let signer = loaded::signer_of(file, state, certificate);
+    if !signs_for_role(file, tables, rules::TPM_MAKER, signer, parties) {
+        return 21;
+    }
+    if !has_exactly(file, state, iak, Attributes::iak()) {
+        return 23;
+    }
+    if !has_exactly(file, state, ek, Attributes::ek()) {
+        return 23;
+    }
+    0
+}
+
+// The credential of a challenge: over the hash of the IAK, to the EK.
+fn credential_names(file: &[u8], state: &[u8], r: usize, iak: usize, ek: usize) -> u8
+    requires { ⌜ Holds (now file) (now state) × (kind (fileIn (now file)) r ≡ credentialKind) ⌝ }
+    ensures { λ x. ⌜ x ≡ chain (credentialTests (fileIn (now (file .entry))) r iak ek) ⌝ }
+{
+    let content = loaded::credential_term_of(file, state, r);
+    if !loaded::is_kind(file, state, content, 0x12) {
+        return 27;
+    }
+    let hashed = loaded::hashed_term(file, state, content);
+    if hashed != iak {
+        return 27;
+    }
+    let key = loaded::credential_key_of(file, state, r);
+    if key != ek {
+        return 27;
+    }
+    0
+}
+
+// Whether the ledger lists a certificate, by the tables' column of places.
+fn is_listed(tables: &[u16; tables::WORDS], t: usize) -> bool
+    requires { ⌜ t < termLimit ⌝ }
+    ensures { λ x. ⌜ ((words : List ℕ) (n : ℕ) (ledger : List Entry) → Enters (now (tables .entry)) words n ledger → x ≡ listed ledger t) ⌝ }
+{
+    tables::entry_of(tables, t) != 0
+}
+
+// The depth of a listed certificate, by the ledger's words.
+fn depth_of(tables: &[u16; tables::WORDS], words: &[u16; 3072], t: usize) -> u16
+    requires { ⌜ (t < termLimit) × (0 < tablesIn (now tables) .entry t) × (tablesIn (now tables) .entry t ≤ termLimit) ⌝ }
+    ensures { λ x. ⌜ ((n : ℕ) (ledger : List Entry) → Enters (now (tables .entry)) (now (words .entry)) n ledger → x ≡ depthOf ledger t) ⌝ }
+{
+    let entry = tables::entry_of(tables, t) as usize;
+    words[3 * (entry - 1) + 2]
+}
+
+// 3E Challenge.
+pub fn decide_challenge(
+    file: &[u8],
+    state: &[u8],
+    tables: &[u16; tables::WORDS],
+    parties: usize,
+    party: usize,
+    q: usize,
+    r: usize,
+) -> u8
+    requires { ⌜ Holds (now file) (now state) × Wellformed (fileIn (now file)) (challenge party q r) × Finds (now file) (now tables) × (parties ≡ length (fileIn (now file) .roles)) ⌝ }
+    ensures { λ x. ⌜ Decides (now (file .entry)) (now (state .entry)) (challenge party q r) x ⌝ }
+{
+    if !loaded::is_role(file, party, OEM_DESK) {
+        return 13;
+    }
+    if !state::knows(state, party, q) {
+        return 14;
+    }
+    let formed = form(file, state, q, 0x17);
+    if formed != 0 {
+        return formed;
+    }
+    let body = loaded::left_of(file, state, q);
+    if !is_device(file, state, body) {
+        return 19;
+    }
+    let iak = loaded::idevid_key_of(file, state, body);
+    let proved = proof_of_key(file, state, tables, q, iak);
+    if proved != 0 {
+        return proved;
+    }
+    let certificate = loaded::idevid_certificate_of(file, state, body);
+    let ek = loaded::certified_key_of(file, state, certificate);
+    let endorsed = endorsement(file, state, tables, parties, certificate, iak, ek);
+    if endorsed != 0 {
+        return endorsed;
+    }
+    let number = loaded::credential_number_of(file, state, r);
+    let fresh = fresh_number(state, party, number);
+    if fresh != 0 {
+        return fresh;
+    }
+    credential_names(file, state, r, iak, ek)
+}
