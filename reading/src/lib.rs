@@ -1,4 +1,5 @@
-//! The second reading: document 01 in Rust, written from the paper alone.
+//! The second reading: document 01 in Rust, written from the paper and the readings 1 to 22 of docs/DECISIONS.md, without a look at the
+//! rules or the code. Where one of those readings is wrong, this is wrong with it.
 //!
 //! DevID enrolment rehearsed over one scenario file: loading, running,
 //! path-finding and a listing. The engine's code is held to it, in
