@@ -2,7 +2,7 @@
 use rules::LoadAnswer;
 ghost use mathlib.Core.Path.{_≡_};
 ghost use Rattle.rules.specs.Lent.{loadAnswer, loadLeaves};
-ghost use Rattle.birdweekly.specs.Numbers.{inNumbers};
+ghost use Rattle.birdweekly.specs.Numbers.{loadNumbers};
 
 // What loading answers: number 0 with the parties, terms and commands, or the refusal with its place.
 #[repr(C)]
@@ -17,7 +17,7 @@ pub struct LoadNumbers {
 // Loads a scenario file of any bytes into a lent state buffer of any length.
 #[no_mangle]
 pub extern "C" fn birdweekly_load(file: &[u8], state: &mut [u8]) -> LoadNumbers
-    ensures answer { λ r. ⌜ r ≡ inNumbers (loadAnswer (now (file .entry)) (now (state .entry))) ⌝ }
+    ensures answer { λ r. ⌜ r ≡ loadNumbers (loadAnswer (now (file .entry)) (now (state .entry))) ⌝ }
     ensures left { λ r. ⌜ now (state .exit) ≡ loadLeaves (now (file .entry)) (now (state .entry)) ⌝ }
 {
     let answer = loader::load(file, state);

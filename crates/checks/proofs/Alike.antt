@@ -2,8 +2,7 @@
 use mathlib.Core.Path.{_≡_, refl}
 use mathlib.Core.Bool.{Bool, true, false, or-true}
 use mathlib.Core.List.{List}
-use Prim.Native.Nat.{ℕ, zero, suc, _+_, _<_}
-use native.Mathlib.Numerals.{add-one}
+use Prim.Native.Nat.{ℕ, zero, suc, _<_}
 use native.Mathlib.Omega.{arith}
 use lib.Dec.{eqb}
 use borrow.Author.Tests.{eqb-true, eqb-false}
@@ -24,7 +23,3 @@ module _ (bs : List ℕ) (place : ℕ → ℕ) (x : Term) (t : ℕ) where
           let m = eqb-false t n f in
           let l : t < n = omega arith in
           rw (more l) (or-true (alike x (termThere bs (place n))))
-
-  pub next : alike x (termThere bs (place t)) ≡ false → anyAlikeThere bs place x t ≡ false → anyAlikeThere bs place x (t + 1) ≡ false
-  unfolding anyAlikeThere
-  next f e = rw (add-one, f, e) refl

@@ -14,7 +14,8 @@ use borrow.Author.Tests.{eqb-true, eqb-false, ne-eqb}
 use Rattle.rules.specs.declared.Entry.{Entry}
 use Rattle.rules.specs.State.{listed, depthOf}
 use Rattle.tables.specs.Regions.{tablesIn}
-use Rattle.loaded.specs.Entries.{entryWords, entryIn, entriesIn, entryFrom, Enters}
+use Rattle.entries.specs.Words.{entryWords, entryIn, entriesIn}
+use Rattle.loaded.specs.Entries.{entryFrom, Enters}
 
 pub listed-entry : (es : List Entry) (i c : ℕ) → listed es c ≡ not (eqb (entryFrom i es c) 0)
 unfolding listed entryFrom
@@ -46,7 +47,7 @@ entries-length words zero = refl
 entries-length words (suc n) = omega (arith, length-append (entriesIn words n) (entryIn words n ∷ []), entries-length words n)
 
 entries-depth : (words : List ℕ) (n j : ℕ) → j < n → depthAt (entriesIn words n) j ≡ getD words (entryWords * j + 2) 0
-unfolding entriesIn entryIn
+unfolding entriesIn
 entries-depth words zero j l = absurd (omega arith)
 entries-depth words (suc n) j l = go (eqb j n) refl (λ m. entries-depth words n j m)
   where

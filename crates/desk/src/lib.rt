@@ -217,12 +217,12 @@ fn is_listed(tables: &[u16; tables::WORDS], t: usize) -> bool
 }
 
 // The depth of a listed certificate, by the ledger's words.
-fn depth_of(tables: &[u16; tables::WORDS], words: &[u16; 3072], t: usize) -> u16
+fn depth_of(tables: &[u16; tables::WORDS], words: &[u16; entries::WORDS], t: usize) -> u16
     requires { ⌜ (t < termLimit) × (0 < tablesIn (now tables) .entry t) × (tablesIn (now tables) .entry t ≤ termLimit) ⌝ }
     ensures { λ x. ⌜ ((n : ℕ) (ledger : List Entry) → Enters (now (tables .entry)) (now (words .entry)) n ledger → x ≡ depthOf ledger t) ⌝ }
 {
     let entry = tables::entry_of(tables, t) as usize;
-    words[3 * (entry - 1) + 2]
+    entries::depth_of(words, entry - 1)
 }
 
 // 3E Challenge.

@@ -25,7 +25,7 @@ term-finds test (t ∷ ts) i (suc j) l e =
     let s : i + suc j ≡ suc i + j = omega arith in
     or-right (test i t) _ (term-finds test ts (suc i) j (omega arith) (subst (λ (m : ℕ). test m (getD ts j (Hash 0)) ≡ true) s e))
 
-half-finds : (f : File) (test : ℕ → Bool) (k j : ℕ) → j < length (f .terms) → paired f k j ≡ true → test j ≡ true → halfIn f test k ≡ true
+pub half-finds : (f : File) (test : ℕ → Bool) (k j : ℕ) → j < length (f .terms) → paired f k j ≡ true → test j ≡ true → halfIn f test k ≡ true
 unfolding halfIn paired term
 half-finds f test k j l e p = term-finds _ (f .terms) 0 j l (rw (zero-add, e, p) refl)
 

@@ -7,20 +7,16 @@ use lib.ListN.{length, getD, take}
 use Rattle.rules.specs.Limits.{commandLimit, termLimit}
 use Rattle.rules.specs.declared.Entry.{Entry}
 use Rattle.rules.specs.Listing.{line, refusalLines, entryLines}
+use Rattle.entries.specs.Words.{entryIn, entriesIn}
 use Rattle.lister.specs.Text.{listingBytes}
 
 -- the line of an outcome, if it is a refusal
 unfoldable pub outcomeLine : ℕ → ℕ → List ℕ
 outcomeLine i x = cond (eqb x 0) [] (line 0x52 (i ∷ x ∷ []))
 
--- the line of the entry at a place of a ledger in words, 3 an entry
+-- the line of the entry at a place of a ledger in words
 abbrev pub entryLine : List ℕ → ℕ → List ℕ
-entryLine xs i = line 0x49 (getD xs (3 * i) 0 ∷ getD xs (3 * i + 1) 0 ∷ getD xs (3 * i + 2) 0 ∷ [])
-
--- the first n entries of such a ledger
-unfoldable pub entriesIn : List ℕ → ℕ → List Entry
-entriesIn xs zero = []
-entriesIn xs (suc n) = entriesIn xs n ++ (record { certificate = getD xs (3 * n) 0; parent = getD xs (3 * n + 1) 0; depth = getD xs (3 * n + 2) 0 } ∷ [])
+entryLine words i = line 0x49 (entryIn words i .certificate ∷ entryIn words i .parent ∷ entryIn words i .depth ∷ [])
 
 -- the lines of a run
 abbrev pub runLines : List ℕ → ℕ → List ℕ → ℕ → ℕ → ℕ → List ℕ

@@ -6,10 +6,8 @@ ghost use lib.ListN.{length, take};
 ghost use Rattle.rules.specs.Limits.{commandLimit, termLimit};
 ghost use Rattle.rules.specs.Listing.{decimal, line, refusalLines, entryLines};
 ghost use Rattle.lister.specs.Text.{digitLimit, numberRoom, lineRoom, refusalBytes, entryBytes, totalBytes, listingBytes, Written, Listed, Formed};
-ghost use Rattle.lister.specs.Parts.{outcomeLine, entryLine, entriesIn, runLines, Listable};
-
-// Words of a ledger, 3 an entry: certificate, parent, depth.
-pub const LEDGER_WORDS: usize = 3 * rules::TERM_LIMIT;
+ghost use Rattle.entries.specs.Words.{entriesIn};
+ghost use Rattle.lister.specs.Parts.{outcomeLine, entryLine, runLines, Listable};
 
 // Bytes that are enough for the listing of every file.
 pub const LISTING_BYTES: usize = rules::FILE_LIMIT / 4 * 11 + rules::TERM_LIMIT * 20 + 29;
@@ -173,16 +171,19 @@ pub fn refusals_into(out: &mut [u8], at: usize, outcomes: &[u8], n: usize) -> us
 }
 
 // The line of the entry at a place of the ledger.
-fn ledger_line(out: &mut [u8], at: usize, ledger: &[u16; LEDGER_WORDS], i: usize) -> usize
+fn ledger_line(out: &mut [u8], at: usize, ledger: &[u16; entries::WORDS], i: usize) -> usize
     requires { ⌜ (i < termLimit) × (at + lineRoom < 2 ^ 64) ⌝ }
     ensures { λ r. ⌜ Written (now (out .entry)) at (entryLine (now (ledger .entry)) i) (now (out .exit)) r ⌝ }
     ensures { λ r. ⌜ r ≤ at + entryBytes ⌝ }
 {
-    entry_line(out, at, ledger[3 * i], ledger[3 * i + 1], ledger[3 * i + 2])
+    let certificate = entries::certificate_of(ledger, i);
+    let parent = entries::parent_of(ledger, i);
+    let depth = entries::depth_of(ledger, i);
+    entry_line(out, at, certificate, parent, depth)
 }
 
 // The lines of a ledger's entries.
-pub fn entries_into(out: &mut [u8], at: usize, ledger: &[u16; LEDGER_WORDS], issued: usize) -> usize
+pub fn entries_into(out: &mut [u8], at: usize, ledger: &[u16; entries::WORDS], issued: usize) -> usize
     requires { ⌜ (issued ≤ termLimit) × (at + lineRoom * issued < 2 ^ 64) ⌝ }
     ensures { λ r. ⌜ Written (now (out .entry)) at (entryLines (entriesIn (now (ledger .entry)) issued)) (now (out .exit)) r ⌝ }
     ensures { λ r. ⌜ r ≤ at + entryBytes * issued ⌝ }
@@ -201,7 +202,7 @@ pub fn list_run(
     out: &mut [u8],
     outcomes: &[u8],
     commands: usize,
-    ledger: &[u16; LEDGER_WORDS],
+    ledger: &[u16; entries::WORDS],
     issued: usize,
     accepted: u32,
     refused: u32,

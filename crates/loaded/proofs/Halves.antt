@@ -2,21 +2,18 @@
 -- Assumes nothing.
 use mathlib.Core.Path.{_≡_, refl, sym, ap, subst, _∙_}
 use mathlib.Core.Bool.{Bool, true, false, false≢true}
-use mathlib.Core.List.{List, [], _∷_}
+use mathlib.Core.List.{List}
 use Prim.Native.Nat.{ℕ, zero, suc, _+_, _<_, _≤_}
 use native.Mathlib.Omega.{arith}
-use native.Mathlib.Nat.{add-zero, zero-add}
 use lib.Dec.{eqb}
-use lib.ListN.{length, getD}
+use lib.ListN.{length}
 use borrow.Author.Tests.{eqb-true, eqb-false, eq-eqb, ne-eqb}
-use Rattle.rules.specs.declared.Term.{Term}
-use Rattle.rules.specs.declared.Term.the-variants.{Hash}
 use Rattle.rules.specs.Limits.{partyLimit, termLimit, stateBytes}
-use Rattle.rules.specs.File.{File, term, paired, someTerm, halfIn}
-use Rattle.theorems.proofs.Booleans.{or-left, or-right}
+use Rattle.rules.specs.File.{File, paired, halfIn}
 use Rattle.theorems.proofs.Terms.{half-found}
 use Rattle.tables.specs.Regions.{tablesIn}
 use Rattle.index.specs.Indexed.{passes}
+use Rattle.index.proofs.Halves.{half-finds}
 use Rattle.loaded.specs.Loaded.{fileIn, Holds, Finds}
 use Rattle.loaded.proofs.Standing.{checked-here}
 
@@ -30,19 +27,6 @@ module _ {bs s tables : List ℕ} {k : ℕ} (h : Holds bs s) (d : Finds bs table
   -- of a key whose number was read
   pub half-read : (test : ℕ → Bool) {j : ℕ} {x b : Bool} → j ≡ k → x ≡ passes test (tablesIn tables .half j) → x ≡ b → halfIn (fileIn bs) test k ≡ b
   half-read test e q w = d .half test k l ∙ ap (λ (i : ℕ). passes test (tablesIn tables .half i)) (sym e) ∙ sym q ∙ w
-
--- a search through terms finds one that passes; the number is that of the list's first term
-term-finds : (test : ℕ → Term → Bool) (ts : List Term) (i j : ℕ) → j < length ts → test (i + j) (getD ts j (Hash 0)) ≡ true → someTerm test ts i ≡ true
-unfolding someTerm
-term-finds test [] i j l e = absurd (omega arith)
-term-finds test (t ∷ ts) i zero l e = or-left _ _ (rw add-zero at e)
-term-finds test (t ∷ ts) i (suc j) l e =
-    let s : i + suc j ≡ suc i + j = omega arith in
-    or-right (test i t) _ (term-finds test ts (suc i) j (omega arith) (subst (λ (m : ℕ). test m (getD ts j (Hash 0)) ≡ true) s e))
-
-half-finds : (f : File) (test : ℕ → Bool) (k j : ℕ) → j < length (f .terms) → paired f k j ≡ true → test j ≡ true → halfIn f test k ≡ true
-unfolding halfIn paired term
-half-finds f test k j l e p = term-finds _ (f .terms) 0 j l (rw (zero-add, e, p) refl)
 
 -- a pair, as a search for the one number
 pair-found : (f : File) (k j : ℕ) → j < length (f .terms) → paired f k j ≡ halfIn f (λ (i : ℕ). eqb i j) k

@@ -2,10 +2,11 @@
 --     final-state                                                  the state bytes of a described whole file
 --     final-leaves, refused-leaves, short-leaves, long-leaves      the buffer after loading
 --     final-answer, refused-answer, short-answer, long-answer      the answer
+--     refused-not-0                                                a refusal is not 0
 -- Assumes nothing.
 use mathlib.Core.Path.{_≡_, refl, sym, ap, _∙_}
 use mathlib.Core.Bool.{Bool, true, false, cond, _&&_}
-use mathlib.Core.List.{List, [], _++_, List·Memᴰ, append-assoc}
+use mathlib.Core.List.{List, [], _∷_, _++_, List·Memᴰ, append-assoc}
 use Prim.Native.Nat.{ℕ, _*_, _-_, _<_, _≤_}
 use native.Mathlib.Omega.{arith}
 use lib.Dec.{leb}
@@ -16,7 +17,7 @@ use Rattle.rules.specs.Limits.{fileLimit, termLimit, rowWidth, stateBytes}
 use Rattle.rules.specs.File.{File, parts, holdsKey}
 use Rattle.rules.specs.Load.{Load, load, loaded, refused}
 use Rattle.rules.specs.State.{start, taught}
-use Rattle.rules.specs.Lent.{rows, firstPart, loadAnswered, loadAnswer, loadWritten, loadLeaves}
+use Rattle.rules.specs.Lent.{Answer, success, refusal, loadInNumbers, rows, firstPart, loadAnswered, loadAnswer, loadWritten, loadLeaves}
 use Rattle.theorems.specs.Residency.{Inside, itself, inPart}
 use Rattle.theorems.proofs.Learning.{taught-only}
 use Rattle.theorems.proofs.Loading.{Checked, checked}
@@ -25,6 +26,7 @@ use Rattle.state.specs.View.{view}
 use Rattle.state.proofs.Exact.{stateOf, ZeroAt, whole, rows-length, rows-same}
 use Rattle.loader.specs.declared.Tally.{Tally}
 use Rattle.loader.specs.Describes.{Describes}
+use Rattle.loader.proofs.Bounds.{refusal-not-0}
 use Rattle.loader.proofs.Entering.{learnt-declared}
 
 never-true : (b : Bool) → (b ≡ true → ⊥) → b ≡ false
@@ -131,22 +133,36 @@ unfolding loadAnswer
 answer-of bytes old l e r = rw (le-leb stateBytes (length old) r, e) refl
 
 pub final-answer : (bytes : List ℕ) (f : File) (s signers : List ℕ) (n : Tally) → load bytes ≡ loaded f → Describes f bytes s signers n (length bytes)
-    → (old : List ℕ) → stateBytes ≤ length old → Loaded (n .parties) (n .terms) (n .commands) ≡ loadAnswer bytes old
-unfolding loadAnswered
+    → (old : List ℕ) → stateBytes ≤ length old → loadInNumbers (Loaded (n .parties) (n .terms) (n .commands)) ≡ loadAnswer bytes old
+unfolding loadAnswered loadInNumbers
 final-answer bytes f s signers n e d old r =
-    sym (λ i. Loaded (d .partiesAre i) (d .termsAre i) (d .commandsAre i)) ∙ sym (answer-of bytes old (loaded f) e r)
+    sym (λ i. success (d .partiesAre i ∷ d .termsAre i ∷ d .commandsAre i ∷ [])) ∙ sym (answer-of bytes old (loaded f) e r)
 
-pub refused-answer : (bytes old : List ℕ) (r at : ℕ) → load bytes ≡ refused r at → stateBytes ≤ length old → Refused r at ≡ loadAnswer bytes old
-unfolding loadAnswered
+pub refused-answer : (bytes old : List ℕ) (r at : ℕ) → load bytes ≡ refused r at → stateBytes ≤ length old → loadInNumbers (Refused r at) ≡ loadAnswer bytes old
+unfolding loadAnswered loadInNumbers
 refused-answer bytes old r at e room = sym (answer-of bytes old (refused r at) e room)
 
-pub short-answer : (bytes old : List ℕ) → length old < stateBytes → loadAnswer bytes old ≡ Refused 1 0
-unfolding loadAnswer
+pub short-answer : (bytes old : List ℕ) → length old < stateBytes → loadInNumbers (Refused 1 0) ≡ loadAnswer bytes old
+unfolding loadAnswer loadInNumbers
 short-answer bytes old h = rw (lt-leb stateBytes (length old) h) refl
 
 too-long : (bytes : List ℕ) → fileLimit < length bytes → load bytes ≡ refused 2 0
 unfolding load
 too-long bytes h = rw (lt-leb (length bytes) fileLimit h) refl
 
-pub long-answer : (bytes old : List ℕ) → stateBytes ≤ length old → fileLimit < length bytes → loadAnswer bytes old ≡ Refused 2 0
-long-answer bytes old r h = sym (refused-answer bytes old 2 0 (too-long bytes h) r)
+pub long-answer : (bytes old : List ℕ) → stateBytes ≤ length old → fileLimit < length bytes → loadInNumbers (Refused 2 0) ≡ loadAnswer bytes old
+long-answer bytes old r h = refused-answer bytes old 2 0 (too-long bytes h) r
+
+-- an answer that is a refusal is not 0
+answered-not-0 : (bytes : List ℕ) (l : Load) → load bytes ≡ l → (n at : ℕ) → refusal n at ≡ loadAnswered l → 0 < n
+unfolding loadAnswered
+answered-not-0 bytes (loaded f) e n at q = absurd (let z : _≡_ {A = ℕ} 1 3 = ap (λ (x : Answer). length (x .values)) q in omega arith)
+answered-not-0 bytes (refused m place) e n at q = let z : n ≡ m = ap (λ (x : Answer). x .number) q in omega (arith, refusal-not-0 bytes m place e)
+
+pub refused-not-0 : (bytes old : List ℕ) (n at : ℕ) → loadInNumbers (Refused n at) ≡ loadAnswer bytes old → 0 < n
+unfolding loadInNumbers loadAnswer
+refused-not-0 bytes old n at q = go (leb stateBytes (length old)) q
+  where
+    go : (b : Bool) → refusal n at ≡ cond b (loadAnswered (load bytes)) (refusal 1 0) → 0 < n
+    go true e = answered-not-0 bytes (load bytes) refl n at e
+    go false e = let z : n ≡ 1 = ap (λ (x : Answer). x .number) e in omega arith

@@ -8,7 +8,7 @@ ghost use lib.ListN.{length, getD};
 ghost use Rattle.rules.specs.Limits.{partyLimit};
 ghost use Rattle.rules.specs.Record.{sectionOf};
 ghost use Rattle.rules.specs.Load.{termAt};
-ghost use Rattle.rules.specs.Lent.{loadAnswer, loadLeaves};
+ghost use Rattle.rules.specs.Lent.{loadInNumbers, loadAnswer, loadLeaves};
 ghost use Rattle.state.specs.View.{view};
 ghost use Rattle.tables.specs.Regions.{tableWords, tablesIn};
 ghost use Rattle.learning.specs.There.{termThere};
@@ -290,7 +290,7 @@ pub fn fill(file: &[u8], state: &mut [u8], tables: &mut [u16; tables::WORDS]) ->
 
 // Loads a file into a lent state buffer.
 pub fn load(file: &[u8], state: &mut [u8]) -> LoadAnswer
-    ensures answer { λ r. ⌜ r ≡ loadAnswer (now (file .entry)) (now (state .entry)) ⌝ }
+    ensures answer { λ r. ⌜ loadInNumbers r ≡ loadAnswer (now (file .entry)) (now (state .entry)) ⌝ }
     ensures left { λ r. ⌜ now (state .exit) ≡ loadLeaves (now (file .entry)) (now (state .entry)) ⌝ }
 {
     if state.len() < rules::STATE_BYTES {

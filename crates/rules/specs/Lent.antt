@@ -17,31 +17,29 @@ use Rattle.rules.specs.Load.{Load, loaded, refused, load as loadFile}
 use Rattle.rules.specs.State.{State, start, listed, depthOf, parentOf}
 use Rattle.rules.specs.Run.{reached, outcomesOf, accepted, refusals, issued}
 
--- The number of an answer (0: no refusal) and its values: of loading parties, terms and commands; of a run accepted, refused and issued;
--- of a path its steps; of a refusal its place.
-unfoldable pub loadNumber : LoadAnswer → ℕ
-loadNumber (load.Loaded p t c) = 0
-loadNumber (load.Refused number place) = number
+-- An answer in numbers: 0 and its values, or a refusal and its place.
+pub record Answer : Type 0 where
+  pub number : ℕ
+  pub values : List ℕ
 
-unfoldable pub loadValues : LoadAnswer → List ℕ
-loadValues (load.Loaded p t c) = p ∷ t ∷ c ∷ []
-loadValues (load.Refused number place) = place ∷ []
+abbrev pub success : List ℕ → Answer
+success values = record { number = 0; values = values }
 
-unfoldable pub runNumber : RunAnswer → ℕ
-runNumber (ran.Ran a r i) = 0
-runNumber (ran.Refused number place) = number
+abbrev pub refusal : ℕ → ℕ → Answer
+refusal number place = record { number = number; values = place ∷ [] }
 
-unfoldable pub runValues : RunAnswer → List ℕ
-runValues (ran.Ran a r i) = a ∷ r ∷ i ∷ []
-runValues (ran.Refused number place) = place ∷ []
+-- What each answer of the code is in numbers. Of loading: parties, terms, commands; of a run: accepted, refused, issued; of a path: its steps.
+unfoldable pub loadInNumbers : LoadAnswer → Answer
+loadInNumbers (load.Loaded p t c) = success (p ∷ t ∷ c ∷ [])
+loadInNumbers (load.Refused number place) = refusal number place
 
-unfoldable pub pathNumber : PathAnswer → ℕ
-pathNumber (path.Steps n) = 0
-pathNumber (path.Refused number place) = number
+unfoldable pub runInNumbers : RunAnswer → Answer
+runInNumbers (ran.Ran a r i) = success (a ∷ r ∷ i ∷ [])
+runInNumbers (ran.Refused number place) = refusal number place
 
-unfoldable pub pathValues : PathAnswer → List ℕ
-pathValues (path.Steps n) = n ∷ []
-pathValues (path.Refused number place) = place ∷ []
+unfoldable pub pathInNumbers : PathAnswer → Answer
+pathInNumbers (path.Steps n) = success (n ∷ [])
+pathInNumbers (path.Refused number place) = refusal number place
 
 -- The buffers lent to a run.
 pub record Lent : Type 0 where
@@ -80,12 +78,12 @@ abbrev pub noEntry : Entry
 noEntry = record { certificate = 0; parent = 0; depth = 0 }
 
 -- Loading alone: its answer for a file and a state buffer, and the buffer after it.
-unfoldable pub loadAnswered : Load → LoadAnswer
-loadAnswered (loaded f) = load.Loaded (length (f .roles)) (length (f .terms)) (length (f .commands))
-loadAnswered (refused number place) = load.Refused number place
+unfoldable pub loadAnswered : Load → Answer
+loadAnswered (loaded f) = success (length (f .roles) ∷ length (f .terms) ∷ length (f .commands) ∷ [])
+loadAnswered (refused number place) = refusal number place
 
-unfoldable pub loadAnswer : List ℕ → List ℕ → LoadAnswer
-loadAnswer bs state = cond (leb stateBytes (length state)) (loadAnswered (loadFile bs)) (load.Refused 1 0)
+unfoldable pub loadAnswer : List ℕ → List ℕ → Answer
+loadAnswer bs state = cond (leb stateBytes (length state)) (loadAnswered (loadFile bs)) (refusal 1 0)
 
 unfoldable pub loadWritten : List ℕ → Load → List ℕ
 loadWritten state (loaded f) = firstPart stateBytes 0 (rows (start f) 0 (f .places)) state
@@ -102,13 +100,13 @@ written state ledger outcomes lent =
 unfoldable pub longEnough : Lent → Bool
 longEnough lent = leb stateBytes (length (lent .state)) && leb termLimit (length (lent .ledger)) && leb commandLimit (length (lent .outcomes))
 
-unfoldable pub answered : ℕ → Load → RunAnswer
-answered n (loaded f) = ran.Ran (accepted f n) (refusals f n) (issued f n)
-answered n (refused number place) = ran.Refused number place
+unfoldable pub answered : ℕ → Load → Answer
+answered n (loaded f) = success (accepted f n ∷ refusals f n ∷ issued f n ∷ [])
+answered n (refused number place) = refusal number place
 
 -- Run's answer for a file, a count and buffers
-unfoldable pub runAnswer : List ℕ → ℕ → Lent → RunAnswer
-runAnswer bs n lent = cond (longEnough lent) (answered n (loadFile bs)) (ran.Refused 1 0)
+unfoldable pub runAnswer : List ℕ → ℕ → Lent → Answer
+runAnswer bs n lent = cond (longEnough lent) (answered n (loadFile bs)) (refusal 1 0)
 
 unfoldable pub leaves : ℕ → Lent → Load → Lent
 leaves n lent (loaded f) = written (rows (reached f n) 0 (f .places)) (reached f n .ledger) (outcomesOf f n) lent
@@ -123,16 +121,16 @@ unfoldable pub steps : List Entry → ℕ → ℕ → List ℕ
 steps ledger zero c = c ∷ []
 steps ledger (suc n) c = c ∷ steps ledger n (parentOf ledger c)
 
-unfoldable pub found : File → ℕ → ℕ → PathAnswer
-found f n t = cond (listed (reached f n .ledger) t) (path.Steps (depthOf (reached f n .ledger) t)) (path.Refused 30 t)
+unfoldable pub found : File → ℕ → ℕ → Answer
+found f n t = cond (listed (reached f n .ledger) t) (success (depthOf (reached f n .ledger) t ∷ [])) (refusal 30 t)
 
-unfoldable pub pathAnswered : ℕ → ℕ → Load → PathAnswer
+unfoldable pub pathAnswered : ℕ → ℕ → Load → Answer
 pathAnswered n t (loaded f) = found f n t
-pathAnswered n t (refused number place) = path.Refused number place
+pathAnswered n t (refused number place) = refusal number place
 
 -- Path's answer for a file, a count, buffers, a term and a list of places
-unfoldable pub pathAnswer : List ℕ → ℕ → Lent → ℕ → List ℕ → PathAnswer
-pathAnswer bs n lent t list = cond (longEnough lent && leb pathPlaces (length list)) (pathAnswered n t (loadFile bs)) (path.Refused 1 0)
+unfoldable pub pathAnswer : List ℕ → ℕ → Lent → ℕ → List ℕ → Answer
+pathAnswer bs n lent t list = cond (longEnough lent && leb pathPlaces (length list)) (pathAnswered n t (loadFile bs)) (refusal 1 0)
 
 -- the buffers after Path are those after Run, but for a list that is too short
 unfoldable pub pathBuffers : List ℕ → ℕ → Lent → ℕ → List ℕ → Lent

@@ -91,9 +91,7 @@ fn word_in(state: &[u8], at: usize) -> usize
     requires { ⌜ at + 1 < length (now state) ⌝ }
     ensures { λ r. ⌜ r ≡ word (now (state .entry)) at ⌝ }
 {
-    let high = state[at] as usize;
-    let low = state[at + 1] as usize;
-    high * 256 + low
+    records::word_at(state, at) as usize
 }
 
 // The request that a credential was opened with.

@@ -101,27 +101,25 @@ module _ (bytes : List ℕ) (f : File) (loads : load bytes ≡ loaded f) where
           (λ h. ⊎-elim (λ i. i) (λ i. absurd (let z : hashKind ≡ privateKeyKind = sym i ∙ e in omega arith)) (st .tableOnly p k h))
           (st .grows .table p k)
 
-  -- the ledger has no more entries than the file has terms
+  -- a ledger has no more entries than the file has terms
+  module _ (s : State) (inv : Invariant f s) where
+    abbrev at : ℕ → Entry
+    at i = getD (s .ledger) i (record { certificate = 0; parent = 0; depth = 0 })
+
+    here : (i : ℕ) → i < length (s .ledger) → getElem? (s .ledger) i ≡ some (at i)
+    here i h = at-within (s .ledger) _ i h
+
+    below : (i : ℕ) → i < length (s .ledger) → at i .certificate < length (f .terms)
+    below i h = declared f (at i .certificate) (λ k. let z : hashKind ≡ certificateKind = sym k ∙ inv .entries i (at i) (here i h) .signed .isCertificate in omega arith)
+
+    once : (i j : ℕ) → i < length (s .ledger) → j < length (s .ledger) → at i .certificate ≡ at j .certificate → i ≡ j
+    once i j h k e = inv .once i j (at i) (at j) (here i h) (here j k) e
+
+    pub entries-fit : length (s .ledger) ≤ length (f .terms)
+    entries-fit = pigeonhole (length (f .terms)) (length (s .ledger)) (λ i. at i .certificate) below once
+
   pub ledger-fits : (n : ℕ) → length (reached f n .ledger) ≤ length (f .terms)
-  ledger-fits n = pigeonhole (length (f .terms)) (length ledger) (λ i. at i .certificate) below once
-    where
-      inv : Invariant f (reached f n)
-      inv = reached-invariant f ck n
-
-      ledger : List Entry
-      ledger = reached f n .ledger
-
-      at : ℕ → Entry
-      at i = getD ledger i (record { certificate = 0; parent = 0; depth = 0 })
-
-      here : (i : ℕ) → i < length ledger → getElem? ledger i ≡ some (at i)
-      here i h = at-within ledger _ i h
-
-      below : (i : ℕ) → i < length ledger → at i .certificate < length (f .terms)
-      below i h = declared f (at i .certificate) (λ k. let z : hashKind ≡ certificateKind = sym k ∙ inv .entries i (at i) (here i h) .signed .isCertificate in omega arith)
-
-      once : (i j : ℕ) → i < length ledger → j < length ledger → at i .certificate ≡ at j .certificate → i ≡ j
-      once i j h k e = inv .once i j (at i) (at j) (here i h) (here j k) e
+  ledger-fits n = entries-fit (reached f n) (reached-invariant f ck n)
 
   -- and so no more than a file may have
   pub few-issued : (n : ℕ) → issued f n ≤ termLimit

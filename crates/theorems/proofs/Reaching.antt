@@ -45,7 +45,7 @@ module _ (f : File) (ck : Checked f) where
       (inside-one f t u (certifiedKey f t) (parts-certificate f t (w .0)) i)))
       (ck .learnsAllowed p t g)
 
-  start-invariant : Invariant f (start f)
+  pub start-invariant : Invariant f (start f)
   unfolding start
   start-invariant = record {
     closed = taught-closed f (ck .lower) (f .setup);
@@ -85,6 +85,10 @@ module _ (f : File) (ck : Checked f) where
         go : Dec (outcome f s c ≡ 0) → (after f s c ≡ s) ⊎ Step f s (after f s c)
         go (yes e) = subst⁻¹ (λ (x : State). (x ≡ s) ⊎ Step f s x) (after-accepted f s c e) (effect-step c w e)
         go (no n) = inl (after-refused f s c n)
+
+    -- whatever the command, the invariant stays
+    pub after-invariant : (c : Command) → Wellformed f c → Invariant f (after f s c)
+    after-invariant c w = ⊎-elim (λ e. subst⁻¹ (Invariant f) e inv) (λ st. invariant-next f ck s (after f s c) inv st) (after-step c w)
 
   next-step : (n : ℕ) → Invariant f (reached f n) → (reached f (suc n) ≡ reached f n) ⊎ Step f (reached f n) (reached f (suc n))
   next-step n inv = go (getElem? (commandsOf f) n) refl

@@ -8,14 +8,12 @@ use Prim.Native.Nat.{ℕ, zero, suc, _+_, _*_, _-_, _/_, _%_, _^_, _<_, _≤_}
 use native.Mathlib.Omega.{arith}
 use lib.Dec.{leb}
 use lib.ListN.{length, getD, getElem?, drop, replicate, List·getD-append}
-use Rattle.rules.specs.declared.RunAnswer.{RunAnswer}
-use Rattle.rules.specs.declared.RunAnswer.the-variants.{Ran, Refused}
 use Rattle.rules.specs.Limits.{fileLimit, partyLimit, termLimit, rowWidth, stateBytes}
 use Rattle.rules.specs.File.{File}
 use Rattle.rules.specs.Load.{Load, loaded, refused, load}
 use Rattle.rules.specs.State.{State}
 use Rattle.rules.specs.Run.{reached, issued}
-use Rattle.rules.specs.Lent.{Lent, rows, firstPart, noEntry, runValues, written, longEnough, answered, runAnswer, leaves, runLeaves}
+use Rattle.rules.specs.Lent.{Answer, success, refusal, Lent, rows, firstPart, noEntry, written, longEnough, answered, runAnswer, leaves, runLeaves}
 use Rattle.theorems.specs.Written.{Written, RunWrites}
 use Rattle.theorems.proofs.Demand3.{demand3}
 use Rattle.theorems.proofs.Laws.{few-issued}
@@ -64,17 +62,16 @@ true-one true e = refl
 true-one false e = absurd (false≢true e)
 
 -- a run that is not refused is of a file that loads
-answered-ran : (n : ℕ) (l : Load) (a r i : ℕ) → answered n l ≡ Ran a r i → (f : File) × (l ≡ loaded f) × (i ≡ issued f n)
-unfolding answered runValues
-answered-ran n (loaded f) a r i e = (f, refl, ap (λ (x : RunAnswer). getD (runValues x) 2 0) (sym e))
+answered-ran : (n : ℕ) (l : Load) (a r i : ℕ) → answered n l ≡ success (a ∷ r ∷ i ∷ []) → (f : File) × (l ≡ loaded f) × (i ≡ issued f n)
+unfolding answered
+answered-ran n (loaded f) a r i e = (f, refl, ap (λ (x : Answer). getD (x .values) 2 0) (sym e))
 answered-ran n (refused number place) a r i e =
-    absurd (let z : _≡_ {A = ℕ} 1 3 = ap (λ (x : RunAnswer). length (runValues x)) e in omega arith)
+    absurd (let z : _≡_ {A = ℕ} 1 3 = ap (λ (x : Answer). length (x .values)) e in omega arith)
 
-long-ran : (b : Bool) (x : RunAnswer) (a r i : ℕ) → cond b x (Refused 1 0) ≡ Ran a r i → (b ≡ true) × (x ≡ Ran a r i)
-unfolding runValues
+long-ran : (b : Bool) (x : Answer) (a r i : ℕ) → cond b x (refusal 1 0) ≡ success (a ∷ r ∷ i ∷ []) → (b ≡ true) × (x ≡ success (a ∷ r ∷ i ∷ []))
 long-ran true x a r i e = (refl, e)
 long-ran false x a r i e =
-    absurd (let z : _≡_ {A = ℕ} 1 3 = ap (λ (y : RunAnswer). length (runValues y)) e in omega arith)
+    absurd (let z : _≡_ {A = ℕ} 1 3 = ap (λ (y : Answer). length (y .values)) e in omega arith)
 
 -- a file that loads is not too long
 loaded-fits : (bytes : List ℕ) (f : File) → load bytes ≡ loaded f → leb (length bytes) fileLimit ≡ true

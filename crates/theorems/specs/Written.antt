@@ -1,16 +1,15 @@
 -- What Run writes into the lent buffers is what demand 3 speaks of: the ledger, and who knows what.
 use mathlib.Core.Path.{_≡_}
 use mathlib.Core.Logic.{_↔_}
-use mathlib.Core.List.{List}
+use mathlib.Core.List.{List, [], _∷_}
 use mathlib.Core.Option.{some}
 use Prim.Native.Nat.{ℕ, _*_, _/_, _%_, _^_, _<_, _≤_}
 use lib.ListN.{length, getD, getElem?}
-use Rattle.rules.specs.declared.RunAnswer.the-variants.{Ran}
 use Rattle.rules.specs.Limits.{partyLimit, termLimit, rowWidth}
 use Rattle.rules.specs.File.{File}
 use Rattle.rules.specs.Load.{loaded, load}
 use Rattle.rules.specs.Run.{reached}
-use Rattle.rules.specs.Lent.{Lent, noEntry, runAnswer, runLeaves}
+use Rattle.rules.specs.Lent.{success, Lent, noEntry, runAnswer, runLeaves}
 use Rattle.theorems.specs.Residency.{Known, Resident}
 
 -- What a run of the first n commands that answers i issued certificates leaves in the buffers that were lent.
@@ -31,4 +30,4 @@ pub record Written (bytes : List ℕ) (n : ℕ) (lent : Lent) (i : ℕ) : Type 0
 
 -- of any bytes, any n and any buffers: a run that is not refused writes this
 abbrev pub RunWrites : Type 0
-RunWrites = (bytes : List ℕ) (n : ℕ) (lent : Lent) (a r i : ℕ) → runAnswer bytes n lent ≡ Ran a r i → Written bytes n lent i
+RunWrites = (bytes : List ℕ) (n : ℕ) (lent : Lent) (a r i : ℕ) → runAnswer bytes n lent ≡ success (a ∷ r ∷ i ∷ []) → Written bytes n lent i

@@ -5,7 +5,7 @@ use borrow.Author.Needs.{needs}
 use lib.ListN.{length}
 use Rattle.rules.specs.Listing.{entryLines}
 use Rattle.lister.specs.Text.{entryBytes, Written}
-use Rattle.lister.specs.Parts.{entriesIn}
+use Rattle.entries.specs.Words.{entriesIn}
 use Rattle.lister.proofs.Writing.{written-length}
 use Rattle.lister.proofs.Parts.{entries-start, entries-next}
 use Rattle.lister.proofs.entries_into.Statement.{statement}

@@ -10,7 +10,7 @@ use lib.ListN.{length, getD, drop, replicate}
 use lib.Seq.{length-take-le}
 use Rattle.rules.specs.declared.LoadAnswer.the-variants.{Loaded, Refused}
 use Rattle.rules.specs.Limits.{fileLimit, stateBytes}
-use Rattle.rules.specs.Lent.{loadAnswer, loadLeaves}
+use Rattle.rules.specs.Lent.{loadInNumbers, loadAnswer, loadLeaves}
 use Rattle.state.proofs.Exact.{front}
 use Rattle.loader.specs.declared.Scanned.{Scanned}
 use Rattle.loader.specs.Tabled.{Filled, FillResult}
@@ -30,15 +30,15 @@ module _ (bytes s tables : List ℕ) (r : Scanned) (short : length bytes ≤ fil
   counts-fit (inr (m, z, e, k)) h = absurd (omega arith)
 
   module _ (old : List ℕ) (room : stateBytes ≤ length old) where
-    refused-right : FillResult bytes s tables r → (r .number ≡ 0 → ⊥) → (Refused (r .number) (r .place) ≡ loadAnswer bytes old) × (s ++ drop stateBytes old ≡ loadLeaves bytes old)
+    refused-right : FillResult bytes s tables r → (r .number ≡ 0 → ⊥) → (loadInNumbers (Refused (r .number) (r .place)) ≡ loadAnswer bytes old) × (s ++ drop stateBytes old ≡ loadLeaves bytes old)
     refused-right (inl (z, w)) h = absurd (h z)
     refused-right (inr (m, z, e, k)) h = (
-      ap (λ (n : ℕ). Refused n (r .place)) z ∙ refused-answer bytes old (suc m) (r .place) e room,
+      ap (λ (n : ℕ). loadInNumbers (Refused n (r .place))) z ∙ refused-answer bytes old (suc m) (r .place) e room,
       ap (λ (x : List ℕ). x ++ drop stateBytes old) k ∙ refused-leaves bytes old (suc m) (r .place) e room short,
     )
 
     loaded-right : FillResult bytes s tables r → r .number ≡ 0 → length s ≡ stateBytes → ((i : ℕ) → getD s i 0 < 256)
-        → (Loaded (r .tally .parties) (r .tally .terms) (r .tally .commands) ≡ loadAnswer bytes old) × (s ++ drop stateBytes old ≡ loadLeaves bytes old)
+        → (loadInNumbers (Loaded (r .tally .parties) (r .tally .terms) (r .tally .commands)) ≡ loadAnswer bytes old) × (s ++ drop stateBytes old ≡ loadLeaves bytes old)
     loaded-right (inl (z, w)) h l b = (
       final-answer bytes (w .file) s (w .signers) (r .tally) (w .loads) (w .describes) old room,
       final-leaves bytes (w .file) s (w .signers) (r .tally) (w .loads) (w .describes) l b old room short,
@@ -48,12 +48,12 @@ module _ (bytes s tables : List ℕ) (r : Scanned) (short : length bytes ≤ fil
 returns : tie.Need-returns
 returns c =
     let a = c .before .before .before .args in
-    (sym (short-answer (now (a .file)) (now (a .state)) (c .if1 .taken)), sym (short-leaves (now (a .file)) (now (a .state)) (c .if1 .taken)))
+    (short-answer (now (a .file)) (now (a .state)) (c .if1 .taken), sym (short-leaves (now (a .file)) (now (a .state)) (c .if1 .taken)))
 
 returns-2 : tie.Need-returns-2
 returns-2 c =
     let a = c .before .before .before .before .args in
-    (sym (long-answer (now (a .file)) (now (a .state)) (c .before .if1 .left) (c .if2 .taken)), sym (long-leaves (now (a .file)) (now (a .state)) (c .if2 .taken)))
+    (long-answer (now (a .file)) (now (a .state)) (c .before .if1 .left) (c .if2 .taken), sym (long-leaves (now (a .file)) (now (a .state)) (c .if2 .taken)))
 
 slice-relend-prefix-fill : tie.Need-slice-relend-prefix-fill
 slice-relend-prefix-fill c = search needs
