@@ -5,3 +5,4 @@ pub mod Outcomes
 pub mod Entries
 pub mod Subjects
 pub mod Called
+pub mod IssueIak

@@ -12,8 +12,8 @@ ghost use Rattle.rules.specs.declared.Entry.{Entry};
 ghost use Rattle.rules.specs.Limits.{rowWidth, partyLimit, termLimit};
 ghost use Rattle.rules.specs.Attributes.{sameAttributes};
 ghost use Rattle.rules.specs.Term.{idevidRequestKind, certificateKind, credentialKind, isTpmSubject, isDeviceSubject};
-ghost use Rattle.rules.specs.File.{challenge, isRole, kind, subject, attributes, signsForRole};
-ghost use Rattle.rules.specs.State.{listed, depthOf};
+ghost use Rattle.rules.specs.File.{challenge, issueIak, isRole, kind, subject, attributes, signsForRole};
+ghost use Rattle.rules.specs.State.{credentialOpen, listed, depthOf};
 ghost use Rattle.rules.specs.Desk.{formTests, proofTests, numberTests};
 ghost use Rattle.theorems.proofs.Loading.{Checked, Wellformed};
 ghost use Rattle.state.specs.View.{view};
@@ -22,15 +22,17 @@ ghost use Rattle.setup.specs.Allowed.{noKey};
 ghost use Rattle.tables.specs.Regions.{tablesIn};
 ghost use Rattle.loaded.specs.Chain.{chain};
 ghost use Rattle.loaded.specs.Loaded.{fileIn, Holds, Finds, PartyHere, TermHere, Decides};
-ghost use Rattle.loaded.specs.Entries.{Enters};
-ghost use Rattle.desk.specs.Formed.{Formed};
+ghost use Rattle.loaded.specs.Entries.{Enters, DecidesListed};
+ghost use Rattle.desk.specs.Formed.{Formed, Requested};
 ghost use Rattle.desk.specs.Tests.{endorsementTests, credentialTests, calledTests};
 
 // The role of OEM desks.
 const OEM_DESK: u8 = 2;
 
-// The mark of a used number.
+// The marks of a used number and of an open credential.
 const NUMBER_USED: u8 = 1;
+
+const CREDENTIAL_OPEN: u8 = 2;
 
 // The form of a request: a pair of its body and a signature over a hash.
 pub fn form(file: &[u8], state: &[u8], q: usize, kind: u8) -> u8
@@ -316,4 +318,48 @@ pub fn decide_challenge(
         return fresh;
     }
     credential_names(file, state, r, iak, ek)
+}
+
+// 3F IssueIak.
+pub fn decide_issue_iak(
+    file: &[u8],
+    state: &[u8],
+    tables: &[u16; tables::WORDS],
+    party: usize,
+    other: usize,
+    c: usize,
+    r: usize,
+) -> u8
+    requires { ⌜ Holds (now file) (now state) × Finds (now file) (now tables) × Wellformed (fileIn (now file)) (issueIak party other c r) × (view (now state) .mark c ≡ credentialOpen → Requested (fileIn (now file)) (view (now state) .request c)) ⌝ }
+    ensures { λ x. ⌜ DecidesListed (now (file .entry)) (now (state .entry)) (now (tables .entry)) (issueIak party other c r) x ⌝ }
+{
+    if !loaded::is_role(file, party, OEM_DESK) {
+        return 13;
+    }
+    if state::mark_of(state, c) != CREDENTIAL_OPEN {
+        return 25;
+    }
+    let desk = state::desk_of(state, c) as usize;
+    if desk != party {
+        return 25;
+    }
+    if !loaded::is_role(file, other, rules::DEVICE) {
+        return 26;
+    }
+    let number = loaded::credential_number_of(file, state, c);
+    if !state::knows(state, other, number) {
+        return 26;
+    }
+    let request = state::request_of(state, c);
+    let body = loaded::left_of(file, state, request);
+    let iak = loaded::idevid_key_of(file, state, body);
+    let wanted = subject_of(file, state, body);
+    let called = called_for(file, state, tables, party, r, iak, wanted);
+    if called != 0 {
+        return called;
+    }
+    if is_listed(tables, r) {
+        return 28;
+    }
+    0
 }
