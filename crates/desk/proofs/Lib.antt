@@ -3,3 +3,4 @@ pub mod Forms
 pub mod Signers
 pub mod Outcomes
 pub mod Entries
+pub mod IssueLak

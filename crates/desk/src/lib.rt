@@ -2,15 +2,15 @@
 use rules::Attributes;
 use rules::Term;
 ghost use mathlib.Core.Path.{_≡_};
-ghost use mathlib.Core.Bool.{_&&_};
+ghost use mathlib.Core.Bool.{_&&_, _||_};
 ghost use mathlib.Core.List.{List};
 ghost use Prim.Native.Nat.{ℕ, _+_, _*_, _<_, _≤_};
 ghost use lib.Dec.{eqb};
 ghost use lib.ListN.{length};
 ghost use Rattle.rules.specs.declared.Entry.{Entry};
-ghost use Rattle.rules.specs.Limits.{rowWidth, partyLimit, termLimit};
+ghost use Rattle.rules.specs.Limits.{rowWidth, partyLimit, termLimit, oemDesk, ownerDesk};
 ghost use Rattle.rules.specs.Attributes.{sameAttributes};
-ghost use Rattle.rules.specs.Term.{idevidRequestKind, certificateKind, credentialKind, isTpmSubject, isDeviceSubject};
+ghost use Rattle.rules.specs.Term.{signatureKind, idevidRequestKind, certificateKind, credentialKind, isTpmSubject, isDeviceSubject};
 ghost use Rattle.rules.specs.File.{challenge, isRole, kind, subject, attributes, signsForRole};
 ghost use Rattle.rules.specs.State.{listed, depthOf};
 ghost use Rattle.rules.specs.Desk.{formTests, proofTests, numberTests};
@@ -23,10 +23,16 @@ ghost use Rattle.loaded.specs.Chain.{chain};
 ghost use Rattle.loaded.specs.Loaded.{fileIn, Holds, Finds, PartyHere, TermHere, Decides};
 ghost use Rattle.loaded.specs.Entries.{Enters};
 ghost use Rattle.desk.specs.Formed.{Formed};
-ghost use Rattle.desk.specs.Tests.{endorsementTests, credentialTests};
+ghost use Rattle.desk.specs.Tests.{endorsementTests, credentialTests, attestTests, parentageTests, entryTests};
 
 // The role of OEM desks.
 const OEM_DESK: u8 = 2;
+
+// The role of owner desks.
+const OWNER_DESK: u8 = 3;
+
+// The depth of the deepest entry.
+const DEPTH_LIMIT: u16 = 8;
 
 // The mark of a used number.
 const NUMBER_USED: u8 = 1;
@@ -269,4 +275,85 @@ pub fn decide_challenge(
         return fresh;
     }
     credential_names(file, state, r, iak, ek)
+}
+
+// The message of an LDevID request: a signature over an attest.
+fn signed_attest(file: &[u8], state: &[u8], t: usize) -> u8
+    requires { ⌜ Holds (now file) (now state) × (t < length (fileIn (now file) .terms)) ⌝ }
+    ensures { λ x. ⌜ x ≡ chain (attestTests (fileIn (now (file .entry))) t) ⌝ }
+{
+    let signed = learning::term_of(file, state, t);
+    let Term::Signature(content, _) = signed else {
+        return 19;
+    };
+    let message = content as usize;
+    if !loaded::is_kind(file, state, message, 0x14) {
+        return 19;
+    }
+    0
+}
+
+// Whether a key is the signing key of an OEM desk or of an owner desk.
+fn signs_for_desk(file: &[u8], tables: &[u16; tables::WORDS], key: usize, parties: usize) -> bool
+    requires { ⌜ Checked (fileIn (now file)) × Finds (now file) (now tables) × (parties ≡ length (fileIn (now file) .roles)) × ((p : ℕ) → p < parties → PartyHere (now file) p) × (key < noKey) ⌝ }
+    ensures { λ x. ⌜ x ≡ (signsForRole (fileIn (now (file .entry))) oemDesk key || signsForRole (fileIn (now (file .entry))) ownerDesk key) ⌝ }
+{
+    if signs_for_role(file, tables, OEM_DESK, key, parties) {
+        return true;
+    }
+    signs_for_role(file, tables, OWNER_DESK, key, parties)
+}
+
+// The parentage of an LAK: its attest by the key of a desk's certificate, which is listed, and the attributes of both keys.
+fn parentage(
+    file: &[u8],
+    state: &[u8],
+    tables: &[u16; tables::WORDS],
+    parties: usize,
+    signature: usize,
+    lak: usize,
+    parent: usize,
+) -> u8
+    requires { ⌜ Holds (now file) (now state) × Finds (now file) (now tables) × (parties ≡ length (fileIn (now file) .roles)) × (kind (fileIn (now file)) signature ≡ signatureKind) × (lak < length (fileIn (now file) .terms)) × (kind (fileIn (now file)) parent ≡ certificateKind) ⌝ }
+    ensures { λ x. ⌜ ((words : List ℕ) (n : ℕ) (ledger : List Entry) → Enters (now (tables .entry)) words n ledger → x ≡ chain (parentageTests (fileIn (now (file .entry))) ledger signature lak parent)) ⌝ }
+{
+    let key = loaded::certified_key_of(file, state, parent);
+    let half = loaded::signing_key_of(file, state, signature);
+    if !loaded::is_half(tables, key, half) {
+        return 20;
+    }
+    let signer = loaded::signer_of(file, state, parent);
+    if !signs_for_desk(file, tables, signer, parties) {
+        return 21;
+    }
+    if !is_listed(tables, parent) {
+        return 22;
+    }
+    if !has_exactly(file, state, lak, Attributes::iak()) {
+        return 23;
+    }
+    if !has_exactly(file, state, key, Attributes::iak()) {
+        return 23;
+    }
+    0
+}
+
+// The entry of a certificate below its parent's: none so far, and not too deep.
+fn entry_allowed(
+    tables: &[u16; tables::WORDS],
+    words: &[u16; entries::WORDS],
+    r: usize,
+    parent: usize,
+) -> u8
+    requires { ⌜ (r < termLimit) × (parent < termLimit) × (0 < tablesIn (now tables) .entry parent) × (tablesIn (now tables) .entry parent ≤ termLimit) ⌝ }
+    ensures { λ x. ⌜ ((n : ℕ) (ledger : List Entry) → Enters (now (tables .entry)) (now (words .entry)) n ledger → x ≡ chain (entryTests ledger r parent)) ⌝ }
+{
+    if is_listed(tables, r) {
+        return 28;
+    }
+    let depth = depth_of(tables, words, parent);
+    if depth >= DEPTH_LIMIT {
+        return 29;
+    }
+    0
 }
