@@ -3,4 +3,6 @@ pub mod Forms
 pub mod Signers
 pub mod Outcomes
 pub mod Entries
+pub mod Subjects
+pub mod Called
 pub mod IssueLak

@@ -7,8 +7,9 @@ use Rattle.rules.specs.declared.Entry.{Entry}
 use Rattle.rules.specs.Limits.{tpmMaker, oemDesk, ownerDesk, depthLimit}
 use Rattle.rules.specs.Refusals.{Test, need}
 use Rattle.rules.specs.Attributes.{sameAttributes, iakAttributes, ekAttributes}
-use Rattle.rules.specs.Term.{hashKind, signatureKind, attestKind, isTpmSubject}
-use Rattle.rules.specs.File.{File, isKind, hashedTerm, message, signingKey, credentialTerm, credentialKey, certifiedKey, signer, subject, attributes, paired, signsForRole}
+use Rattle.rules.specs.declared.Subject.{Subject}
+use Rattle.rules.specs.Term.{hashKind, signatureKind, attestKind, sameSubject, isTpmSubject}
+use Rattle.rules.specs.File.{File, isKind, hashedTerm, message, signingKey, credentialTerm, credentialKey, certifiedKey, signer, subject, attributes, paired, signsFor, signsForRole}
 use Rattle.rules.specs.State.{listed, depthOf}
 
 abbrev pub endorsementTests : File → ℕ → ℕ → ℕ → List Test
@@ -24,6 +25,14 @@ credentialTests f r iak ek =
     need 27 (isKind f hashKind (credentialTerm f r))
     ∷ need 27 (eqb (hashedTerm f (credentialTerm f r)) iak)
     ∷ need 27 (eqb (credentialKey f r) ek)
+    ∷ []
+
+-- "r is (key, Subject, the desk's key)", by the Subject
+abbrev pub calledTests : File → ℕ → ℕ → ℕ → Subject → List Test
+calledTests f desk r key wanted =
+    need 27 (eqb (certifiedKey f r) key)
+    ∷ need 27 (sameSubject (subject f r) wanted)
+    ∷ need 27 (signsFor f desk (signer f r))
     ∷ []
 
 -- a signature over an attest

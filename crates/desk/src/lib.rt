@@ -1,5 +1,6 @@
 // Desk commands: what each decides, by the terms of their numbers.
 use rules::Attributes;
+use rules::Subject;
 use rules::Term;
 ghost use mathlib.Core.Path.{_≡_};
 ghost use mathlib.Core.Bool.{_&&_, _||_};
@@ -23,7 +24,7 @@ ghost use Rattle.loaded.specs.Chain.{chain};
 ghost use Rattle.loaded.specs.Loaded.{fileIn, Holds, Finds, PartyHere, TermHere, Decides};
 ghost use Rattle.loaded.specs.Entries.{Enters};
 ghost use Rattle.desk.specs.Formed.{Formed};
-ghost use Rattle.desk.specs.Tests.{endorsementTests, credentialTests, attestTests, parentageTests, entryTests};
+ghost use Rattle.desk.specs.Tests.{endorsementTests, credentialTests, calledTests, attestTests, parentageTests, entryTests};
 
 // The role of OEM desks.
 const OEM_DESK: u8 = 2;
@@ -137,13 +138,28 @@ fn fresh_number(state: &[u8], party: usize, number: usize) -> u8
     0
 }
 
+// The Subject of a request or a certificate; of another term, TPM 0.
+fn subject_of(file: &[u8], state: &[u8], t: usize) -> Subject
+    requires { ⌜ TermHere (now file) (now state) t ⌝ }
+    ensures { λ x. ⌜ x ≡ subject (fileIn (now (file .entry))) t ⌝ }
+{
+    let found = learning::term_of(file, state, t);
+    match found {
+        Term::IdevidRequest(asked, _, _) => asked,
+        Term::Certificate(_, certified, _) => certified,
+        _ => Subject::Tpm(0),
+    }
+}
+
 // Whether a certificate is a TPM's.
 fn is_tpm(file: &[u8], state: &[u8], t: usize) -> bool
     requires { ⌜ TermHere (now file) (now state) t × (kind (fileIn (now file)) t ≡ certificateKind) ⌝ }
     ensures { λ x. ⌜ x ≡ isTpmSubject (subject (fileIn (now (file .entry))) t) ⌝ }
 {
-    let at = state::place_of(state, t);
-    file[at + 3] == 0
+    match subject_of(file, state, t) {
+        Subject::Tpm(_) => true,
+        Subject::Device(_) => false,
+    }
 }
 
 // Whether a request is a device's.
@@ -151,8 +167,10 @@ fn is_device(file: &[u8], state: &[u8], t: usize) -> bool
     requires { ⌜ TermHere (now file) (now state) t × (kind (fileIn (now file)) t ≡ idevidRequestKind) ⌝ }
     ensures { λ x. ⌜ x ≡ isDeviceSubject (subject (fileIn (now (file .entry))) t) ⌝ }
 {
-    let at = state::place_of(state, t);
-    file[at + 1] != 0
+    match subject_of(file, state, t) {
+        Subject::Tpm(_) => false,
+        Subject::Device(_) => true,
+    }
 }
 
 // Whether a key has exactly these attributes.
@@ -229,6 +247,35 @@ fn depth_of(tables: &[u16; tables::WORDS], words: &[u16; entries::WORDS], t: usi
 {
     let entry = tables::entry_of(tables, t) as usize;
     entries::depth_of(words, entry - 1)
+}
+
+// Whether a certificate is the one called for: of the key, for the Subject, by the desk.
+fn called_for(
+    file: &[u8],
+    state: &[u8],
+    tables: &[u16; tables::WORDS],
+    party: usize,
+    r: usize,
+    key: usize,
+    wanted: Subject,
+) -> u8
+    requires { ⌜ Holds (now file) (now state) × Finds (now file) (now tables) × (party < partyLimit) × (kind (fileIn (now file)) r ≡ certificateKind) ⌝ }
+    ensures { λ x. ⌜ x ≡ chain (calledTests (fileIn (now (file .entry))) party r key wanted) ⌝ }
+{
+    let certified = loaded::certified_key_of(file, state, r);
+    if certified != key {
+        return 27;
+    }
+    let named = subject_of(file, state, r);
+    if !rules::same_subject(named, wanted) {
+        return 27;
+    }
+    let signer = loaded::signer_of(file, state, r);
+    let own = tables::signer_of(tables, party) as usize;
+    if own != signer {
+        return 27;
+    }
+    0
 }
 
 // 3E Challenge.
