@@ -12,7 +12,7 @@ ghost use Rattle.rules.specs.declared.Entry.{Entry};
 ghost use Rattle.rules.specs.Limits.{rowWidth, partyLimit, termLimit, oemDesk, ownerDesk};
 ghost use Rattle.rules.specs.Attributes.{sameAttributes};
 ghost use Rattle.rules.specs.Term.{signatureKind, idevidRequestKind, certificateKind, credentialKind, isTpmSubject, isDeviceSubject};
-ghost use Rattle.rules.specs.File.{challenge, isRole, kind, subject, attributes, signsForRole};
+ghost use Rattle.rules.specs.File.{challenge, issueLak, isRole, kind, subject, attributes, signsForRole};
 ghost use Rattle.rules.specs.State.{listed, depthOf};
 ghost use Rattle.rules.specs.Desk.{formTests, proofTests, numberTests};
 ghost use Rattle.theorems.proofs.Loading.{Checked, Wellformed};
@@ -22,8 +22,9 @@ ghost use Rattle.setup.specs.Allowed.{noKey};
 ghost use Rattle.tables.specs.Regions.{tablesIn};
 ghost use Rattle.loaded.specs.Chain.{chain};
 ghost use Rattle.loaded.specs.Loaded.{fileIn, Holds, Finds, PartyHere, TermHere, Decides};
-ghost use Rattle.loaded.specs.Entries.{Enters};
+ghost use Rattle.loaded.specs.Entries.{Enters, DecidesBy};
 ghost use Rattle.desk.specs.Formed.{Formed};
+ghost use Rattle.desk.specs.Entered.{Entered};
 ghost use Rattle.desk.specs.Tests.{endorsementTests, credentialTests, calledTests, attestTests, parentageTests, entryTests};
 
 // The role of OEM desks.
@@ -403,4 +404,53 @@ fn entry_allowed(
         return 29;
     }
     0
+}
+
+// 40 IssueLak.
+pub fn decide_issue_lak(
+    file: &[u8],
+    state: &[u8],
+    tables: &[u16; tables::WORDS],
+    words: &[u16; entries::WORDS],
+    parties: usize,
+    party: usize,
+    q: usize,
+    r: usize,
+) -> u8
+    requires { ⌜ Holds (now file) (now state) × Finds (now file) (now tables) × (parties ≡ length (fileIn (now file) .roles)) × Wellformed (fileIn (now file)) (issueLak party q r) × Entered (now tables) (now words) ⌝ }
+    ensures { λ x. ⌜ DecidesBy (now (file .entry)) (now (state .entry)) (now (tables .entry)) (now (words .entry)) (issueLak party q r) x ⌝ }
+{
+    if !loaded::is_role(file, party, OWNER_DESK) {
+        return 13;
+    }
+    if !state::knows(state, party, q) {
+        return 14;
+    }
+    let formed = form(file, state, q, 0x18);
+    if formed != 0 {
+        return formed;
+    }
+    let body = loaded::left_of(file, state, q);
+    let signature = loaded::ldevid_message_of(file, state, body);
+    let attested = signed_attest(file, state, signature);
+    if attested != 0 {
+        return attested;
+    }
+    let attest = loaded::message_of(file, state, signature);
+    let lak = loaded::attested_key_of(file, state, attest);
+    let proved = proof_of_key(file, state, tables, q, lak);
+    if proved != 0 {
+        return proved;
+    }
+    let parent = loaded::ldevid_certificate_of(file, state, body);
+    let descends = parentage(file, state, tables, parties, signature, lak, parent);
+    if descends != 0 {
+        return descends;
+    }
+    let wanted = subject_of(file, state, parent);
+    let called = called_for(file, state, tables, party, r, lak, wanted);
+    if called != 0 {
+        return called;
+    }
+    entry_allowed(tables, words, r, parent)
 }
