@@ -1,5 +1,5 @@
 use borrow.Author.Needs.{needs}
-use mathlib.Core.Path.{_≡_, sym, _∙_}
+use mathlib.Core.Path.{sym, _∙_}
 use Rattle.loaded.proofs.Tested.{or-first, or-second}
 use Rattle.desk.proofs.signs_for_desk.Statement.{statement}
 use Rattle.desk.proofs.signs_for_desk.Tie as tie
