@@ -1,5 +1,6 @@
 -- The ledger by the places of its entries.
 --     listed-entry     whether a certificate is listed
+--     entries-length   how many entries the words hold
 --     depth-entry, depth-read      the depth of one that is, by the word of its entry
 -- Assumes nothing.
 use mathlib.Core.Path.{_≡_, refl, sym, ap, _∙_}
@@ -41,7 +42,7 @@ depth-last : (xs : List Entry) (e : Entry) → depthAt (xs ++ (e ∷ [])) (lengt
 depth-last [] e = refl
 depth-last (x ∷ xs) e = depth-last xs e
 
-entries-length : (words : List ℕ) (n : ℕ) → length (entriesIn words n) ≡ n
+pub entries-length : (words : List ℕ) (n : ℕ) → length (entriesIn words n) ≡ n
 unfolding entriesIn
 entries-length words zero = refl
 entries-length words (suc n) = omega (arith, length-append (entriesIn words n) (entryIn words n ∷ []), entries-length words n)

@@ -6,3 +6,4 @@ pub mod Entries
 pub mod Subjects
 pub mod Called
 pub mod IssueIak
+pub mod IssueLak

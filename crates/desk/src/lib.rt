@@ -3,16 +3,16 @@ use rules::Attributes;
 use rules::Subject;
 use rules::Term;
 ghost use mathlib.Core.Path.{_≡_};
-ghost use mathlib.Core.Bool.{_&&_};
+ghost use mathlib.Core.Bool.{_&&_, _||_};
 ghost use mathlib.Core.List.{List};
 ghost use Prim.Native.Nat.{ℕ, _+_, _*_, _<_, _≤_};
 ghost use lib.Dec.{eqb};
 ghost use lib.ListN.{length};
 ghost use Rattle.rules.specs.declared.Entry.{Entry};
-ghost use Rattle.rules.specs.Limits.{rowWidth, partyLimit, termLimit};
+ghost use Rattle.rules.specs.Limits.{rowWidth, partyLimit, termLimit, oemDesk, ownerDesk};
 ghost use Rattle.rules.specs.Attributes.{sameAttributes};
-ghost use Rattle.rules.specs.Term.{idevidRequestKind, certificateKind, credentialKind, isTpmSubject, isDeviceSubject};
-ghost use Rattle.rules.specs.File.{challenge, issueIak, isRole, kind, subject, attributes, signsForRole};
+ghost use Rattle.rules.specs.Term.{idevidRequestKind, certificateKind, credentialKind, isTpmSubject, isDeviceSubject, signatureKind};
+ghost use Rattle.rules.specs.File.{challenge, issueIak, isRole, kind, subject, attributes, signsForRole, issueLak};
 ghost use Rattle.rules.specs.State.{credentialOpen, listed, depthOf};
 ghost use Rattle.rules.specs.Desk.{formTests, proofTests, numberTests};
 ghost use Rattle.theorems.proofs.Loading.{Checked, Wellformed};
@@ -22,12 +22,18 @@ ghost use Rattle.setup.specs.Allowed.{noKey};
 ghost use Rattle.tables.specs.Regions.{tablesIn};
 ghost use Rattle.loaded.specs.Chain.{chain};
 ghost use Rattle.loaded.specs.Loaded.{fileIn, Holds, Finds, PartyHere, TermHere, Decides};
-ghost use Rattle.loaded.specs.Entries.{Enters, DecidesListed};
+ghost use Rattle.loaded.specs.Entries.{Enters, DecidesListed, DecidesBy};
 ghost use Rattle.desk.specs.Formed.{Formed, Requested};
-ghost use Rattle.desk.specs.Tests.{endorsementTests, credentialTests, calledTests};
+ghost use Rattle.desk.specs.Tests.{endorsementTests, credentialTests, calledTests, attestTests, parentageTests, entryTests};
+ghost use Rattle.desk.specs.Entered.{Entered};
 
-// The role of OEM desks.
+// Roles of desks.
 const OEM_DESK: u8 = 2;
+
+const OWNER_DESK: u8 = 3;
+
+// The depth of the deepest entry.
+const DEPTH_LIMIT: u16 = 8;
 
 // The marks of a used number and of an open credential.
 const NUMBER_USED: u8 = 1;
@@ -362,4 +368,134 @@ pub fn decide_issue_iak(
         return 28;
     }
     0
+}
+
+// The message of an LDevID request: a signature over an attest.
+fn signed_attest(file: &[u8], state: &[u8], t: usize) -> u8
+    requires { ⌜ Holds (now file) (now state) × (t < length (fileIn (now file) .terms)) ⌝ }
+    ensures { λ x. ⌜ x ≡ chain (attestTests (fileIn (now (file .entry))) t) ⌝ }
+{
+    let signed = learning::term_of(file, state, t);
+    let Term::Signature(content, _) = signed else {
+        return 19;
+    };
+    let message = content as usize;
+    if !loaded::is_kind(file, state, message, 0x14) {
+        return 19;
+    }
+    0
+}
+
+// Whether a key is the signing key of an OEM desk or of an owner desk.
+fn signs_for_desk(file: &[u8], tables: &[u16; tables::WORDS], key: usize, parties: usize) -> bool
+    requires { ⌜ Checked (fileIn (now file)) × Finds (now file) (now tables) × (parties ≡ length (fileIn (now file) .roles)) × ((p : ℕ) → p < parties → PartyHere (now file) p) × (key < noKey) ⌝ }
+    ensures { λ x. ⌜ x ≡ (signsForRole (fileIn (now (file .entry))) oemDesk key || signsForRole (fileIn (now (file .entry))) ownerDesk key) ⌝ }
+{
+    if signs_for_role(file, tables, OEM_DESK, key, parties) {
+        return true;
+    }
+    signs_for_role(file, tables, OWNER_DESK, key, parties)
+}
+
+// The parentage of an LAK: its attest by the key of a desk's certificate, which is listed, and the attributes of both keys.
+fn parentage(
+    file: &[u8],
+    state: &[u8],
+    tables: &[u16; tables::WORDS],
+    parties: usize,
+    signature: usize,
+    lak: usize,
+    parent: usize,
+) -> u8
+    requires { ⌜ Holds (now file) (now state) × Finds (now file) (now tables) × (parties ≡ length (fileIn (now file) .roles)) × (kind (fileIn (now file)) signature ≡ signatureKind) × (lak < length (fileIn (now file) .terms)) × (kind (fileIn (now file)) parent ≡ certificateKind) ⌝ }
+    ensures { λ x. ⌜ ((words : List ℕ) (n : ℕ) (ledger : List Entry) → Enters (now (tables .entry)) words n ledger → x ≡ chain (parentageTests (fileIn (now (file .entry))) ledger signature lak parent)) ⌝ }
+{
+    let key = loaded::certified_key_of(file, state, parent);
+    let half = loaded::signing_key_of(file, state, signature);
+    if !loaded::is_half(tables, key, half) {
+        return 20;
+    }
+    let signer = loaded::signer_of(file, state, parent);
+    if !signs_for_desk(file, tables, signer, parties) {
+        return 21;
+    }
+    if !is_listed(tables, parent) {
+        return 22;
+    }
+    if !has_exactly(file, state, lak, Attributes::iak()) {
+        return 23;
+    }
+    if !has_exactly(file, state, key, Attributes::iak()) {
+        return 23;
+    }
+    0
+}
+
+// The entry of a certificate below its parent's: none so far, and not too deep.
+fn entry_allowed(
+    tables: &[u16; tables::WORDS],
+    words: &[u16; entries::WORDS],
+    r: usize,
+    parent: usize,
+) -> u8
+    requires { ⌜ (r < termLimit) × (parent < termLimit) × (0 < tablesIn (now tables) .entry parent) × (tablesIn (now tables) .entry parent ≤ termLimit) ⌝ }
+    ensures { λ x. ⌜ ((n : ℕ) (ledger : List Entry) → Enters (now (tables .entry)) (now (words .entry)) n ledger → x ≡ chain (entryTests ledger r parent)) ⌝ }
+{
+    if is_listed(tables, r) {
+        return 28;
+    }
+    let depth = depth_of(tables, words, parent);
+    if depth >= DEPTH_LIMIT {
+        return 29;
+    }
+    0
+}
+
+// 40 IssueLak.
+pub fn decide_issue_lak(
+    file: &[u8],
+    state: &[u8],
+    tables: &[u16; tables::WORDS],
+    words: &[u16; entries::WORDS],
+    parties: usize,
+    party: usize,
+    q: usize,
+    r: usize,
+) -> u8
+    requires { ⌜ Holds (now file) (now state) × Finds (now file) (now tables) × (parties ≡ length (fileIn (now file) .roles)) × Wellformed (fileIn (now file)) (issueLak party q r) × Entered (now tables) (now words) ⌝ }
+    ensures { λ x. ⌜ DecidesBy (now (file .entry)) (now (state .entry)) (now (tables .entry)) (now (words .entry)) (issueLak party q r) x ⌝ }
+{
+    if !loaded::is_role(file, party, OWNER_DESK) {
+        return 13;
+    }
+    if !state::knows(state, party, q) {
+        return 14;
+    }
+    let formed = form(file, state, q, 0x18);
+    if formed != 0 {
+        return formed;
+    }
+    let body = loaded::left_of(file, state, q);
+    let signature = loaded::ldevid_message_of(file, state, body);
+    let attested = signed_attest(file, state, signature);
+    if attested != 0 {
+        return attested;
+    }
+    let attest = loaded::message_of(file, state, signature);
+    let lak = loaded::attested_key_of(file, state, attest);
+    let proved = proof_of_key(file, state, tables, q, lak);
+    if proved != 0 {
+        return proved;
+    }
+    let parent = loaded::ldevid_certificate_of(file, state, body);
+    let descends = parentage(file, state, tables, parties, signature, lak, parent);
+    if descends != 0 {
+        return descends;
+    }
+    let wanted = subject_of(file, state, parent);
+    let called = called_for(file, state, tables, party, r, lak, wanted);
+    if called != 0 {
+        return called;
+    }
+    entry_allowed(tables, words, r, parent)
 }
