@@ -3,3 +3,5 @@ pub mod Forms
 pub mod Signers
 pub mod Outcomes
 pub mod Entries
+pub mod Appending
+pub mod Issued

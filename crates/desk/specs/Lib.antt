@@ -1,2 +1,4 @@
 pub mod Formed
 pub mod Tests
+pub mod Appends
+pub mod Issues
