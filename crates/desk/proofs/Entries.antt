@@ -1,6 +1,5 @@
 -- The ledger by the places of its entries.
 --     listed-entry     whether a certificate is listed
---     entries-length   how many entries the words hold
 --     depth-entry, depth-read      the depth of one that is, by the word of its entry
 -- Assumes nothing.
 use mathlib.Core.Path.{_≡_, refl, sym, ap, _∙_}
@@ -10,12 +9,13 @@ use Prim.Native.Nat.{ℕ, zero, suc, _+_, _*_, _-_, _<_}
 use native.Mathlib.Omega.{arith}
 use native.Mathlib.Nat.{zero-add}
 use lib.Dec.{eqb}
-use lib.ListN.{length, getD, length-append}
+use lib.ListN.{length, getD}
 use borrow.Author.Tests.{eqb-true, eqb-false, ne-eqb}
 use Rattle.rules.specs.declared.Entry.{Entry}
 use Rattle.rules.specs.State.{listed, depthOf}
 use Rattle.tables.specs.Regions.{tablesIn}
 use Rattle.entries.specs.Words.{entryWords, entryIn, entriesIn}
+use Rattle.entries.proofs.Words.{entries-length}
 use Rattle.loaded.specs.Entries.{entryFrom, Enters}
 
 pub listed-entry : (es : List Entry) (i c : ℕ) → listed es c ≡ not (eqb (entryFrom i es c) 0)
@@ -41,11 +41,6 @@ depth-before (x ∷ xs) ys (suc j) l = depth-before xs ys j (omega arith)
 depth-last : (xs : List Entry) (e : Entry) → depthAt (xs ++ (e ∷ [])) (length xs) ≡ e .depth
 depth-last [] e = refl
 depth-last (x ∷ xs) e = depth-last xs e
-
-pub entries-length : (words : List ℕ) (n : ℕ) → length (entriesIn words n) ≡ n
-unfolding entriesIn
-entries-length words zero = refl
-entries-length words (suc n) = omega (arith, length-append (entriesIn words n) (entryIn words n ∷ []), entries-length words n)
 
 entries-depth : (words : List ℕ) (n j : ℕ) → j < n → depthAt (entriesIn words n) j ≡ getD words (entryWords * j + 2) 0
 unfolding entriesIn

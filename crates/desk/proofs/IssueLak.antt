@@ -37,7 +37,8 @@ use Rattle.loaded.proofs.Standing.{checked-here, term-here, kind-declared}
 use Rattle.desk.specs.Formed.{Formed}
 use Rattle.desk.specs.Tests.{calledTests, attestTests, parentageTests, entryTests}
 use Rattle.desk.proofs.Read.{kind-is, is-kind-kind, signature-kind, signature-message}
-use Rattle.desk.proofs.Entries.{listed-entry, entries-length}
+use Rattle.entries.proofs.Words.{entries-length}
+use Rattle.desk.proofs.Entries.{listed-entry}
 use Rattle.desk.proofs.Outcomes.{passed, has-form}
 
 -- the signature over the attest, the LAK and the parent certificate

@@ -7,3 +7,5 @@ pub mod Subjects
 pub mod Called
 pub mod IssueIak
 pub mod IssueLak
+pub mod Appending
+pub mod Issued

@@ -1,3 +1,4 @@
 pub mod Formed
 pub mod Tests
-pub mod Entered
+pub mod Appends
+pub mod Issues

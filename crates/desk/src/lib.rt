@@ -1,4 +1,4 @@
-// Desk commands: what each decides, by the terms of their numbers.
+// Desk commands: what each decides and leaves, by the terms of their numbers.
 use rules::Attributes;
 use rules::Subject;
 use rules::Term;
@@ -19,13 +19,15 @@ ghost use Rattle.theorems.proofs.Loading.{Checked, Wellformed};
 ghost use Rattle.state.specs.View.{view};
 ghost use Rattle.state.proofs.Exact.{stateOf};
 ghost use Rattle.setup.specs.Allowed.{noKey};
-ghost use Rattle.tables.specs.Regions.{tablesIn};
+ghost use Rattle.tables.specs.Regions.{tableWords, tablesIn};
+ghost use Rattle.entries.specs.Words.{ledgerWords};
 ghost use Rattle.loaded.specs.Chain.{chain};
-ghost use Rattle.loaded.specs.Loaded.{fileIn, Holds, Finds, PartyHere, TermHere, Decides};
-ghost use Rattle.loaded.specs.Entries.{Enters, DecidesListed, DecidesBy};
+ghost use Rattle.loaded.specs.Loaded.{fileIn, Holds, Finds, PartyHere, TermHere, Decides, Leaves};
+ghost use Rattle.loaded.specs.Entries.{Enters, Entered, DecidesListed, DecidesBy, Accepts, Issues};
 ghost use Rattle.desk.specs.Formed.{Formed, Requested};
 ghost use Rattle.desk.specs.Tests.{endorsementTests, credentialTests, calledTests, attestTests, parentageTests, entryTests};
-ghost use Rattle.desk.specs.Entered.{Entered};
+ghost use Rattle.desk.specs.Appends.{Appends};
+ghost use Rattle.desk.specs.Issues.{IssuesIak};
 
 // Roles of desks.
 const OEM_DESK: u8 = 2;
@@ -35,10 +37,12 @@ const OWNER_DESK: u8 = 3;
 // The depth of the deepest entry.
 const DEPTH_LIMIT: u16 = 8;
 
-// The marks of a used number and of an open credential.
+// The marks of a used number, and of an open and a closed credential.
 const NUMBER_USED: u8 = 1;
 
 const CREDENTIAL_OPEN: u8 = 2;
+
+const CREDENTIAL_CLOSED: u8 = 3;
 
 // The form of a request: a pair of its body and a signature over a hash.
 pub fn form(file: &[u8], state: &[u8], q: usize, kind: u8) -> u8
@@ -498,4 +502,77 @@ pub fn decide_issue_lak(
         return called;
     }
     entry_allowed(tables, words, r, parent)
+}
+
+// An entry is written after the others, and its place noted.
+fn append(
+    tables: &mut [u16; tables::WORDS],
+    words: &mut [u16; entries::WORDS],
+    n: usize,
+    certificate: usize,
+    parent: usize,
+    depth: u16,
+)
+    requires { ⌜ (length (now tables) ≡ tableWords) × (length (now words) ≡ ledgerWords) × (n < termLimit) × (certificate < termLimit) × (parent < termLimit) ⌝ }
+    ensures { λ _. ⌜ Appends (now (tables .entry)) (now (words .entry)) n (record { certificate = certificate; parent = parent; depth = depth }) (now (tables .exit)) (now (words .exit)) ⌝ }
+{
+    let place = (n + 1) as u16;
+    tables::note_entry(tables, certificate, place);
+    entries::note_entry(words, n, certificate as u16, parent as u16, depth);
+}
+
+// What 3E leaves: the desk learns the credential; its number is used, and it is open with the request and the desk.
+pub fn effect_challenge(file: &[u8], state: &mut [u8], party: usize, q: usize, r: usize)
+    requires { ⌜ Holds (now file) (now state) × Wellformed (fileIn (now file)) (challenge party q r) ⌝ }
+    ensures { λ _. ⌜ Leaves (now (file .entry)) (now (state .entry)) (now (state .exit)) (challenge party q r) ⌝ }
+{
+    let number = loaded::credential_number_of(file, state, r);
+    loaded::learn(file, state, party, r);
+    state::note_mark(state, number, NUMBER_USED);
+    state::note_mark(state, r, CREDENTIAL_OPEN);
+    state::note_desk(state, r, party as u8);
+    state::note_request(state, r, q);
+}
+
+// What 3F leaves: the desk learns the certificate, the credential is closed, and the ledger has the certificate under that of the EK.
+pub fn effect_issue_iak(
+    file: &[u8],
+    state: &mut [u8],
+    tables: &mut [u16; tables::WORDS],
+    words: &mut [u16; entries::WORDS],
+    n: usize,
+    party: usize,
+    c: usize,
+    r: usize,
+)
+    requires { ⌜ Holds (now file) (now state) × IssuesIak (now file) (now state) (now tables) (now words) n party c r ⌝ }
+    ensures { λ _. ⌜ ((other : ℕ) → Issues (now (file .entry)) (now (state .entry)) (now (tables .entry)) (now (words .entry)) n (issueIak party other c r) (now (state .exit)) (now (tables .exit)) (now (words .exit))) ⌝ }
+{
+    let request = state::request_of(state, c);
+    let body = loaded::left_of(file, state, request);
+    let parent = loaded::idevid_certificate_of(file, state, body);
+    loaded::learn(file, state, party, r);
+    state::note_mark(state, c, CREDENTIAL_CLOSED);
+    append(tables, words, n, r, parent, 1);
+}
+
+// What 40 leaves: the desk learns the certificate, and the ledger has it under the request's certificate, one deeper.
+pub fn effect_issue_lak(
+    file: &[u8],
+    state: &mut [u8],
+    tables: &mut [u16; tables::WORDS],
+    words: &mut [u16; entries::WORDS],
+    n: usize,
+    party: usize,
+    q: usize,
+    r: usize,
+)
+    requires { ⌜ Holds (now file) (now state) × Wellformed (fileIn (now file)) (issueLak party q r) × Accepts (now file) (now state) (now tables) (now words) n (issueLak party q r) × (length (now tables) ≡ tableWords) ⌝ }
+    ensures { λ _. ⌜ Issues (now (file .entry)) (now (state .entry)) (now (tables .entry)) (now (words .entry)) n (issueLak party q r) (now (state .exit)) (now (tables .exit)) (now (words .exit)) ⌝ }
+{
+    let body = loaded::left_of(file, state, q);
+    let parent = loaded::ldevid_certificate_of(file, state, body);
+    let depth = depth_of(tables, words, parent);
+    loaded::learn(file, state, party, r);
+    append(tables, words, n, r, parent, depth + 1);
 }
