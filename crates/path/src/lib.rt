@@ -1,4 +1,5 @@
 // The way from an issued certificate to its endorsement certificate, by the ledger that a run left.
+use rules::PathAnswer;
 ghost use mathlib.Core.Path.{_≡_};
 ghost use mathlib.Core.List.{List, _++_};
 ghost use Prim.Native.Nat.{ℕ, _+_, _<_, _≤_};
@@ -6,8 +7,9 @@ ghost use lib.ListN.{length, drop};
 ghost use Rattle.rules.specs.declared.Entry.{Entry};
 ghost use Rattle.rules.specs.Limits.{depthLimit};
 ghost use Rattle.rules.specs.State.{parentOf};
-ghost use Rattle.rules.specs.Lent.{steps};
+ghost use Rattle.rules.specs.Lent.{steps, pathInNumbers};
 ghost use Rattle.loaded.specs.Entries.{Enters, Entered};
+ghost use Rattle.path.specs.Finding.{Findable, foundIn, listedIn};
 
 // The parent of a listed certificate; 0 of another term.
 fn parent_of(tables: &[u16; tables::WORDS], words: &[u16; entries::WORDS], t: u16) -> u16
@@ -44,4 +46,28 @@ fn climb(
         i += 1;
     }
     list[i] = certificate;
+}
+
+// The path of a term by the ledger: its steps, with the list written; or 30.
+fn find(
+    tables: &[u16; tables::WORDS],
+    words: &[u16; entries::WORDS],
+    term: u16,
+    list: &mut [u16],
+) -> PathAnswer
+    requires { ⌜ Findable (now tables) (now words) (now list) ⌝ }
+    ensures answer { λ r. ⌜ ((n : ℕ) (ledger : List Entry) → Enters (now (tables .entry)) (now (words .entry)) n ledger → pathInNumbers r ≡ foundIn ledger term) ⌝ }
+    ensures left { λ _. ⌜ ((n : ℕ) (ledger : List Entry) → Enters (now (tables .entry)) (now (words .entry)) n ledger → now (list .exit) ≡ listedIn ledger term (now (list .entry))) ⌝ }
+{
+    let t = term as usize;
+    if rules::TERM_LIMIT <= t {
+        return PathAnswer::Refused(30, term as u32);
+    }
+    let entry = tables::entry_of(tables, t) as usize;
+    if entry == 0 {
+        return PathAnswer::Refused(30, term as u32);
+    }
+    let depth = entries::depth_of(words, entry - 1);
+    climb(tables, words, list, term, depth as usize);
+    PathAnswer::Steps(depth as u32)
 }
