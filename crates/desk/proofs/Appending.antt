@@ -1,5 +1,4 @@
 -- The ledger with an entry more.
---     entry-some, entry-most      the place of a listed certificate
 --     entry-appended              the places of a ledger with an entry more
 --     appended                    what writing the entry and its place leaves
 -- Assumes nothing.
@@ -20,29 +19,7 @@ use Rattle.entries.specs.Words.{ledgerWords, entriesIn, withEntry}
 use Rattle.entries.proofs.Words.{words-length, entries-length, entries-next, beyond-next}
 use Rattle.loaded.specs.Entries.{entryFrom, Enters}
 use Rattle.desk.specs.Appends.{Appends}
-use Rattle.desk.proofs.Entries.{listed-entry}
-
--- the place of an entry is in the ledger
-entry-bound : (es : List Entry) (i c : ℕ) → entryFrom i es c ≤ i + length es
-unfolding entryFrom
-entry-bound [] i c = omega arith
-entry-bound (e ∷ es) i c = go (eqb (e .certificate) c) (entry-bound es (suc i) c)
-  where
-    go : (b : Bool) → entryFrom (suc i) es c ≤ suc i + length es → cond b (suc i) (entryFrom (suc i) es c) ≤ i + suc (length es)
-    go true h = omega arith
-    go false h = omega arith
-
-module _ {tables words : List ℕ} {n : ℕ} {ledger : List Entry} (c : ℕ) (e : Enters tables words n ledger) where
-  ledger-length : length ledger ≡ n
-  ledger-length = ap length (e .same) ∙ entries-length words n
-
-  pub entry-most : tablesIn tables .entry c ≤ termLimit
-  entry-most = omega (arith, e .few, e .place c, entry-bound ledger 0 c, ledger-length)
-
-  pub entry-some : listed ledger c ≡ true → 0 < tablesIn tables .entry c
-  entry-some l =
-      let m = eqb-false (entryFrom 0 ledger c) 0 (not-true _ (sym (listed-entry ledger 0 c) ∙ l)) in
-      omega (arith, e .place c, m)
+use Rattle.loaded.proofs.Ledger.{ledger-length}
 
 entry-last : (es : List Entry) (i c : ℕ) (e : Entry) → e .certificate ≡ c → listed es c ≡ false → entryFrom i (es ++ (e ∷ [])) c ≡ suc (i + length es)
 unfolding entryFrom listed

@@ -37,8 +37,7 @@ use Rattle.loaded.proofs.Standing.{checked-here, term-here, kind-declared}
 use Rattle.desk.specs.Formed.{Formed}
 use Rattle.desk.specs.Tests.{calledTests, attestTests, parentageTests, entryTests}
 use Rattle.desk.proofs.Read.{kind-is, is-kind-kind, signature-kind, signature-message}
-use Rattle.entries.proofs.Words.{entries-length}
-use Rattle.desk.proofs.Entries.{listed-entry}
+use Rattle.loaded.proofs.Ledger.{entry-most, column-some}
 use Rattle.desk.proofs.Outcomes.{passed, has-form}
 
 -- the signature over the attest, the LAK and the parent certificate
@@ -93,39 +92,13 @@ module _ {bs s : List ℕ} {q : ℕ} (h : Holds bs s) (w : Asked (fileIn bs) q) 
   pub parent-is : kind (fileIn bs) (parentAt (fileIn bs) q) ≡ certificateKind
   parent-is = checked-here h .ldevidCertificateKind _ (w .body)
 
--- no place is beyond the entries
-entry-most : (es : List Entry) (i c : ℕ) → entryFrom i es c ≤ i + length es
-unfolding entryFrom
-entry-most [] i c = omega arith
-entry-most (e ∷ es) i c = go (eqb (e .certificate) c) (entry-most es (suc i) c)
-  where
-    go : (b : Bool) → entryFrom (suc i) es c ≤ suc i + length es → cond b (suc i) (entryFrom (suc i) es c) ≤ i + length (e ∷ es)
-    go true l = omega arith
-    go false l = omega arith
-
 pub parent-entered :
     (f : File) {tables words : List ℕ} {n : ℕ} {ledger : List Entry} (signature lak parent : ℕ) → Enters tables words n ledger → chain (parentageTests f ledger signature lak parent) ≡ 0
     → (0 < tablesIn tables .entry parent) × (tablesIn tables .entry parent ≤ termLimit)
-parent-entered f {tables} {words} {n} {ledger} signature lak parent e z = (positive (tablesIn tables .entry parent) refl, omega (arith, e .few, at, most, many))
-  where
-    at : tablesIn tables .entry parent ≡ entryFrom 0 ledger parent
-    at = e .place parent
-
-    most : entryFrom 0 ledger parent ≤ 0 + length ledger
-    most = entry-most ledger 0 parent
-
-    many : length ledger ≡ n
-    many = ap (λ (es : List Entry). length es) (e .same) ∙ entries-length words n
-
-    here-listed : listed ledger parent ≡ true
-    here-listed =
-        let a = passed 20 _ _ (omega arith) z in
-        let b = passed 21 _ _ (omega arith) (a .1) in
-        passed 22 _ _ (omega arith) (b .1) .0
-
-    positive : (x : ℕ) → tablesIn tables .entry parent ≡ x → 0 < x
-    positive (suc x) q = omega arith
-    positive zero q = absurd (false≢true (sym (ap not (eq-eqb (entryFrom 0 ledger parent) 0 (sym at ∙ q))) ∙ sym (listed-entry ledger 0 parent) ∙ here-listed))
+parent-entered f signature lak parent e z =
+    let a = passed 20 _ _ (omega arith) z in
+    let b = passed 21 _ _ (omega arith) (a .1) in
+    (column-some parent e (passed 22 _ _ (omega arith) (b .1) .0), entry-most parent e)
 
 module _ (f : File) (ys : List Test) where
   pub attest-goes : (t : ℕ) → chain (attestTests f t) ≡ 0 → chain (attestTests f t ++ ys) ≡ chain ys

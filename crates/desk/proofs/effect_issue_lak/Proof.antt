@@ -1,7 +1,7 @@
 use native.Mathlib.Omega.{arith}
 use borrow.Author.Needs.{needs}
 use Rattle.loaded.proofs.Standing.{checked-here, kind-declared, term-here, left-declared, ldevid-certificate-declared}
-use Rattle.desk.proofs.Appending.{entry-some, entry-most}
+use Rattle.loaded.proofs.Ledger.{entry-most, column-some}
 use Rattle.desk.proofs.Issued.{lak-accepted, lak-issued}
 use Rattle.desk.proofs.effect_issue_lak.Statement.{statement}
 use Rattle.desk.proofs.effect_issue_lak.Tie as tie
@@ -24,7 +24,7 @@ depth-of-requires c κs =
     let t = lak-accepted (p .2) in
     let few = checked-here (p .0) .fewTerms in
     let m = ldevid-certificate-declared (p .0) (left-declared (p .0) (p .1 .2) (t .pair)) (t .body) in
-    rw (c .before .before .ldevid-certificate-of .ensures, c .before .before .before .before .left-of .ensures) (omega (arith, few, m), entry-some _ (p .2 .enters) (t .parent), entry-most _ (p .2 .enters))
+    rw (c .before .before .ldevid-certificate-of .ensures, c .before .before .before .before .left-of .ensures) (omega (arith, few, m), column-some _ (p .2 .enters) (t .parent), entry-most _ (p .2 .enters))
 
 learn-requires : tie.Need-learn-requires
 learn-requires c κs =
