@@ -1,40 +1,33 @@
+use native.Mathlib.Omega.{arith}
 use borrow.Author.Needs.{needs}
+use Rattle.lookup.proofs.Left.{command-range}
 use Rattle.device.proofs.decide.Statement.{statement}
 use Rattle.device.proofs.decide.Tie as tie
 
--- src/lib.rt:482:16
 shared-slice-read-kind : tie.Need-shared-slice-read-kind
 shared-slice-read-kind c = search needs
 
--- src/lib.rt:486:17
 decide-sent-requires : tie.Need-decide-sent-requires
 decide-sent-requires c κs = search needs
 
--- src/lib.rt:484:24
 decide-made-requires : tie.Need-decide-made-requires
 decide-made-requires c κs = search needs
 
--- src/lib.rt:485:24
 decide-checked-requires : tie.Need-decide-checked-requires
 decide-checked-requires c κs = search needs
 
--- src/lib.rt:487:14
 decide-issued-requires : tie.Need-decide-issued-requires
-decide-issued-requires c κs = ?
+decide-issued-requires c κs = let p = c .before .before .before .before .before .pre in let l = command-range _ (p .2 .isCommand) in (p .0, p .2, omega arith)
 
--- src/lib.rt:478:1
 returns : tie.Need-returns
 returns c = search needs
 
--- src/lib.rt:478:1
 returns-2 : tie.Need-returns-2
 returns-2 c = search needs
 
--- src/lib.rt:478:1
 returns-3 : tie.Need-returns-3
 returns-3 c = search needs
 
--- src/lib.rt:478:1
 returns-4 : tie.Need-returns-4
 returns-4 c = search needs
 

@@ -1,50 +1,45 @@
+use mathlib.Core.Path.{refl}
+use Prim.Native.Nat.{_+_}
+use native.Mathlib.Omega.{arith}
 use borrow.Author.Needs.{needs}
+use Rattle.rules.specs.File.{send}
+use Rattle.lookup.proofs.Fields.{send-there}
+use Rattle.device.proofs.Read.{four-bytes, sent-bytes, two-read, known-as, decided-as}
 use Rattle.device.proofs.decide_sent.Statement.{statement}
 use Rattle.device.proofs.decide_sent.Tie as tie
 
--- src/lib.rt:461:22
 add-party : tie.Need-add-party
 add-party c = search needs
 
--- src/lib.rt:461:17
 shared-slice-read-party : tie.Need-shared-slice-read-party
-shared-slice-read-party c = ?
+shared-slice-read-party c = omega (arith, four-bytes (c .before .before .before .pre .1))
 
--- src/lib.rt:461:17
 cast-party : tie.Need-cast-party
-cast-party c = ?
+cast-party c = omega (arith, c .shared-slice-known3 .given (c .before .before .before .args .at + 1))
 
--- src/lib.rt:462:22
 add-other : tie.Need-add-other
 add-other c = search needs
 
--- src/lib.rt:462:17
 shared-slice-read-other : tie.Need-shared-slice-read-other
-shared-slice-read-other c = ?
+shared-slice-read-other c = omega (arith, four-bytes (c .before .before .before .before .pre .1))
 
--- src/lib.rt:462:17
 cast-other : tie.Need-cast-other
-cast-other c = ?
+cast-other c = omega (arith, c .shared-slice-known4 .given (c .before .before .before .before .args .at + 2))
 
--- src/lib.rt:463:36
 add-word-at : tie.Need-add-word-at
 add-word-at c = search needs
 
--- src/lib.rt:463:13
 word-at-requires : tie.Need-word-at-requires
-word-at-requires c κs = ?
+word-at-requires c κs = let p = c .before .before .before .before .pre in omega (arith, sent-bytes (p .1) (p .2))
 
--- src/lib.rt:463:13
 cast-t : tie.Need-cast-t
 cast-t c = search needs
 
--- src/lib.rt:464:5
 decide-send-requires : tie.Need-decide-send-requires
-decide-send-requires c κs = ?
+decide-send-requires c κs = let p = c .before .before .before .before .before .pre in (p .0, known-as (p .1) (two-read send (send-there _ _ (p .2)) refl (c .word-at .ensures)))
 
--- src/lib.rt:457:1
 returns : tie.Need-returns
-returns c = ?
+returns c = let p = c .before .before .before .before .before .before .pre in decided-as (p .1) (p .0) (two-read send (send-there _ _ (p .2)) refl (c .before .word-at .ensures)) (c .decide-send .ensures)
 
 pub decide-sent-spec : {M : Type 1} → statement M
 decide-sent-spec =

@@ -1,0 +1,50 @@
+-- A device command by its record in the file.
+--     four-bytes               its kind, party and two bytes more stand in the file
+--     sent-bytes, attributes-byte, check-bytes     and what 3C, 3B, and 38 to 3A have behind them
+--     one-read, two-read       a command by numbers that were read
+--     known-as                 what loading checked of the command, where its record reads as that command
+--     decided-as               what it decides
+-- Assumes nothing.
+use mathlib.Core.Path.{_≡_, refl, sym, ap, ap₂, subst, subst⁻¹, _∙_}
+use mathlib.Core.List.{List}
+use Prim.Native.Nat.{ℕ, _+_, _<_, _≤_}
+use native.Mathlib.Omega.{arith}
+use lib.ListN.{length}
+use Rattle.rules.specs.Record.{sectionOf, fieldsOf, bodyLength, width, widths}
+use Rattle.rules.specs.File.{Command}
+use Rattle.theorems.proofs.Loading.{Wellformed}
+use Rattle.records.proofs.EachKind.{agree}
+use Rattle.learning.specs.There.{kindThere}
+use Rattle.lookup.specs.There.{commandThere}
+use Rattle.lookup.specs.Commands.{CommandAt}
+use Rattle.lookup.proofs.Left.{command-long}
+use Rattle.lookup.proofs.Fields.{command-ends}
+use Rattle.loaded.specs.Loaded.{fileIn, Holds, Decides}
+
+pub one-read : (make : ℕ → ℕ → Command) {c : Command} {p m r : ℕ} → c ≡ make p m → r ≡ m → c ≡ make p r
+one-read make {p = p} e h = e ∙ ap (make p) (sym h)
+
+pub two-read : (make : ℕ → ℕ → ℕ → Command) {c : Command} {p m n r t : ℕ} → c ≡ make p m n → r ≡ m → t ≡ n → c ≡ make p r t
+two-read make {p = p} e h i = e ∙ ap₂ (make p) (sym h) (sym i)
+
+module _ {bs : List ℕ} {at : ℕ} (w : CommandAt (Wellformed (fileIn bs)) bs at) where
+  pub four-bytes : at + 3 < length bs
+  four-bytes = omega (arith, command-long bs at (w .isCommand), w .whole .whole)
+
+  pub sent-bytes : kindThere bs at ≡ 0x3C → at + 4 < length bs
+  unfolding bodyLength widths width fieldsOf sectionOf
+  sent-bytes e = omega (arith, command-ends bs at 0x3C e (w .whole))
+
+  pub attributes-byte : kindThere bs at ≡ 0x3B → at + 4 < length bs
+  unfolding bodyLength widths width fieldsOf sectionOf
+  attributes-byte e = omega (arith, command-ends bs at 0x3B e (w .whole))
+
+  pub check-bytes : 0x38 ≤ kindThere bs at → kindThere bs at < 0x3B → at + 5 < length bs
+  unfolding bodyLength widths width fieldsOf sectionOf
+  check-bytes l h = omega (arith, command-ends bs at (kindThere bs at) refl (w .whole), agree bodyLength (λ k. 5) 0x38 3 refl (kindThere bs at) l h)
+
+  pub known-as : {c : Command} → commandThere bs at ≡ c → Wellformed (fileIn bs) c
+  known-as e = subst (Wellformed (fileIn bs)) e (w .known)
+
+  pub decided-as : {s : List ℕ} {x : ℕ} {c : Command} → Holds bs s → commandThere bs at ≡ c → Decides bs s c x → Decides bs s (commandThere bs at) x
+  decided-as {s} {x} h e d = subst⁻¹ (λ (c : Command). Decides bs s c x) e d
