@@ -1,3 +1,3 @@
 pub mod Outcomes
-pub mod Effects
 pub mod Read
+pub mod Effects

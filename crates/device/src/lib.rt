@@ -480,10 +480,68 @@ pub fn decide(file: &[u8], state: &[u8], tables: &[u16; tables::WORDS], at: usiz
     ensures { λ x. ⌜ Decides (now (file .entry)) (now (state .entry)) (commandThere (now (file .entry)) at) x ⌝ }
 {
     let kind = file[at];
-    match kind {
-        0x30..=0x37 => decide_made(file, state, tables, at, kind),
-        0x38..=0x3B => decide_checked(file, state, tables, at, kind),
-        0x3C => decide_sent(file, state, at),
-        _ => decide_issued(file, state, at),
+    if kind < 0x38 {
+        return decide_made(file, state, tables, at, kind);
     }
+    if kind < 0x3C {
+        return decide_checked(file, state, tables, at, kind);
+    }
+    if kind == 0x3C {
+        return decide_sent(file, state, at);
+    }
+    decide_issued(file, state, at)
+}
+
+// What 30 to 37 leave, by the record: the party learns what it made.
+fn effect_made(file: &[u8], state: &mut [u8], at: usize, kind: u8)
+    requires { ⌜ Holds (now file) (now state) × CommandAt (Wellformed (fileIn (now file))) (now file) at × (kindThere (now file) at ≡ kind) × (0x30 ≤ kind) × (kind ≤ 0x37) ⌝ }
+    ensures { λ _. ⌜ Leaves (now (file .entry)) (now (state .entry)) (now (state .exit)) (commandThere (now (file .entry)) at) ⌝ }
+{
+    let party = file[at + 1] as usize;
+    let r = records::word_at(file, at + 2) as usize;
+    match kind {
+        0x30 => effect_hash(file, state, party, r),
+        0x34 => effect_activate(file, state, party, r),
+        _ => loaded::learn(file, state, party, r),
+    }
+}
+
+// What 3C leaves, by the record: the other party learns the term.
+fn effect_sent(file: &[u8], state: &mut [u8], at: usize)
+    requires { ⌜ Holds (now file) (now state) × CommandAt (Wellformed (fileIn (now file))) (now file) at × (kindThere (now file) at ≡ 0x3C) ⌝ }
+    ensures { λ _. ⌜ Leaves (now (file .entry)) (now (state .entry)) (now (state .exit)) (commandThere (now (file .entry)) at) ⌝ }
+{
+    let other = file[at + 2] as usize;
+    let t = records::word_at(file, at + 3) as usize;
+    loaded::learn(file, state, other, t);
+}
+
+// What 3D leaves, by the record: the party learns the certificate.
+fn effect_issued(file: &[u8], state: &mut [u8], at: usize)
+    requires { ⌜ Holds (now file) (now state) × CommandAt (Wellformed (fileIn (now file))) (now file) at × (kindThere (now file) at ≡ 0x3D) ⌝ }
+    ensures { λ _. ⌜ Leaves (now (file .entry)) (now (state .entry)) (now (state .exit)) (commandThere (now (file .entry)) at) ⌝ }
+{
+    let party = file[at + 1] as usize;
+    let r = records::word_at(file, at + 2) as usize;
+    loaded::learn(file, state, party, r);
+}
+
+// What the device command at a place leaves, where it is accepted; checks leave nothing.
+pub fn effect(file: &[u8], state: &mut [u8], at: usize)
+    requires { ⌜ Holds (now file) (now state) × CommandAt (Wellformed (fileIn (now file))) (now file) at × (kindThere (now file) at < 0x3E) ⌝ }
+    ensures { λ _. ⌜ Leaves (now (file .entry)) (now (state .entry)) (now (state .exit)) (commandThere (now (file .entry)) at) ⌝ }
+{
+    let kind = file[at];
+    if kind < 0x38 {
+        effect_made(file, state, at, kind);
+        return;
+    }
+    if kind < 0x3C {
+        return;
+    }
+    if kind == 0x3C {
+        effect_sent(file, state, at);
+        return;
+    }
+    effect_issued(file, state, at);
 }

@@ -1,3 +1,4 @@
+use mathlib.Core.Path.{refl}
 use native.Mathlib.Omega.{arith}
 use borrow.Author.Needs.{needs}
 use Rattle.lookup.proofs.Left.{command-range}
@@ -7,26 +8,26 @@ use Rattle.device.proofs.decide.Tie as tie
 shared-slice-read-kind : tie.Need-shared-slice-read-kind
 shared-slice-read-kind c = search needs
 
-decide-sent-requires : tie.Need-decide-sent-requires
-decide-sent-requires c κs = search needs
-
 decide-made-requires : tie.Need-decide-made-requires
-decide-made-requires c κs = search needs
-
-decide-checked-requires : tie.Need-decide-checked-requires
-decide-checked-requires c κs = search needs
-
-decide-issued-requires : tie.Need-decide-issued-requires
-decide-issued-requires c κs = let p = c .before .before .before .before .before .pre in let l = command-range _ (p .2 .isCommand) in (p .0, p .2, omega arith)
+decide-made-requires c κs = let p = c .before .before .before .before .pre in (p .0, p .1, p .2, refl, command-range _ (p .2 .isCommand) .0, omega arith)
 
 returns : tie.Need-returns
 returns c = search needs
 
+decide-checked-requires : tie.Need-decide-checked-requires
+decide-checked-requires c κs = search needs
+
 returns-2 : tie.Need-returns-2
 returns-2 c = search needs
 
+decide-sent-requires : tie.Need-decide-sent-requires
+decide-sent-requires c κs = search needs
+
 returns-3 : tie.Need-returns-3
 returns-3 c = search needs
+
+decide-issued-requires : tie.Need-decide-issued-requires
+decide-issued-requires c κs = search needs
 
 returns-4 : tie.Need-returns-4
 returns-4 c = search needs
@@ -36,11 +37,11 @@ decide-spec =
     tie.close
     (tie.spec
     shared-slice-read-kind
-    decide-sent-requires
     decide-made-requires
-    decide-checked-requires
-    decide-issued-requires
     returns
+    decide-checked-requires
     returns-2
+    decide-sent-requires
     returns-3
+    decide-issued-requires
     returns-4)
