@@ -2,3 +2,4 @@ pub mod Formed
 pub mod Tests
 pub mod Appends
 pub mod Issues
+pub mod Dispatch

@@ -21,6 +21,9 @@ ghost use Rattle.state.proofs.Exact.{stateOf};
 ghost use Rattle.setup.specs.Allowed.{noKey};
 ghost use Rattle.tables.specs.Regions.{tableWords, tablesIn};
 ghost use Rattle.entries.specs.Words.{ledgerWords};
+ghost use Rattle.learning.specs.There.{kindThere};
+ghost use Rattle.lookup.specs.There.{commandThere};
+ghost use Rattle.lookup.specs.Commands.{CommandAt};
 ghost use Rattle.loaded.specs.Chain.{chain};
 ghost use Rattle.loaded.specs.Loaded.{fileIn, Holds, Finds, PartyHere, TermHere, Decides, Leaves};
 ghost use Rattle.loaded.specs.Entries.{Enters, Entered, DecidesListed, DecidesBy, Accepts, Issues};
@@ -28,6 +31,7 @@ ghost use Rattle.desk.specs.Formed.{Formed, Requested};
 ghost use Rattle.desk.specs.Tests.{endorsementTests, credentialTests, calledTests, attestTests, parentageTests, entryTests};
 ghost use Rattle.desk.specs.Appends.{Appends};
 ghost use Rattle.desk.specs.Issues.{IssuesIak};
+ghost use Rattle.desk.specs.Dispatch.{OpenRequested, DeskEffectReady, DeskLeaves};
 
 // Roles of desks.
 const OEM_DESK: u8 = 2;
@@ -575,4 +579,62 @@ pub fn effect_issue_lak(
     let depth = depth_of(tables, words, parent);
     loaded::learn(file, state, party, r);
     append(tables, words, n, r, parent, depth + 1);
+}
+
+// What the desk command at a place decides.
+pub fn decide(
+    file: &[u8],
+    state: &[u8],
+    tables: &[u16; tables::WORDS],
+    words: &[u16; entries::WORDS],
+    parties: usize,
+    at: usize,
+) -> u8
+    requires { ⌜ Holds (now file) (now state) × Finds (now file) (now tables) × (parties ≡ length (fileIn (now file) .roles)) × CommandAt (Wellformed (fileIn (now file))) (now file) at × (0x3D < kindThere (now file) at) × Entered (now tables) (now words) × OpenRequested (now file) (now state) ⌝ }
+    ensures { λ x. ⌜ DecidesBy (now (file .entry)) (now (state .entry)) (now (tables .entry)) (now (words .entry)) (commandThere (now (file .entry)) at) x ⌝ }
+{
+    let kind = file[at];
+    let party = file[at + 1] as usize;
+    if kind == 0x3F {
+        let other = file[at + 2] as usize;
+        let c = records::word_at(file, at + 3) as usize;
+        let r = records::word_at(file, at + 5) as usize;
+        return decide_issue_iak(file, state, tables, party, other, c, r);
+    }
+    let q = records::word_at(file, at + 2) as usize;
+    let r = records::word_at(file, at + 4) as usize;
+    if kind == 0x3E {
+        return decide_challenge(file, state, tables, parties, party, q, r);
+    }
+    decide_issue_lak(file, state, tables, words, parties, party, q, r)
+}
+
+// What the desk command at a place leaves, where it is accepted. Answers how many entries the ledger has then.
+pub fn effect(
+    file: &[u8],
+    state: &mut [u8],
+    tables: &mut [u16; tables::WORDS],
+    words: &mut [u16; entries::WORDS],
+    entries: usize,
+    at: usize,
+) -> usize
+    requires { ⌜ DeskEffectReady (now file) (now state) (now tables) (now words) entries at ⌝ }
+    ensures { λ r. ⌜ DeskLeaves (now (file .entry)) (now (state .entry)) (now (tables .entry)) (now (words .entry)) entries (commandThere (now (file .entry)) at) (now (state .exit)) (now (tables .exit)) (now (words .exit)) r ⌝ }
+{
+    let kind = file[at];
+    let party = file[at + 1] as usize;
+    if kind == 0x3F {
+        let c = records::word_at(file, at + 3) as usize;
+        let r = records::word_at(file, at + 5) as usize;
+        effect_issue_iak(file, state, tables, words, entries, party, c, r);
+        return entries + 1;
+    }
+    let q = records::word_at(file, at + 2) as usize;
+    let r = records::word_at(file, at + 4) as usize;
+    if kind == 0x3E {
+        effect_challenge(file, state, party, q, r);
+        return entries;
+    }
+    effect_issue_lak(file, state, tables, words, entries, party, q, r);
+    entries + 1
 }
