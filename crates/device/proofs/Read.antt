@@ -42,9 +42,9 @@ module _ {bs : List ℕ} {at : ℕ} (w : CommandAt (Wellformed (fileIn bs)) bs a
       let size = bodyLength (kindThere bs at) in
       let b = take size (drop (at + 1) bs) in
       let g =
-          each (λ k. Wellformed (fileIn bs) (commandAt k b) → (getD b 0 0 < length (fileIn bs .roles)) × (word b 1 < length (fileIn bs .terms))) 8 0x30
-          ((λ g. (g .0, g .2)), ((λ g. (g .0, kind-declared bs (g .1) (λ q. omega arith))), ((λ g. (g .0, kind-declared bs (g .1) (λ q. omega arith))), ((λ g. (g .0, kind-declared bs (g .1) (λ q. omega arith))), ((λ g. (g .0, kind-declared bs (g .1) (λ q. omega arith))), ((λ g. (g .0, kind-declared bs (g .1) (λ q. omega arith))), ((λ g. (g .0, kind-declared bs (g .1) (λ q. omega arith))), ((λ g. (g .0, kind-declared bs (g .1) (λ q. omega arith))), tt))))))))
-          (kindThere bs at) l (omega arith) (w .known) in
+      each (λ k. Wellformed (fileIn bs) (commandAt k b) → (getD b 0 0 < length (fileIn bs .roles)) × (word b 1 < length (fileIn bs .terms))) 8 0x30
+      ((λ g. (g .0, g .2)), ((λ g. (g .0, kind-declared bs (g .1) (λ q. omega arith))), ((λ g. (g .0, kind-declared bs (g .1) (λ q. omega arith))), ((λ g. (g .0, kind-declared bs (g .1) (λ q. omega arith))), ((λ g. (g .0, kind-declared bs (g .1) (λ q. omega arith))), ((λ g. (g .0, kind-declared bs (g .1) (λ q. omega arith))), ((λ g. (g .0, kind-declared bs (g .1) (λ q. omega arith))), ((λ g. (g .0, kind-declared bs (g .1) (λ q. omega arith))), tt))))))))
+      (kindThere bs at) l (omega arith) (w .known) in
       rw (byte-at bs at size 0 (omega (arith, three-bytes w)), word-at bs at size 1 (omega (arith, three-bytes w))) at g
 
   pub decided-as : {s : List ℕ} {x : ℕ} {c : Command} → Holds bs s → commandThere bs at ≡ c → Decides bs s c x → Decides bs s (commandThere bs at) x

@@ -405,13 +405,7 @@ pub fn effect_activate(file: &[u8], state: &mut [u8], party: usize, r: usize)
 }
 
 // 30 to 37, by the record: a party and what it makes.
-fn decide_made(
-    file: &[u8],
-    state: &[u8],
-    tables: &[u16; tables::WORDS],
-    at: usize,
-    kind: u8,
-) -> u8
+fn decide_made(file: &[u8], state: &[u8], tables: &[u16; tables::WORDS], at: usize, kind: u8) -> u8
     requires { ⌜ Holds (now file) (now state) × Finds (now file) (now tables) × CommandAt (Wellformed (fileIn (now file))) (now file) at × (kindThere (now file) at ≡ kind) × (0x30 ≤ kind) × (kind ≤ 0x37) ⌝ }
     ensures { λ x. ⌜ Decides (now (file .entry)) (now (state .entry)) (commandThere (now (file .entry)) at) x ⌝ }
 {
