@@ -1,4 +1,9 @@
 -- What an accepted device command leaves: what its party learns, and for 30 the TPM table.
+--     self-issue-left, send-left        3D, 3C
+--     attest-hashed, hash-ticketed      30 of an attest, and of another term
+--     activate-left                     34
+--     left-as                           by the record, as the command that was read
+--     checks-left, made-left            by the record: 38 to 3B; 31 to 33 and 35 to 37
 -- Assumes nothing.
 use mathlib.Core.Path.{_≡_, refl, sym, ap, ap₂, subst, subst⁻¹, _∙_}
 use mathlib.Core.Bool.{Bool, true, false, cond, _||_}
@@ -22,10 +27,10 @@ use Rattle.learning.specs.There.{kindThere}
 use Rattle.learning.proofs.Words.{byte-at, word-at}
 use Rattle.lookup.specs.There.{commandThere}
 use Rattle.lookup.specs.Commands.{CommandAt}
+use Rattle.lookup.proofs.Fields.{three-bytes}
 use Rattle.state.specs.View.{Columns, view, withTable}
 use Rattle.state.proofs.Exact.{stateOf}
 use Rattle.loaded.specs.Loaded.{fileIn, Learns, Leaves}
-use Rattle.device.proofs.Read.{three-bytes}
 
 module _ {bs s s′ : List ℕ} {p r : ℕ} (w : Learns bs s s′ p r) where
   pub self-issue-left : Leaves bs s s′ (selfIssue p r)

@@ -1,10 +1,12 @@
 -- The command of a record by the bytes where they stand.
 --     hash-there to issue-lak-there   the command of a record, one law a kind
 --     command-ends                    where the record of a command ends in the file
+--     three-bytes, four-bytes         its body has three bytes at least, its record four
+--     one-read, two-read, known-as    the command by numbers that were read, and what is known of it
 -- Assumes nothing.
-use mathlib.Core.Path.{_≡_, refl, ap₂, _∙_}
+use mathlib.Core.Path.{_≡_, refl, sym, ap, ap₂, subst, _∙_}
 use mathlib.Core.List.{List}
-use Prim.Native.Nat.{ℕ, _+_, _≤_}
+use Prim.Native.Nat.{ℕ, _+_, _<_, _≤_}
 use native.Mathlib.Omega.{arith}
 use lib.ListN.{length, getD, take, drop}
 use Rattle.rules.specs.Record.{sectionOf, fieldsOf, bodyLength, width, widths, word}
@@ -14,6 +16,8 @@ use Rattle.learning.specs.There.{kindThere}
 use Rattle.learning.proofs.Words.{byte-at, word-at}
 use Rattle.reader.specs.Place.{nextPlace, RecordAt}
 use Rattle.lookup.specs.There.{commandThere}
+use Rattle.lookup.specs.Commands.{CommandAt}
+use Rattle.lookup.proofs.Left.{command-long}
 
 module _ (bs : List ℕ) (at : ℕ) where
   -- a record that stands in the file ends in it
@@ -101,3 +105,21 @@ module _ (bs : List ℕ) (at : ℕ) where
   pub issue-lak-there : kindThere bs at ≡ 0x40 → commandThere bs at ≡ issueLak (getD bs (at + 1) 0) (word bs (at + 2)) (word bs (at + 4))
   unfolding commandAt bodyLength widths width fieldsOf sectionOf
   issue-lak-there = two-terms 0x40 issueLak refl (λ b. refl)
+
+-- a command by numbers that were read
+pub one-read : (make : ℕ → ℕ → Command) {c : Command} {p m r : ℕ} → c ≡ make p m → r ≡ m → c ≡ make p r
+one-read make {p = p} e h = e ∙ ap (make p) (sym h)
+
+pub two-read : (make : ℕ → ℕ → ℕ → Command) {c : Command} {p m n r t : ℕ} → c ≡ make p m n → r ≡ m → t ≡ n → c ≡ make p r t
+two-read make {p = p} e h i = e ∙ ap₂ (make p) (sym h) (sym i)
+
+module _ {P : Command → Type 0} {bs : List ℕ} {at : ℕ} (w : CommandAt P bs at) where
+  pub three-bytes : 2 < bodyLength (kindThere bs at)
+  unfolding nextPlace
+  three-bytes = omega (arith, command-long bs at (w .isCommand))
+
+  pub four-bytes : at + 3 < length bs
+  four-bytes = omega (arith, command-long bs at (w .isCommand), w .whole .whole)
+
+  pub known-as : {c : Command} → commandThere bs at ≡ c → P c
+  known-as e = subst P e (w .known)

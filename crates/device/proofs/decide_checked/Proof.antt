@@ -4,8 +4,8 @@ use native.Mathlib.Omega.{arith}
 use borrow.Author.Needs.{needs}
 use Rattle.rules.specs.File.{checkHash, checkSignature, checkCertificate, checkAttributes}
 use Rattle.records.proofs.Lengths.{last-kind}
-use Rattle.lookup.proofs.Fields.{check-hash-there, check-signature-there, check-certificate-there, check-attributes-there}
-use Rattle.device.proofs.Read.{four-bytes, attributes-byte, check-bytes, two-read, known-as, decided-as}
+use Rattle.lookup.proofs.Fields.{check-hash-there, check-signature-there, check-certificate-there, check-attributes-there, four-bytes, two-read, known-as}
+use Rattle.device.proofs.Read.{five-bytes, six-bytes, decided-as}
 use Rattle.device.proofs.decide_checked.Statement.{statement}
 use Rattle.device.proofs.decide_checked.Tie as tie
 
@@ -31,7 +31,7 @@ add-decide-check-attributes : tie.Need-add-decide-check-attributes
 add-decide-check-attributes c = search needs
 
 shared-slice-read-decide-check-attributes : tie.Need-shared-slice-read-decide-check-attributes
-shared-slice-read-decide-check-attributes c = let p = c .before .before .before .before .before .before .pre in attributes-byte (p .2) (p .3 ∙ c .before .if1 .taken)
+shared-slice-read-decide-check-attributes c = let p = c .before .before .before .before .before .before .pre in five-bytes (p .2) (omega arith) (omega arith)
 
 decide-check-attributes-requires : tie.Need-decide-check-attributes-requires
 decide-check-attributes-requires c κs = let p = c .before .before .before .before .before .before .pre in (p .0, known-as (p .2) (two-read checkAttributes (check-attributes-there _ _ (p .3 ∙ c .before .if1 .taken)) (c .before .before .word-at .ensures) refl))
@@ -43,7 +43,7 @@ add-word-at-2 : tie.Need-add-word-at-2
 add-word-at-2 c = search needs
 
 word-at-requires-2 : tie.Need-word-at-requires-2
-word-at-requires-2 c κs = let p = c .before .before .before .before .before .pre in omega (arith, check-bytes (p .2) (omega arith) (omega arith))
+word-at-requires-2 c κs = let p = c .before .before .before .before .before .pre in omega (arith, six-bytes (p .2) (omega arith) (omega arith))
 
 cast-u : tie.Need-cast-u
 cast-u c = search needs

@@ -2,8 +2,8 @@ use Prim.Native.Nat.{_+_}
 use native.Mathlib.Omega.{arith}
 use borrow.Author.Needs.{needs}
 use Rattle.rules.specs.File.{selfIssue}
-use Rattle.lookup.proofs.Fields.{self-issue-there}
-use Rattle.device.proofs.Read.{four-bytes, one-read, known-as, decided-as}
+use Rattle.lookup.proofs.Fields.{self-issue-there, four-bytes, one-read, known-as}
+use Rattle.device.proofs.Read.{decided-as}
 use Rattle.device.proofs.decide_issued.Statement.{statement}
 use Rattle.device.proofs.decide_issued.Tie as tie
 

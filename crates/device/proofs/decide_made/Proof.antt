@@ -4,8 +4,8 @@ use native.Mathlib.Omega.{arith}
 use borrow.Author.Needs.{needs}
 use Rattle.rules.specs.File.{hash, sign, certify, makeCredential, activateCredential, makeIdevidRequest, makeLdevidRequest, makePair}
 use Rattle.records.proofs.Lengths.{last-kind}
-use Rattle.lookup.proofs.Fields.{hash-there, sign-there, certify-there, make-credential-there, activate-there, idevid-request-there, ldevid-request-there, pair-there}
-use Rattle.device.proofs.Read.{four-bytes, one-read, known-as, decided-as}
+use Rattle.lookup.proofs.Fields.{hash-there, sign-there, certify-there, make-credential-there, activate-there, idevid-request-there, ldevid-request-there, pair-there, four-bytes, one-read, known-as}
+use Rattle.device.proofs.Read.{decided-as}
 use Rattle.device.proofs.decide_made.Statement.{statement}
 use Rattle.device.proofs.decide_made.Tie as tie
 

@@ -3,8 +3,8 @@ use Prim.Native.Nat.{_+_}
 use native.Mathlib.Omega.{arith}
 use borrow.Author.Needs.{needs}
 use Rattle.rules.specs.File.{send}
-use Rattle.lookup.proofs.Fields.{send-there}
-use Rattle.device.proofs.Read.{four-bytes, sent-bytes, two-read, known-as, decided-as}
+use Rattle.lookup.proofs.Fields.{send-there, four-bytes, two-read, known-as}
+use Rattle.device.proofs.Read.{five-bytes, decided-as}
 use Rattle.device.proofs.decide_sent.Statement.{statement}
 use Rattle.device.proofs.decide_sent.Tie as tie
 
@@ -30,7 +30,7 @@ add-word-at : tie.Need-add-word-at
 add-word-at c = search needs
 
 word-at-requires : tie.Need-word-at-requires
-word-at-requires c κs = let p = c .before .before .before .before .pre in omega (arith, sent-bytes (p .1) (p .2))
+word-at-requires c κs = let p = c .before .before .before .before .pre in omega (arith, five-bytes (p .1) (omega arith) (omega arith))
 
 cast-t : tie.Need-cast-t
 cast-t c = search needs

@@ -2,9 +2,8 @@ use Prim.Native.Nat.{_+_}
 use native.Mathlib.Omega.{arith}
 use borrow.Author.Needs.{needs}
 use Rattle.rules.specs.File.{selfIssue}
-use Rattle.lookup.proofs.Fields.{self-issue-there}
+use Rattle.lookup.proofs.Fields.{self-issue-there, four-bytes, one-read, known-as}
 use Rattle.loaded.proofs.Standing.{kind-declared}
-use Rattle.device.proofs.Read.{four-bytes, one-read, known-as}
 use Rattle.device.proofs.Effects.{self-issue-left, left-as}
 use Rattle.device.proofs.effect_issued.Statement.{statement}
 use Rattle.device.proofs.effect_issued.Tie as tie

@@ -3,8 +3,8 @@ use Prim.Native.Nat.{_+_}
 use native.Mathlib.Omega.{arith}
 use borrow.Author.Needs.{needs}
 use Rattle.rules.specs.File.{hash, activateCredential}
-use Rattle.lookup.proofs.Fields.{hash-there, activate-there}
-use Rattle.device.proofs.Read.{four-bytes, one-read, made-known, known-as}
+use Rattle.lookup.proofs.Fields.{hash-there, activate-there, four-bytes, one-read, known-as}
+use Rattle.device.proofs.Read.{made-known}
 use Rattle.device.proofs.Effects.{left-as, made-left}
 use Rattle.device.proofs.effect_made.Statement.{statement}
 use Rattle.device.proofs.effect_made.Tie as tie
