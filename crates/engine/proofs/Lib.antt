@@ -1,1 +1,5 @@
 pub mod Turns
+pub mod KeptStart
+pub mod Started
+pub mod Ended
+pub mod Written
