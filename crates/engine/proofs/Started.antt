@@ -24,8 +24,8 @@ use Rattle.loaded.specs.Loaded.{fileIn}
 use Rattle.loaded.specs.Entries.{entryFrom, Enters}
 use Rattle.loaded.proofs.Filled.{file-is, filled-holds, filled-finds}
 use Rattle.commands.specs.Standing.{stateIn, Kept, Stands}
+use Rattle.commands.proofs.Keeping.{kept-start}
 use Rattle.engine.specs.Turns.{RunReady}
-use Rattle.engine.proofs.KeptStart.{kept-start}
 
 none-entered : (c : ℕ) → 0 ≡ entryFrom 0 [] c
 unfolding entryFrom
@@ -56,7 +56,7 @@ module _ {bs s tables : List ℕ} {r : Scanned} (w : Filled bs s tables r) where
         holds = h;
         finds = filled-finds w;
         enters = enters-none tables words z (w .tabled .entry);
-        kept = subst⁻¹ (Kept (fileIn bs)) (state-start words) (kept-start (fileIn bs) (checked bs (fileIn bs) (h .loads)));
+        kept = subst⁻¹ (Kept (fileIn bs)) (state-start words) (kept-start (checked bs (fileIn bs) (h .loads)));
       }
 
   ready : length bs ≤ fileLimit → length s ≡ stateBytes → (words : List ℕ) → words ≡ replicate ledgerWords 0 → (out : List ℕ) → commandLimit ≤ length out
