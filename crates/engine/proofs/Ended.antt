@@ -1,5 +1,7 @@
 -- After the last command: what the loop over commands leaves in the first parts is what the rules say of a run.
 --     counts-fit, place-fits       the numbers of an answer are small
+--     ledger-none                  words of no entry
+--     answered-refused             the answer of a refusal
 --     parts-ran, parts-refused     a run; a refusal of loading
 -- Assumes nothing.
 use mathlib.Core.Path.{_≡_, refl, sym, ap, subst, _∙_}
@@ -12,8 +14,6 @@ use lib.Dec.{eqb, ltb}
 use lib.ListN.{length, getD, drop, replicate, length-replicate}
 use lib.Seq.{sets, sets-eq}
 use borrow.Author.Tests.{ltb-true}
-use Rattle.rules.specs.declared.Entry.{Entry}
-use Rattle.rules.specs.declared.RunAnswer.{RunAnswer}
 use Rattle.rules.specs.declared.RunAnswer.the-variants.{Ran, Refused}
 use Rattle.rules.specs.Limits.{fileLimit, rowWidth, termLimit, commandLimit, stateBytes}
 use Rattle.rules.specs.Record.{sectionOf, commandSection}
@@ -127,7 +127,7 @@ module _ (n number place : ℕ) where
   unfolding entriesAfter
   entries-refused = refl
 
-  answered-refused : runInNumbers (Refused number place) ≡ answered n (refused number place)
+  pub answered-refused : runInNumbers (Refused number place) ≡ answered n (refused number place)
   unfolding runInNumbers answered
   answered-refused = refl
 

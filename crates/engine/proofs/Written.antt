@@ -1,62 +1,46 @@
 -- Run by its cases: too short a buffer, too long a file, and the first parts written.
---     enough-is                                         the engine's test is the rules'
---     not-true, not-false                               tests the other way round
---     state-long, outcomes-long                         what the test says
---     refused-1, refused-2, refused-left, ran-parts     the promise in each case
+--     enough-is                      the engine's test is the rules'
+--     state-long, outcomes-long      what the test says
+--     refused-1, refused-2           the promise where nothing is written
+--     ran-parts                      the promise where the first parts are
+--     refused-left, left-parts       what stands after a run
 -- Assumes nothing.
-use mathlib.Core.Path.{_≡_, refl, sym, ap, subst, subst⁻¹, _∙_}
-use mathlib.Core.Bool.{Bool, true, false, not, _&&_}
+use mathlib.Core.Path.{_≡_, refl, sym, ap, subst⁻¹, _∙_}
+use mathlib.Core.Bool.{Bool, true, false, _&&_}
 use mathlib.Core.List.{List, [], _++_, append-assoc}
 use Prim.Native.Nat.{ℕ, _-_, _<_, _≤_}
 use native.Mathlib.Omega.{arith}
-use lib.Dec.{T, leb, leb→le}
+use lib.Dec.{leb}
 use lib.ListN.{length, take, drop, replicate}
 use lib.Seq.{take-at}
-use borrow.Author.Tests.{le-leb, lt-leb}
+use borrow.Author.Tests.{le-leb, lt-leb, leb-true}
 use Rattle.rules.specs.declared.Entry.{Entry}
 use Rattle.rules.specs.declared.RunAnswer.{RunAnswer}
 use Rattle.rules.specs.declared.RunAnswer.the-variants.{Refused}
 use Rattle.rules.specs.Limits.{fileLimit, termLimit, commandLimit, stateBytes}
 use Rattle.rules.specs.Load.{Load, loaded, refused, load}
 use Rattle.rules.specs.Lent.{Lent, refusal, longEnough, firstPart, written, leaves, runInNumbers, answered, runAnswer, runLeaves}
+use Rattle.theorems.proofs.Booleans.{and-true}
 use Rattle.entries.specs.Words.{ledgerWords, ledgerOf}
-use Rattle.engine.specs.declared.Answered.{Answered}
 use Rattle.engine.specs.Runs.{roomy, lentWith, writes, rowsAfter, outcomesAfter, entriesAfter, gained, placesOf, part, PartsRan, Left, Ran}
-use Rattle.engine.proofs.Ended.{ledger-none}
+use Rattle.engine.proofs.Ended.{ledger-none, answered-refused}
 
 -- the engine's test is the rules'
 pub enough-is : (state outcomes : List ℕ) (l : List Entry) (room : ℕ) → length l ≡ room → longEnough (lentWith state l outcomes) ≡ roomy (length state) room (length outcomes)
 unfolding longEnough
 enough-is state outcomes l room e = ap (λ (m : ℕ). leb stateBytes (length state) && leb termLimit m && leb commandLimit (length outcomes)) e
 
--- ---- tests
-both-true : (a b : Bool) → a && b ≡ true → (a ≡ true) × (b ≡ true)
-both-true true true e = (refl, refl)
-both-true true false e = (refl, e)
-both-true false b e = (e, absurd (subst T (sym e) tt))
-
 second-fails : (a b : Bool) → b ≡ false → a && b ≡ false
 second-fails true b e = e
 second-fails false b e = refl
 
-at-most : (m n : ℕ) → leb m n ≡ true → m ≤ n
-at-most m n e = leb→le m n (subst T (sym e) tt)
-
-pub not-true : (b : Bool) → not b ≡ true → b ≡ false
-not-true true e = sym e
-not-true false e = refl
-
-pub not-false : (b : Bool) → not b ≡ false → b ≡ true
-not-false true e = refl
-not-false false e = sym e
-
 -- the engine's test says that each is long enough
 module _ (state room outcomes : ℕ) (e : roomy state room outcomes ≡ true) where
   pub state-long : stateBytes ≤ state
-  state-long = at-most stateBytes state (both-true (leb stateBytes state) (leb termLimit room) (both-true (leb stateBytes state && leb termLimit room) (leb commandLimit outcomes) e .0) .0)
+  state-long = leb-true stateBytes state (and-true (leb stateBytes state) (leb termLimit room) (and-true (leb stateBytes state && leb termLimit room) (leb commandLimit outcomes) e .0) .0)
 
   pub outcomes-long : commandLimit ≤ outcomes
-  outcomes-long = at-most commandLimit outcomes (both-true (leb stateBytes state && leb termLimit room) (leb commandLimit outcomes) e .1)
+  outcomes-long = leb-true commandLimit outcomes (and-true (leb stateBytes state && leb termLimit room) (leb commandLimit outcomes) e .1)
 
 -- ---- the rules by whether a run writes
 module _ (bs : List ℕ) (n : ℕ) (lent : Lent) where
@@ -100,10 +84,6 @@ too-long : (bs : List ℕ) → fileLimit < length bs → load bs ≡ refused 2 0
 unfolding load
 too-long bs h = rw (lt-leb (length bs) fileLimit h) refl
 
-answered-refused : (n number place : ℕ) → answered n (refused number place) ≡ refusal number place
-unfolding answered
-answered-refused n number place = refl
-
 in-numbers : (number : ℕ) → runInNumbers (Refused number 0) ≡ refusal number 0
 unfolding runInNumbers
 in-numbers number = refl
@@ -130,7 +110,7 @@ module _ (bs : List ℕ) (n : ℕ) (state outcomes : List ℕ) (l : List Entry) 
   pub refused-2 : longEnough lent ≡ true → fileLimit < length bs → Ran bs n lent state outcomes (replicate ledgerWords 0) (record { places = 0; answer = Refused 2 0 })
   refused-2 e h =
       untouched 2 (second-fails (longEnough lent) (leb (length bs) fileLimit) (lt-leb (length bs) fileLimit h))
-      (answer-long bs n lent e ∙ ap (answered n) (too-long bs h) ∙ answered-refused n 2 0)
+      (answer-long bs n lent e ∙ ap (answered n) (too-long bs h) ∙ sym (answered-refused n 2 0) ∙ in-numbers 2)
 
 pub refused-left : (bs s tables words : List ℕ) (number place : ℕ) → Left bs s tables words (Refused number place)
 refused-left bs s tables words number place a b i q = absurd (let y : _≡_ {A = ℕ} 0 1 = cc in omega arith)

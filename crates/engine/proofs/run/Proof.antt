@@ -1,13 +1,14 @@
 -- `engine::run` meets its contract: the two refusals that leave all untouched, and the first parts written. Assumes nothing.
 use borrow.Author.Needs.{needs}
+use borrow.Author.Tests.{not-true, not-false}
 use mathlib.Core.Path.{_≡_, refl, sym, _∙_}
 use mathlib.Core.Bool.{true}
 use denote.Ref.{now}
-use lib.ListN.{length, drop, replicate}
+use lib.ListN.{length, drop}
 use lib.Seq.{length-take-le}
 use Rattle.rules.specs.Limits.{commandLimit, stateBytes}
 use Rattle.engine.specs.Runs.{roomy}
-use Rattle.engine.proofs.Written.{enough-is, not-true, not-false, state-long, outcomes-long, refused-1, refused-2, refused-left, ran-parts, left-parts}
+use Rattle.engine.proofs.Written.{enough-is, state-long, outcomes-long, refused-1, refused-2, refused-left, ran-parts, left-parts}
 use Rattle.engine.proofs.run.Statement.{statement}
 use Rattle.engine.proofs.run.Tie as tie
 

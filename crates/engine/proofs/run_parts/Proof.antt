@@ -1,6 +1,6 @@
 -- `engine::run_parts` meets its contract: what filling leaves is what the loop over commands starts from, and what the loop leaves is what the rules say. Assumes nothing.
 use borrow.Author.Needs.{needs}
-use mathlib.Core.Path.{_≡_, ap, _∙_}
+use mathlib.Core.Path.{ap, _∙_}
 use Prim.Native.Nat.{ℕ}
 use native.Mathlib.Omega.{arith}
 use denote.Ref.{now}
