@@ -11,7 +11,7 @@ use native.Mathlib.Decide.{ℕ-discrete}
 use lib.ListN.{length}
 use Rattle.rules.specs.declared.Entry.{Entry}
 use Rattle.rules.specs.Term.{hashKind, signatureKind, attestKind, idevidRequestKind, pairKind}
-use Rattle.rules.specs.File.{File, Command, hash, sign, certify, makeCredential, activateCredential, makeIdevidRequest, makeLdevidRequest, makePair, checkHash, checkSignature, checkCertificate, checkAttributes, send, selfIssue, challenge, issueIak, issueLak, kind, isKind, hashedTerm, credentialNumber}
+use Rattle.rules.specs.File.{File, Command, hash, sign, certify, makeCredential, activateCredential, makeIdevidRequest, makeLdevidRequest, makePair, checkHash, checkSignature, checkCertificate, checkAttributes, send, selfIssue, challenge, issueIak, issueLak, isKind, hashedTerm, credentialNumber}
 use Rattle.rules.specs.Learning.{Knowledge, grant, learn}
 use Rattle.rules.specs.State.{State, start, numberUsed, credentialOpen, credentialClosed, put, learnt, ticketed, opening, closing, entered}
 use Rattle.rules.specs.Device.{hashEffect}

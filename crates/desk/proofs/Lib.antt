@@ -2,4 +2,9 @@ pub mod Read
 pub mod Forms
 pub mod Signers
 pub mod Outcomes
-pub mod Entries
+pub mod Subjects
+pub mod Called
+pub mod IssueIak
+pub mod IssueLak
+pub mod Appending
+pub mod Issued

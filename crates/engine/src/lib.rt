@@ -1,19 +1,11 @@
 // The engine below Run and Path: covered, on plain slices and numbers.
-use commands::Executed;
 use rules::RunAnswer;
 ghost use mathlib.Core.Path.{_≡_};
 ghost use mathlib.Core.Bool.{cond};
 ghost use Prim.Native.Nat.{_+_, _<_};
 ghost use lib.Dec.{eqb};
-ghost use lib.ListN.{length, take};
+ghost use lib.ListN.{take};
 ghost use Rattle.rules.specs.Limits.{stateBytes};
-ghost use Rattle.rules.specs.Run.{outcome, after};
-ghost use Rattle.theorems.proofs.Loading.{Wellformed};
-ghost use Rattle.state.specs.View.{view};
-ghost use Rattle.lookup.specs.There.{commandThere};
-ghost use Rattle.lookup.specs.Commands.{CommandAt};
-ghost use Rattle.loaded.specs.Loaded.{fileIn};
-ghost use Rattle.commands.specs.Standing.{stateIn, Stands};
 ghost use Rattle.engine.specs.Turns.{RunReady, Executes};
 ghost use Rattle.engine.specs.Runs.{roomy, PartsReady, PartsRan, Runs, Left};
 
@@ -31,28 +23,6 @@ pub struct Totals {
 pub struct Answered {
     pub places: usize,
     pub answer: RunAnswer,
-}
-
-// STUB: comes from crate commands.
-pub fn execute(
-    file: &[u8],
-    state: &mut [u8],
-    tables: &mut [u16; tables::WORDS],
-    words: &mut [u16; entries::WORDS],
-    parties: usize,
-    entries: usize,
-    at: usize,
-) -> Executed
-    requires { ⌜ Stands (now file) (now state) (now tables) (now words) entries × CommandAt (Wellformed (fileIn (now file))) (now file) at × (parties ≡ length (fileIn (now file) .roles)) ⌝ }
-    ensures outcome { λ r. ⌜ r .outcome ≡ outcome (fileIn (now (file .entry))) (stateIn (now (state .entry)) (now (words .entry)) entries) (commandThere (now (file .entry)) at) ⌝ }
-    ensures left { λ r. ⌜ stateIn (now (state .exit)) (now (words .exit)) (r .entries) ≡ after (fileIn (now (file .entry))) (stateIn (now (state .entry)) (now (words .entry)) entries) (commandThere (now (file .entry)) at) ⌝ }
-    ensures stands { λ r. ⌜ Stands (now (file .entry)) (now (state .exit)) (now (tables .exit)) (now (words .exit)) (r .entries) ⌝ }
-    ensures places { λ _. ⌜ view (now (state .exit)) .place ≡ view (now (state .entry)) .place ⌝ }
-{
-    Executed {
-        outcome: 0,
-        entries: entries,
-    }
 }
 
 // The totals with one outcome more, and the entries after it.
@@ -99,7 +69,7 @@ pub fn run_commands(
         if at >= file.len() {
             break;
         }
-        let done = execute(file, state, tables, words, parties, t.issued, at);
+        let done = commands::execute(file, state, tables, words, parties, t.issued, at);
         let outcome = done.outcome;
         outcomes[i] = outcome;
         t = tallied(t, outcome, done.entries);

@@ -10,7 +10,7 @@ use mathlib.Core.List.{List, [], _∷_, _++_}
 use Prim.Native.Nat.{ℕ, zero, suc, _+_, _*_, _-_, _<_, _≤_}
 use native.Mathlib.Omega.{arith}
 use native.Mathlib.Numerals.{add-one, towards-suc}
-use lib.ListN.{length, getD, set, take, drop, replicate, length-append, length-set, length-drop, length-replicate, getD-replicate, take-append-drop}
+use lib.ListN.{length, getD, set, take, drop, replicate, length-append, length-set, length-drop, length-replicate, take-append-drop}
 use lib.Seq.{getD-set-same, getD-set-other, getD-drop, take-add, drop-cons, ext-getD}
 use Rattle.rules.specs.declared.Entry.{Entry}
 use Rattle.rules.specs.Limits.{termLimit}
@@ -60,13 +60,8 @@ module _ (words : List ℕ) (i : ℕ) (e : Entry) where
       let m : length first ≡ length words = length-set words (entryWords * i) (e .certificate) in
       let n : length second ≡ length first = length-set first (entryWords * i + 1) (e .parent) in
       let d = getD-set-same second (entryWords * i + 2) (e .depth) 0 (omega (arith, l, m, n)) in
-      let b =
-          getD-set-other second (entryWords * i + 2) (entryWords * i + 1) (e .depth) 0 (omega arith)
-          ∙ getD-set-same first (entryWords * i + 1) (e .parent) 0 (omega (arith, l, m)) in
-      let a =
-          getD-set-other second (entryWords * i + 2) (entryWords * i) (e .depth) 0 (omega arith)
-          ∙ getD-set-other first (entryWords * i + 1) (entryWords * i) (e .parent) 0 (omega arith)
-          ∙ getD-set-same words (entryWords * i) (e .certificate) 0 (omega (arith, l)) in
+      let b = getD-set-other second (entryWords * i + 2) (entryWords * i + 1) (e .depth) 0 (omega arith) ∙ getD-set-same first (entryWords * i + 1) (e .parent) 0 (omega (arith, l, m)) in
+      let a = getD-set-other second (entryWords * i + 2) (entryWords * i) (e .depth) 0 (omega arith) ∙ getD-set-other first (entryWords * i + 1) (entryWords * i) (e .parent) 0 (omega arith) ∙ getD-set-same words (entryWords * i) (e .certificate) 0 (omega (arith, l)) in
       λ k. record { certificate = a k; parent = b k; depth = d k }
 
   pub entries-next : i < termLimit → length words ≡ ledgerWords → entriesIn (withEntry words i e) (i + 1) ≡ entriesIn words i ++ (e ∷ [])

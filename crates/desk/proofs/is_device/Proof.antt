@@ -1,37 +1,25 @@
 use borrow.Author.Needs.{needs}
-use mathlib.Core.Path.{_≡_, sym, ap, _∙_}
-use mathlib.Core.Bool.{not}
-use Prim.Native.Nat.{ℕ, _+_}
-use native.Mathlib.Omega.{arith}
-use lib.Dec.{eqb}
-use lib.ListN.{getD}
-use denote.Ref.{now}
-use Rattle.rules.specs.declared.Term.{Term}
-use Rattle.rules.specs.Term.{certificateKind, idevidRequestKind, subjectOf, isTpmSubject, isDeviceSubject}
-use Rattle.rules.specs.File.{subject}
-use Rattle.learning.proofs.Words.{certificate-tpm, request-device}
-use Rattle.loaded.proofs.Fields.{kind-at, record-ends}
+use mathlib.Core.Path.{sym, ap, _∙_}
+use Rattle.rules.specs.Term.{isDeviceSubject}
 use Rattle.desk.proofs.is_device.Statement.{statement}
 use Rattle.desk.proofs.is_device.Tie as tie
 
-place-of-requires : tie.Need-place-of-requires
-place-of-requires c κs = search needs
+subject-of-requires : tie.Need-subject-of-requires
+subject-of-requires c κs = search needs
 
-add-result : tie.Need-add-result
-add-result c = search needs
+enum-told : tie.Need-enum-told
+enum-told c = search needs
 
-shared-slice-read-result : tie.Need-shared-slice-read-result
-shared-slice-read-result c =
-    let p = c .before .before .before .before .pre in
-    omega (arith, c .before .place-of .ensures, record-ends (p .0) idevidRequestKind (p .1))
+enum-told-2 : tie.Need-enum-told-2
+enum-told-2 c = search needs
 
 returns : tie.Need-returns
-unfolding subject
-returns c =
-    let o = c .before .before .before .before in
-    ap (λ (at : ℕ). not (eqb (getD (now (o .args .file)) (at + 1) 0) 0)) (c .before .place-of .ensures)
-    ∙ sym (request-device _ _ (kind-at (o .pre .0) (o .pre .1)))
-    ∙ ap (λ (x : Term). isDeviceSubject (subjectOf x)) (o .pre .0 .same)
+unfolding isDeviceSubject
+returns c = ap isDeviceSubject (sym (c .enum-told .given .1) ∙ c .before .before .subject-of .ensures)
+
+returns-2 : tie.Need-returns-2
+unfolding isDeviceSubject
+returns-2 c = ap isDeviceSubject (sym (c .enum-told2 .given .1) ∙ c .before .before .subject-of .ensures)
 
 pub is-device-spec : {M : Type 1} → statement M
-is-device-spec = tie.close (tie.spec place-of-requires add-result shared-slice-read-result returns)
+is-device-spec = tie.close (tie.spec subject-of-requires enum-told enum-told-2 returns returns-2)
