@@ -23,7 +23,7 @@ use Rattle.index.specs.Indexed.{passes}
 use Rattle.lookup.specs.There.{commandThere}
 use Rattle.lookup.specs.Commands.{CommandAt}
 use Rattle.loaded.specs.Loaded.{fileIn, Finds, Leaves}
-use Rattle.loaded.specs.Entries.{Enters, Accepts, SameKeys}
+use Rattle.loaded.specs.Entries.{Enters, Entered, Accepts, SameKeys}
 use Rattle.loaded.proofs.Standing.{checked-here, holds-kept}
 use Rattle.desk.specs.Dispatch.{OpenRequested, DeskLeaves}
 use Rattle.commands.specs.Standing.{stateIn, Kept, Stands}

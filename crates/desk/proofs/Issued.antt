@@ -1,6 +1,6 @@
 -- What accepted desk commands leave.
 --     challenge-left              3E
---     iak-new, lak-accepted       tests that an accepted 3F or 40 passed
+--     iak-new, iak-open, lak-accepted     tests that an accepted 3F or 40 passed
 --     same-ledger                 the words hold one ledger
 --     iak-issued, lak-issued      3F, 40
 -- Assumes nothing.
@@ -8,7 +8,7 @@ use mathlib.Core.Path.{_≡_, refl, sym, ap, _∙_}
 use mathlib.Core.Bool.{true, false}
 use mathlib.Core.List.{List, [], _∷_, _++_}
 use Prim.Native.Nat.{ℕ, _+_, _≤_}
-use borrow.Author.Tests.{leb-true, not-true}
+use borrow.Author.Tests.{eqb-true, leb-true, not-true}
 use Rattle.rules.specs.declared.Entry.{Entry}
 use Rattle.rules.specs.Limits.{depthLimit}
 use Rattle.rules.specs.Term.{ldevidRequestKind, pairKind}
@@ -57,6 +57,11 @@ challenge-left {bs} {s} {s₁} {s₅} {v₂} {v₃} {v₄} {p} {q} {r} {number} 
 pub iak-new : (f : File) (s : State) (p q c r : ℕ) → outcome f s (issueIak p q c r) ≡ 0 → listed (s .ledger) r ≡ false
 unfolding outcome testsOf issueIakTests calledFor
 iak-new f s p q c r e = not-true _ (passed (issueIakTests f s p q c r) refl e .1 .1 .1 .1 .1 .1 .1 .1 .0)
+
+-- and of an open credential
+pub iak-open : (f : File) (s : State) (p q c r : ℕ) → outcome f s (issueIak p q c r) ≡ 0 → s .mark c ≡ credentialOpen
+unfolding outcome testsOf issueIakTests calledFor
+iak-open f s p q c r e = eqb-true _ _ (passed (issueIakTests f s p q c r) refl e .1 .0)
 
 -- an accepted 40: its request's form, a listed parent, a certificate that is not, and the depth
 pub record LakPassed (f : File) (ledger : List Entry) (q r : ℕ) : Type 0 where

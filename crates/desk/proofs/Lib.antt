@@ -8,3 +8,4 @@ pub mod IssueIak
 pub mod IssueLak
 pub mod Appending
 pub mod Issued
+pub mod Places
