@@ -1,7 +1,7 @@
 //! The files that are timed, the same at every run.
 
 use crate::walk;
-use reading::worlds::Rng;
+use worlds::Rng;
 
 const FILE_LIMIT: usize = 32_768;
 const TERM_LIMIT: u16 = 1_024;

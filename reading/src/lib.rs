@@ -1,41 +1,39 @@
-//! The second reading: document 01 in Rust, written from the paper and the readings 1 to 22 of docs/DECISIONS.md, without a look at the
-//! rules or the code. Where one of those readings is wrong, this is wrong with it.
+//! A second reading of "Rehearsing DevID enrolment",
+//! written from that text alone, to test another implementation against.
 //!
-//! DevID enrolment rehearsed over one scenario file: loading, running,
-//! path-finding and a listing. The engine's code is held to it, in
-//! `bind/rust/tests` for every byte and in `bench` for time; it is not proved,
-//! and nothing of it is in the engine.
-//!
-//! One pass over the records does everything: a record is checked and, if it
-//! is a command to be executed, carried out at once. A file refused half-way
-//! leaves the lent buffers zero, so nothing of an early command remains.
+//! The numbers in the comments are the kinds of records (hexadecimal, as in
+//! the paper) and the refusals 1 to 30 (decimal).
 
 #![forbid(unsafe_code)]
 
-pub mod worlds;
+use std::collections::HashMap;
 
-/// Longest scenario file, in bytes.
+/// Most bytes of a scenario file.
 pub const FILE_BYTES: usize = 32_768;
-/// Most terms of a file; also the places of the ledger.
+/// Bytes of state that are written: 8 for each possible term.
+pub const STATE_BYTES: usize = 8_192;
+/// Most terms, and the ledger places that are written.
 pub const TERMS: usize = 1_024;
-/// Most parties of a file.
-pub const PARTIES: usize = 8;
-/// State bytes: eight a term.
-pub const STATE_BYTES: usize = 8 * TERMS;
-/// Outcome bytes: a file holds no more commands.
+/// Outcome bytes that are written.
 pub const OUTCOMES: usize = 8_192;
-/// Places a path may need: depth 8 and both ends.
+/// Most parties.
+pub const PARTIES: usize = 8;
+/// Least places of the list lent to `path`.
 pub const LIST_PLACES: usize = 9;
 
-/// One line of the ledger.
-#[derive(Clone, Copy, Debug, PartialEq, Eq, Default)]
+/// Greatest depth of an issued certificate.
+const DEPTH: u16 = 8;
+
+/// A ledger entry.
+#[derive(Clone, Copy, Debug, Default, PartialEq, Eq)]
 pub struct Entry {
     pub certificate: u16,
     pub parent: u16,
     pub depth: u16,
 }
 
-#[derive(Clone, Copy, Debug, PartialEq, Eq)]
+/// What `load` answers.
+#[derive(Debug, Clone, Copy, PartialEq, Eq)]
 pub enum LoadAnswer {
     Loaded {
         parties: u32,
@@ -48,7 +46,8 @@ pub enum LoadAnswer {
     },
 }
 
-#[derive(Clone, Copy, Debug, PartialEq, Eq)]
+/// What `run` answers.
+#[derive(Debug, Clone, Copy, PartialEq, Eq)]
 pub enum RunAnswer {
     Ran {
         accepted: u32,
@@ -61,1040 +60,39 @@ pub enum RunAnswer {
     },
 }
 
-#[derive(Clone, Copy, Debug, PartialEq, Eq)]
+/// What `path` answers.
+#[derive(Debug, Clone, Copy, PartialEq, Eq)]
 pub enum PathAnswer {
     Steps(u32),
     Refused { number: u32, place: u32 },
 }
 
-// Kinds of terms.
-const PUBLIC: u8 = 0x10;
-const PRIVATE: u8 = 0x11;
-const HASH: u8 = 0x12;
-const SIGNATURE: u8 = 0x13;
-const ATTEST: u8 = 0x14;
-const CREDENTIAL: u8 = 0x15;
-const NUMBER: u8 = 0x16;
-const IDEVID: u8 = 0x17;
-const LDEVID: u8 = 0x18;
-const CERTIFICATE: u8 = 0x19;
-const PAIR: u8 = 0x1A;
-
-// Roles.
-const DEVICE: u8 = 0;
-const MAKER: u8 = 1;
-const OEM: u8 = 2;
-const OWNER: u8 = 3;
-
-// Attributes of a key, and the values that the rules ask for.
-const RESTRICTED: u8 = 1;
-const SIGN: u8 = 2;
-const DECRYPT: u8 = 4;
-const FIXED_TPM: u8 = 8;
-const ATTESTATION_KEY: u8 = RESTRICTED | SIGN | FIXED_TPM;
-const ENDORSEMENT_KEY: u8 = RESTRICTED | DECRYPT | FIXED_TPM;
-const DESK_KEY: u8 = SIGN | FIXED_TPM;
-
-// Subject byte.
-const TPM_SUBJECT: u8 = 0;
-const DEVICE_SUBJECT: u8 = 1;
-
-// Marks in the state.
-const USED: u8 = 1;
-const OPEN: u8 = 2;
-const CLOSED: u8 = 3;
-
-const DEEPEST: u16 = 8;
-
-/// No term has this number.
-const NONE: u16 = u16::MAX;
-
-/// Section (0: no such kind) and body length of every kind byte.
-static LAYOUT: [(u8, u8); 256] = {
-    let mut table = [(0, 0); 256];
-    let mut kind = 0;
-    while kind < 256 {
-        table[kind] = match kind {
-            0x01 => (1, 1),
-            0x12 | 0x14 | 0x16 => (2, 2),
-            0x10 | 0x11 => (2, 3),
-            0x13 | 0x18 | 0x1A => (2, 4),
-            0x15 => (2, 6),
-            0x17 | 0x19 => (2, 7),
-            0x20..=0x22 => (3, 3),
-            0x30..=0x37 | 0x3D => (4, 3),
-            0x3B | 0x3C => (4, 4),
-            0x38..=0x3A | 0x3E | 0x40 => (4, 5),
-            0x3F => (4, 6),
-            _ => (0, 0),
-        };
-        kind += 1;
-    }
-    table
-};
-
-/// A record's bytes: kind and body, at most eight in all.
-type Record = [u8; 8];
-
-/// The two bytes at `i`, high byte first.
-#[inline(always)]
-fn word(record: &Record, i: usize) -> u16 {
-    u16::from_be_bytes([record[i], record[i + 1]])
-}
-
-/// The record that starts `rest`, padded if the file ends sooner.
-#[inline(always)]
-fn record_at(rest: &[u8]) -> Record {
-    match rest.first_chunk::<8>() {
-        Some(record) => *record,
-        None => {
-            let mut record = [0; 8];
-            record[..rest.len()].copy_from_slice(rest);
-            record
-        }
-    }
-}
-
-/// A term in one word: kind, a byte `x` and the fields `a`, `b`, `c`.
-///
-/// | kind | x | a | b | c |
-/// |---|---|---|---|---|
-/// | keys | attributes | id | | |
-/// | hash, attest | | content | | |
-/// | signature | | message | private key | |
-/// | credential | | first term | number | public key |
-/// | number | | id | | |
-/// | IDevID request | Subject byte | Subject number | certificate | public key |
-/// | LDevID request | | message | certificate | |
-/// | certificate | Subject byte | public key | Subject number | signer |
-/// | pair | | first | second | |
-#[derive(Clone, Copy, PartialEq, Eq)]
-struct Term(u64);
-
-impl Term {
-    #[inline(always)]
-    fn new(kind: u8, x: u8, a: u16, b: u16, c: u16) -> Term {
-        Term(
-            (kind as u64) << 56 | (x as u64) << 48 | (a as u64) << 32 | (b as u64) << 16 | c as u64,
-        )
-    }
-    #[inline(always)]
-    fn kind(self) -> u8 {
-        (self.0 >> 56) as u8
-    }
-    #[inline(always)]
-    fn x(self) -> u8 {
-        (self.0 >> 48) as u8
-    }
-    #[inline(always)]
-    fn a(self) -> u16 {
-        (self.0 >> 32) as u16
-    }
-    #[inline(always)]
-    fn b(self) -> u16 {
-        (self.0 >> 16) as u16
-    }
-    #[inline(always)]
-    fn c(self) -> u16 {
-        self.0 as u16
-    }
-    /// Where the search for this term starts in the table of names.
-    #[inline(always)]
-    fn slot(self) -> usize {
-        let mixed = (self.0 ^ self.0 >> 29).wrapping_mul(0x9E37_79B9_7F4A_7C15);
-        (mixed >> 53) as usize
-    }
-}
-
-/// Slots of the table of names: twice the terms.
-const SLOTS: usize = 2 * TERMS;
-
-/// Array place of a term number; a declared one is below 1,024 already.
-#[inline(always)]
-fn at(t: u16) -> usize {
-    t as usize % TERMS
-}
-
-/// First state byte of a term.
-#[inline(always)]
-fn cell(t: u16) -> usize {
-    8 * at(t)
-}
-
-/// A refusal of the whole file.
-struct Refusal {
-    number: u32,
-    place: u32,
-}
-
-const SHORT: Refusal = Refusal {
-    number: 1,
-    place: 0,
-};
-const LONG: Refusal = Refusal {
-    number: 2,
-    place: 0,
-};
-
-/// Everything that a pass over a file keeps.
-struct World<'a> {
-    state: &'a mut [u8; STATE_BYTES],
-    ledger: &'a mut [Entry],
-    outcomes: &'a mut [u8],
-    roles: [u8; PARTIES],
-    parties: u8,
-    terms: [Term; TERMS],
-    count: u16,
-    /// Open addressing: term number plus 1, 0 for a free slot.
-    names: [u16; SLOTS],
-    /// Of a key: the other half, if the file names it.
-    halves: [u16; TERMS],
-    /// Of a party: its signing key.
-    signing: [u16; PARTIES],
-    /// Of a private key: the role of the party whose signing key it is, or 0.
-    signer: [u8; TERMS],
-    /// Of a certificate: its place in the ledger plus 1, or 0.
-    issued: [u16; TERMS],
-    entries: u16,
-    commands: u32,
-    accepted: u32,
-    refused: u32,
-}
-
-impl<'a> World<'a> {
-    /// An empty world; the lent parts become zero.
-    #[inline]
-    fn new(
-        state: &'a mut [u8; STATE_BYTES],
-        ledger: &'a mut [Entry],
-        outcomes: &'a mut [u8],
-    ) -> World<'a> {
-        let mut world = World {
-            state,
-            ledger,
-            outcomes,
-            roles: [0; PARTIES],
-            parties: 0,
-            terms: [Term(0); TERMS],
-            count: 0,
-            names: [0; SLOTS],
-            halves: [NONE; TERMS],
-            signing: [NONE; PARTIES],
-            signer: [0; TERMS],
-            issued: [0; TERMS],
-            entries: 0,
-            commands: 0,
-            accepted: 0,
-            refused: 0,
-        };
-        world.clear();
-        world
-    }
-
-    fn clear(&mut self) {
-        self.state.fill(0);
-        if let Some(ledger) = self.ledger.first_chunk_mut::<TERMS>() {
-            *ledger = [Entry::default(); TERMS];
-        }
-        self.outcomes.fill(0);
-    }
-
-    /// One pass over the file. With `RUN`, the first `n` commands are executed.
-    fn scan<const RUN: bool>(&mut self, file: &[u8], n: usize) -> Result<(), Refusal> {
-        let mut section = 0;
-        let mut place = 0;
-        while let Some(&kind) = file.get(place) {
-            let (own, length) = LAYOUT[kind as usize];
-            let rest = &file[place..];
-            let number = if own == 0 {
-                3
-            } else if rest.len() <= length as usize {
-                4
-            } else if own < section {
-                5
-            } else {
-                section = own;
-                match self.record::<RUN>(kind, &record_at(rest), place as u16, n) {
-                    Ok(()) => {
-                        place += 1 + length as usize;
-                        continue;
-                    }
-                    Err(number) => number,
-                }
-            };
-            self.clear();
-            return Err(Refusal {
-                number,
-                place: place as u32,
-            });
-        }
-        Ok(())
-    }
-
-    /// One whole record in its right section: fields, then what it does.
-    #[inline(always)]
-    fn record<const RUN: bool>(
-        &mut self,
-        kind: u8,
-        record: &Record,
-        place: u16,
-        n: usize,
-    ) -> Result<(), u32> {
-        let execute = RUN && (self.commands as usize) < n;
-        // A command ends with its outcome, if it is one of the first n.
-        macro_rules! command {
-            ($rule:expr) => {{
-                if execute {
-                    let outcome: u8 = $rule;
-                    self.outcomes[self.commands as usize] = outcome;
-                    self.accepted += (outcome == 0) as u32;
-                    self.refused += (outcome != 0) as u32;
-                }
-                self.commands += 1;
-                Ok(())
-            }};
-        }
-        match kind {
-            0x01 => {
-                if self.parties as usize == PARTIES {
-                    return Err(6);
-                }
-                let role = self.byte(record[1], OWNER)?;
-                self.roles[self.parties as usize % PARTIES] = role;
-                self.parties += 1;
-                Ok(())
-            }
-
-            PUBLIC | PRIVATE => {
-                self.room()?;
-                let attributes = self.byte(record[3], 15)?;
-                self.declare_key(Term::new(kind, attributes, word(record, 1), 0, 0), place)
-            }
-            HASH => {
-                self.room()?;
-                let content = self.any(word(record, 1))?;
-                self.declare(Term::new(HASH, 0, content, 0, 0), place)
-            }
-            SIGNATURE => {
-                self.room()?;
-                let message = self.any(word(record, 1))?;
-                let key = self.kind(word(record, 3), PRIVATE)?;
-                self.declare(Term::new(SIGNATURE, 0, message, key, 0), place)
-            }
-            ATTEST => {
-                self.room()?;
-                let key = self.kind(word(record, 1), PUBLIC)?;
-                self.declare(Term::new(ATTEST, 0, key, 0, 0), place)
-            }
-            CREDENTIAL => {
-                self.room()?;
-                let first = self.any(word(record, 1))?;
-                let number = self.kind(word(record, 3), NUMBER)?;
-                let key = self.kind(word(record, 5), PUBLIC)?;
-                self.declare(Term::new(CREDENTIAL, 0, first, number, key), place)
-            }
-            NUMBER => {
-                self.room()?;
-                self.declare(Term::new(NUMBER, 0, word(record, 1), 0, 0), place)
-            }
-            IDEVID => {
-                self.room()?;
-                let subject = self.byte(record[1], DEVICE_SUBJECT)?;
-                let certificate = self.kind(word(record, 4), CERTIFICATE)?;
-                let key = self.kind(word(record, 6), PUBLIC)?;
-                self.declare(
-                    Term::new(IDEVID, subject, word(record, 2), certificate, key),
-                    place,
-                )
-            }
-            LDEVID => {
-                self.room()?;
-                let message = self.any(word(record, 1))?;
-                let certificate = self.kind(word(record, 3), CERTIFICATE)?;
-                self.declare(Term::new(LDEVID, 0, message, certificate, 0), place)
-            }
-            CERTIFICATE => {
-                self.room()?;
-                let key = self.kind(word(record, 1), PUBLIC)?;
-                let subject = self.byte(record[3], DEVICE_SUBJECT)?;
-                let signer = self.kind(word(record, 6), PRIVATE)?;
-                self.declare(
-                    Term::new(CERTIFICATE, subject, key, word(record, 4), signer),
-                    place,
-                )
-            }
-            PAIR => {
-                self.room()?;
-                let left = self.any(word(record, 1))?;
-                let right = self.any(word(record, 3))?;
-                self.declare(Term::new(PAIR, 0, left, right, 0), place)
-            }
-
-            0x20 => {
-                let p = self.party(record[1])?;
-                let t = self.any(word(record, 2))?;
-                self.give(p, t)
-            }
-            0x21 => {
-                let p = self.party(record[1])?;
-                let key = self.kind(word(record, 2), PRIVATE)?;
-                self.hold(p, key)
-            }
-            0x22 => {
-                let p = self.party(record[1])?;
-                let key = self.kind(word(record, 2), PRIVATE)?;
-                self.give_signing_key(p, key)
-            }
-
-            0x30 => {
-                let (p, r) = self.act(record, HASH)?;
-                command!(self.hash(p, r))
-            }
-            0x31 => {
-                let (p, r) = self.act(record, SIGNATURE)?;
-                command!(self.sign(p, r))
-            }
-            0x32 => {
-                let (p, r) = self.act(record, SIGNATURE)?;
-                self.kind(self.term(r).a(), ATTEST)?;
-                command!(self.certify(p, r))
-            }
-            0x33 => {
-                let (p, r) = self.act(record, CREDENTIAL)?;
-                command!(self.make_credential(p, r))
-            }
-            0x34 => {
-                let (p, r) = self.act(record, CREDENTIAL)?;
-                command!(self.activate_credential(p, r))
-            }
-            0x35 => {
-                let (p, r) = self.act(record, IDEVID)?;
-                command!(self.compose(p, r, self.term(r).b(), self.term(r).c()))
-            }
-            0x36 => {
-                let (p, r) = self.act(record, LDEVID)?;
-                command!(self.compose(p, r, self.term(r).a(), self.term(r).b()))
-            }
-            0x37 => {
-                let (p, r) = self.act(record, PAIR)?;
-                command!(self.compose(p, r, self.term(r).a(), self.term(r).b()))
-            }
-            0x38 => {
-                let (p, hash) = self.act(record, HASH)?;
-                let content = self.any(word(record, 4))?;
-                let holds = self.term(hash).a() == content;
-                command!(self.check(p, hash, content, holds))
-            }
-            0x39 => {
-                let (p, signature) = self.act(record, SIGNATURE)?;
-                let key = self.kind(word(record, 4), PUBLIC)?;
-                let holds = self.paired(self.term(signature).b(), key);
-                command!(self.check(p, signature, key, holds))
-            }
-            0x3A => {
-                let (p, certificate) = self.act(record, CERTIFICATE)?;
-                let key = self.kind(word(record, 4), PUBLIC)?;
-                let holds = self.paired(self.term(certificate).c(), key);
-                command!(self.check(p, certificate, key, holds))
-            }
-            0x3B => {
-                let (p, key) = self.act(record, PUBLIC)?;
-                let attributes = self.byte(record[4], 15)?;
-                let holds = self.term(key).x() == attributes;
-                command!(self.check(p, key, key, holds))
-            }
-            0x3C => {
-                let p = self.party(record[1])?;
-                let receiver = self.party(record[2])?;
-                let t = self.any(word(record, 3))?;
-                command!(self.send(p, receiver, t))
-            }
-            0x3D => {
-                let (p, r) = self.act(record, CERTIFICATE)?;
-                command!(self.self_issue(p, r))
-            }
-            0x3E => {
-                let p = self.party(record[1])?;
-                let request = self.any(word(record, 2))?;
-                let r = self.kind(word(record, 4), CREDENTIAL)?;
-                command!(self.challenge(p, request, r))
-            }
-            0x3F => {
-                let p = self.party(record[1])?;
-                let returning = self.party(record[2])?;
-                let credential = self.kind(word(record, 3), CREDENTIAL)?;
-                let r = self.kind(word(record, 5), CERTIFICATE)?;
-                command!(self.issue_iak(p, returning, credential, r))
-            }
-            0x40 => {
-                let p = self.party(record[1])?;
-                let request = self.any(word(record, 2))?;
-                let r = self.kind(word(record, 4), CERTIFICATE)?;
-                command!(self.issue_lak(p, request, r))
-            }
-            // No other kind passes the table of sections.
-            _ => Err(3),
-        }
-    }
-
-    // Fields: 7 before 8 at each.
-
-    #[inline(always)]
-    fn party(&self, p: u8) -> Result<u8, u32> {
-        if p < self.parties {
-            Ok(p)
-        } else {
-            Err(7)
-        }
-    }
-
-    #[inline(always)]
-    fn any(&self, t: u16) -> Result<u16, u32> {
-        if t < self.count {
-            Ok(t)
-        } else {
-            Err(7)
-        }
-    }
-
-    #[inline(always)]
-    fn kind(&self, t: u16, kind: u8) -> Result<u16, u32> {
-        if t >= self.count {
-            Err(7)
-        } else if self.term(t).kind() != kind {
-            Err(8)
-        } else {
-            Ok(t)
-        }
-    }
-
-    /// A byte that may not pass `last`.
-    #[inline(always)]
-    fn byte(&self, value: u8, last: u8) -> Result<u8, u32> {
-        if value <= last {
-            Ok(value)
-        } else {
-            Err(7)
-        }
-    }
-
-    /// Party, then a term of one kind.
-    #[inline(always)]
-    fn act(&self, record: &Record, kind: u8) -> Result<(u8, u16), u32> {
-        Ok((self.party(record[1])?, self.kind(word(record, 2), kind)?))
-    }
-
-    // Declarations.
-
-    #[inline(always)]
-    fn room(&self) -> Result<(), u32> {
-        if (self.count as usize) < TERMS {
-            Ok(())
-        } else {
-            Err(6)
-        }
-    }
-
-    /// The next term. Its parts are numbered without repeats, so terms that
-    /// are alike are equal words.
-    #[inline(always)]
-    fn declare(&mut self, term: Term, place: u16) -> Result<(), u32> {
-        let slot = self.find(term);
-        if self.names[slot] != 0 {
-            return Err(9);
-        }
-        let t = self.count;
-        self.count = t + 1;
-        self.names[slot] = t + 1;
-        self.terms[at(t)] = term;
-        let [high, low] = place.to_be_bytes();
-        self.state[cell(t) + 6] = high;
-        self.state[cell(t) + 7] = low;
-        Ok(())
-    }
-
-    /// A key, and its other half if that is there already.
-    fn declare_key(&mut self, key: Term, place: u16) -> Result<(), u32> {
-        let t = self.count;
-        self.declare(key, place)?;
-        let half = Term(key.0 ^ 1 << 56);
-        let name = self.names[self.find(half)];
-        if name != 0 {
-            self.halves[at(t)] = name - 1;
-            self.halves[at(name - 1)] = t;
-        }
-        Ok(())
-    }
-
-    /// The slot that holds the term, or the free one where it would go.
-    #[inline(always)]
-    fn find(&self, term: Term) -> usize {
-        let mut slot = term.slot() % SLOTS;
-        loop {
-            let name = self.names[slot];
-            if name == 0 || self.term(name - 1) == term {
-                return slot;
-            }
-            slot = (slot + 1) % SLOTS;
-        }
-    }
-
-    // Set-up.
-
-    fn give(&mut self, p: u8, t: u16) -> Result<(), u32> {
-        let term = self.term(t);
-        let allowed = match term.kind() {
-            PUBLIC | NUMBER => true,
-            CERTIFICATE => term.x() == TPM_SUBJECT && self.signer[at(term.c())] == MAKER,
-            _ => false,
-        };
-        if !allowed {
-            return Err(10);
-        }
-        self.learns(p, t);
-        Ok(())
-    }
-
-    fn hold(&mut self, p: u8, key: u16) -> Result<(), u32> {
-        let held = self.state[cell(key) + 1];
-        let own = 1 << (p % 8);
-        if self.term(key).x() & FIXED_TPM != 0 && held & !own != 0 {
-            return Err(11);
-        }
-        self.state[cell(key) + 1] = held | own;
-        Ok(())
-    }
-
-    fn give_signing_key(&mut self, p: u8, key: u16) -> Result<(), u32> {
-        let role = self.role(p);
-        if role == DEVICE
-            || self.signing_key(p) != NONE
-            || self.term(key).x() != DESK_KEY
-            || !self.held(p, key)
-        {
-            return Err(12);
-        }
-        self.signing[p as usize % PARTIES] = key;
-        self.signer[at(key)] = role;
-        Ok(())
-    }
-
-    // What the rules look at.
-
-    #[inline(always)]
-    fn term(&self, t: u16) -> Term {
-        self.terms[at(t)]
-    }
-
-    #[inline(always)]
-    fn role(&self, p: u8) -> u8 {
-        self.roles[p as usize % PARTIES]
-    }
-
-    #[inline(always)]
-    fn known(&self, p: u8, t: u16) -> bool {
-        self.state[cell(t)] >> (p % 8) & 1 != 0
-    }
-
-    /// In this party's TPM table; for a private key: held by its TPM.
-    #[inline(always)]
-    fn held(&self, p: u8, t: u16) -> bool {
-        self.state[cell(t) + 1] >> (p % 8) & 1 != 0
-    }
-
-    /// The private half of a public key is named and held.
-    #[inline(always)]
-    fn half_held(&self, p: u8, public: u16) -> bool {
-        let private = self.halves[at(public)];
-        private != NONE && self.held(p, private)
-    }
-
-    /// The two keys are a pair.
-    #[inline(always)]
-    fn paired(&self, private: u16, public: u16) -> bool {
-        self.halves[at(public)] == private
-    }
-
-    #[inline(always)]
-    fn signing_key(&self, p: u8) -> u16 {
-        self.signing[p as usize % PARTIES]
-    }
-
-    /// To know a term and everything in it. Parts have lower numbers, and a
-    /// known term has known parts.
-    fn learn(&mut self, own: u8, mut t: u16) {
-        loop {
-            let known = &mut self.state[cell(t)];
-            if *known & own != 0 {
-                return;
-            }
-            *known |= own;
-            let term = self.term(t);
-            t = match term.kind() {
-                SIGNATURE | ATTEST | CERTIFICATE => term.a(),
-                IDEVID => {
-                    self.learn(own, term.b());
-                    term.c()
-                }
-                LDEVID | PAIR => {
-                    self.learn(own, term.a());
-                    term.b()
-                }
-                _ => return,
-            };
-        }
-    }
-
-    #[inline(always)]
-    fn learns(&mut self, p: u8, t: u16) {
-        self.learn(1 << (p % 8), t);
-    }
-
-    fn append(&mut self, certificate: u16, parent: u16, depth: u16) {
-        self.ledger[self.entries as usize] = Entry {
-            certificate,
-            parent,
-            depth,
-        };
-        self.entries += 1;
-        self.issued[at(certificate)] = self.entries;
-    }
-
-    // Commands. Each tests in the order of the numbers, so the first that
-    // applies is the lowest.
-
-    #[inline]
-    fn hash(&mut self, p: u8, r: u16) -> u8 {
-        let content = self.term(r).a();
-        if self.role(p) != DEVICE {
-            return 13;
-        }
-        if !self.known(p, content) {
-            return 14;
-        }
-        // TPM_Generated data gets no ticket.
-        if self.term(content).kind() != ATTEST {
-            self.state[cell(r) + 1] |= 1 << (p % 8);
-        }
-        self.learns(p, r);
-        0
-    }
-
-    #[inline]
-    fn sign(&mut self, p: u8, r: u16) -> u8 {
-        let (message, key) = (self.term(r).a(), self.term(r).b());
-        let attributes = self.term(key).x();
-        let restricted = attributes & RESTRICTED != 0;
-        if self.role(p) != DEVICE {
-            return 13;
-        }
-        if !restricted && !self.known(p, message) {
-            return 14;
-        }
-        if !self.held(p, key) {
-            return 15;
-        }
-        if attributes & SIGN == 0 {
-            return 16;
-        }
-        if restricted && !(self.term(message).kind() == HASH && self.held(p, message)) {
-            return 17;
-        }
-        self.learns(p, r);
-        0
-    }
-
-    #[inline]
-    fn certify(&mut self, p: u8, r: u16) -> u8 {
-        let (attest, key) = (self.term(r).a(), self.term(r).b());
-        if self.role(p) != DEVICE {
-            return 13;
-        }
-        if !self.held(p, key) || !self.half_held(p, self.term(attest).a()) {
-            return 15;
-        }
-        if self.term(key).x() & SIGN == 0 {
-            return 16;
-        }
-        self.learns(p, r);
-        0
-    }
-
-    #[inline]
-    fn make_credential(&mut self, p: u8, r: u16) -> u8 {
-        let credential = self.term(r);
-        if self.role(p) != DEVICE {
-            return 13;
-        }
-        if !self.known(p, credential.a())
-            || !self.known(p, credential.b())
-            || !self.known(p, credential.c())
-        {
-            return 14;
-        }
-        self.learns(p, r);
-        0
-    }
-
-    #[inline]
-    fn activate_credential(&mut self, p: u8, r: u16) -> u8 {
-        let credential = self.term(r);
-        let (name, key) = (self.term(credential.a()), credential.c());
-        if self.role(p) != DEVICE {
-            return 13;
-        }
-        if !self.known(p, r) {
-            return 14;
-        }
-        if !self.half_held(p, key)
-            || name.kind() != HASH
-            || self.term(name.a()).kind() != PUBLIC
-            || !self.half_held(p, name.a())
-        {
-            return 15;
-        }
-        if self.term(key).x() & (RESTRICTED | DECRYPT) != RESTRICTED | DECRYPT {
-            return 16;
-        }
-        self.learns(p, credential.b());
-        0
-    }
-
-    /// Requests and pairs: both parts known.
-    #[inline]
-    fn compose(&mut self, p: u8, r: u16, left: u16, right: u16) -> u8 {
-        if self.role(p) != DEVICE {
-            return 13;
-        }
-        if !self.known(p, left) || !self.known(p, right) {
-            return 14;
-        }
-        self.learns(p, r);
-        0
-    }
-
-    #[inline]
-    fn check(&self, p: u8, left: u16, right: u16, holds: bool) -> u8 {
-        if self.role(p) == MAKER {
-            return 13;
-        }
-        if !self.known(p, left) || !self.known(p, right) {
-            return 14;
-        }
-        if !holds {
-            return 18;
-        }
-        0
-    }
-
-    #[inline]
-    fn send(&mut self, p: u8, receiver: u8, t: u16) -> u8 {
-        let allowed = match self.role(p) {
-            DEVICE => true,
-            MAKER => false,
-            _ => matches!(self.term(t).kind(), PUBLIC | CREDENTIAL | CERTIFICATE),
-        };
-        if !allowed {
-            return 13;
-        }
-        if !self.known(p, t) {
-            return 14;
-        }
-        self.learns(receiver, t);
-        0
-    }
-
-    #[inline]
-    fn self_issue(&mut self, p: u8, r: u16) -> u8 {
-        let (public, signer) = (self.term(r).a(), self.term(r).c());
-        if self.role(p) != DEVICE {
-            return 13;
-        }
-        if !self.known(p, public) {
-            return 14;
-        }
-        if !self.held(p, signer) {
-            return 15;
-        }
-        if self.term(signer).x() & (SIGN | RESTRICTED) != SIGN {
-            return 16;
-        }
-        self.learns(p, r);
-        0
-    }
-
-    fn challenge(&mut self, p: u8, request: u16, r: u16) -> u8 {
-        if self.role(p) != OEM {
-            return 13;
-        }
-        if !self.known(p, request) {
-            return 14;
-        }
-        let pair = self.term(request);
-        if pair.kind() != PAIR {
-            return 19;
-        }
-        let body = self.term(pair.a());
-        let signature = self.term(pair.b());
-        if body.kind() != IDEVID || body.x() != DEVICE_SUBJECT || signature.kind() != SIGNATURE {
-            return 19;
-        }
-        let hash = self.term(signature.a());
-        if hash.kind() != HASH {
-            return 19;
-        }
-        let iak = body.c();
-        if hash.a() != pair.a() || !self.paired(signature.b(), iak) {
-            return 20;
-        }
-        let certificate = self.term(body.b());
-        if certificate.x() != TPM_SUBJECT || self.signer[at(certificate.c())] != MAKER {
-            return 21;
-        }
-        let ek = certificate.a();
-        if self.term(iak).x() != ATTESTATION_KEY || self.term(ek).x() != ENDORSEMENT_KEY {
-            return 23;
-        }
-        let credential = self.term(r);
-        let number = cell(credential.b());
-        let knowing = self.state[number];
-        if knowing.count_ones() != 1
-            || knowing >> (p % 8) & 1 == 0
-            || self.state[number + 2] == USED
-        {
-            return 24;
-        }
-        let name = self.term(credential.a());
-        if name.kind() != HASH || name.a() != iak || credential.c() != ek {
-            return 27;
-        }
-        self.state[number + 2] = USED;
-        let [high, low] = request.to_be_bytes();
-        self.state[cell(r) + 2..cell(r) + 6].copy_from_slice(&[OPEN, p, high, low]);
-        self.learns(p, r);
-        0
-    }
-
-    fn issue_iak(&mut self, p: u8, returning: u8, credential: u16, r: u16) -> u8 {
-        if self.role(p) != OEM {
-            return 13;
-        }
-        let own = cell(credential);
-        if self.state[own + 2] != OPEN || self.state[own + 3] != p {
-            return 25;
-        }
-        let number = self.term(credential).b();
-        if self.role(returning) != DEVICE || !self.known(returning, number) {
-            return 26;
-        }
-        let request = u16::from_be_bytes([self.state[own + 4], self.state[own + 5]]);
-        let body = self.term(self.term(request).a());
-        let certificate = self.term(r);
-        if certificate.a() != body.c()
-            || certificate.x() != body.x()
-            || certificate.b() != body.a()
-            || certificate.c() != self.signing_key(p)
-        {
-            return 27;
-        }
-        if self.issued[at(r)] != 0 {
-            return 28;
-        }
-        self.state[own + 2] = CLOSED;
-        self.append(r, body.b(), 1);
-        self.learns(p, r);
-        0
-    }
-
-    fn issue_lak(&mut self, p: u8, request: u16, r: u16) -> u8 {
-        if self.role(p) != OWNER {
-            return 13;
-        }
-        if !self.known(p, request) {
-            return 14;
-        }
-        let pair = self.term(request);
-        if pair.kind() != PAIR {
-            return 19;
-        }
-        let body = self.term(pair.a());
-        let signature = self.term(pair.b());
-        if body.kind() != LDEVID || signature.kind() != SIGNATURE {
-            return 19;
-        }
-        let hash = self.term(signature.a());
-        let attested = self.term(body.a());
-        if hash.kind() != HASH || attested.kind() != SIGNATURE {
-            return 19;
-        }
-        let attest = self.term(attested.a());
-        if attest.kind() != ATTEST {
-            return 19;
-        }
-        let lak = attest.a();
-        let certificate = self.term(body.b());
-        let parent = certificate.a();
-        if hash.a() != pair.a()
-            || !self.paired(signature.b(), lak)
-            || !self.paired(attested.b(), parent)
-        {
-            return 20;
-        }
-        if !matches!(self.signer[at(certificate.c())], OEM | OWNER) {
-            return 21;
-        }
-        let entry = self.issued[at(body.b())];
-        if entry == 0 {
-            return 22;
-        }
-        if self.term(lak).x() != ATTESTATION_KEY || self.term(parent).x() != ATTESTATION_KEY {
-            return 23;
-        }
-        let new = self.term(r);
-        if new.a() != lak
-            || new.x() != certificate.x()
-            || new.b() != certificate.b()
-            || new.c() != self.signing_key(p)
-        {
-            return 27;
-        }
-        if self.issued[at(r)] != 0 {
-            return 28;
-        }
-        let depth = self.ledger[entry as usize - 1].depth + 1;
-        if depth > DEEPEST {
-            return 29;
-        }
-        self.append(r, body.b(), depth);
-        self.learns(p, r);
-        0
-    }
-}
-
-/// Loads a file and leaves in `state` what the set-up leaves.
+/// Loads a file: its state after the set-up, with no command run.
 pub fn load(file: &[u8], state: &mut [u8]) -> LoadAnswer {
-    let refused = |r: Refusal| LoadAnswer::Refused {
-        number: r.number,
-        place: r.place,
-    };
-    let Some(state) = state.first_chunk_mut::<STATE_BYTES>() else {
-        return refused(SHORT);
-    };
-    if file.len() > FILE_BYTES {
-        return refused(LONG);
+    let refused = |number, place| LoadAnswer::Refused { number, place };
+    if state.len() < STATE_BYTES {
+        return refused(1, 0);
     }
-    let mut world = World::new(state, &mut [], &mut []);
-    match world.scan::<false>(file, 0) {
-        Ok(()) => LoadAnswer::Loaded {
-            parties: world.parties as u32,
-            terms: world.count as u32,
-            commands: world.commands,
-        },
-        Err(r) => refused(r),
+    if file.len() > FILE_BYTES {
+        return refused(2, 0);
+    }
+    match scan(file) {
+        Err(refusal) => {
+            state[..STATE_BYTES].fill(0);
+            refused(refusal.number, refusal.place)
+        }
+        Ok(world) => {
+            world.write_state(state);
+            LoadAnswer::Loaded {
+                parties: world.parties.len() as u32,
+                terms: world.terms.len() as u32,
+                commands: world.commands.len() as u32,
+            }
+        }
     }
 }
 
-/// Loads a file and executes its first `n` commands.
+/// Runs the first `n` commands of a file, or all if fewer.
 pub fn run(
     file: &[u8],
     n: usize,
@@ -1102,33 +100,17 @@ pub fn run(
     ledger: &mut [Entry],
     outcomes: &mut [u8],
 ) -> RunAnswer {
-    let refused = |r: Refusal| RunAnswer::Refused {
-        number: r.number,
-        place: r.place,
-    };
-    let (Some(state), Some(ledger), Some(outcomes)) = (
-        state.first_chunk_mut::<STATE_BYTES>(),
-        ledger.first_chunk_mut::<TERMS>(),
-        outcomes.first_chunk_mut::<OUTCOMES>(),
-    ) else {
-        return refused(SHORT);
-    };
-    if file.len() > FILE_BYTES {
-        return refused(LONG);
-    }
-    let mut world = World::new(state, ledger, outcomes);
-    match world.scan::<true>(file, n) {
-        Ok(()) => RunAnswer::Ran {
-            accepted: world.accepted,
-            refused: world.refused,
-            issued: world.entries as u32,
+    match run_world(file, n, state, ledger, outcomes) {
+        Err(Refusal { number, place }) => RunAnswer::Refused { number, place },
+        Ok((world, accepted, refused)) => RunAnswer::Ran {
+            accepted,
+            refused,
+            issued: world.ledger.len() as u32,
         },
-        Err(r) => refused(r),
     }
 }
 
-/// Runs, then writes the certificate `term`, its parents and the certificate
-/// of the endorsement key to `list`.
+/// Runs, then lists the way from an issued certificate to its EK certificate.
 pub fn path(
     file: &[u8],
     n: usize,
@@ -1138,50 +120,38 @@ pub fn path(
     term: u16,
     list: &mut [u16],
 ) -> PathAnswer {
-    let refused = |r: Refusal| PathAnswer::Refused {
-        number: r.number,
-        place: r.place,
-    };
-    let (Some(state), Some(ledger), Some(outcomes), Some(list)) = (
-        state.first_chunk_mut::<STATE_BYTES>(),
-        ledger.first_chunk_mut::<TERMS>(),
-        outcomes.first_chunk_mut::<OUTCOMES>(),
-        list.first_chunk_mut::<LIST_PLACES>(),
-    ) else {
-        return refused(SHORT);
-    };
-    if file.len() > FILE_BYTES {
-        return refused(LONG);
+    if list.len() < LIST_PLACES {
+        return PathAnswer::Refused {
+            number: 1,
+            place: 0,
+        };
     }
-    let mut world = World::new(state, ledger, outcomes);
-    if let Err(r) = world.scan::<true>(file, n) {
-        return refused(r);
-    }
-    if term >= world.count || world.issued[at(term)] == 0 {
-        return refused(Refusal {
+    let world = match run_world(file, n, state, ledger, outcomes) {
+        Err(Refusal { number, place }) => return PathAnswer::Refused { number, place },
+        Ok((world, _, _)) => world,
+    };
+    if world.entry(term).is_none() {
+        return PathAnswer::Refused {
             number: 30,
-            place: term as u32,
-        });
+            place: u32::from(term),
+        };
     }
-    let mut entry = world.ledger[world.issued[at(term)] as usize - 1];
-    let steps = entry.depth as usize;
-    list[0] = term;
-    for place in &mut list[1..=steps] {
-        *place = entry.parent;
-        // The last parent, the endorsement certificate, is in no ledger.
-        let above = world.issued[at(entry.parent)];
-        if above != 0 {
-            entry = world.ledger[above as usize - 1];
-        }
+    let mut steps = 0;
+    let mut certificate = term;
+    list[0] = certificate;
+    while let Some(entry) = world.entry(certificate) {
+        certificate = entry.parent;
+        steps += 1;
+        list[steps] = certificate;
     }
     PathAnswer::Steps(steps as u32)
 }
 
 /// What the listing program prints for a file.
 pub fn listing(file: &[u8]) -> Vec<u8> {
-    let mut state = [0; STATE_BYTES];
-    let mut ledger = [Entry::default(); TERMS];
-    let mut outcomes = [0; OUTCOMES];
+    let mut state = vec![0; STATE_BYTES];
+    let mut ledger = vec![Entry::default(); TERMS];
+    let mut outcomes = vec![0; OUTCOMES];
     let mut text = String::new();
     match run(file, usize::MAX, &mut state, &mut ledger, &mut outcomes) {
         RunAnswer::Refused { number, place } => text += &format!("F {number} {place}\n"),
@@ -1190,16 +160,1205 @@ pub fn listing(file: &[u8]) -> Vec<u8> {
             refused,
             issued,
         } => {
-            for (ordinal, number) in outcomes.iter().enumerate() {
-                if *number != 0 {
-                    text += &format!("R {ordinal} {number}\n");
+            for (ordinal, outcome) in outcomes.iter().enumerate() {
+                if *outcome != 0 {
+                    text += &format!("R {ordinal} {outcome}\n");
                 }
             }
-            for e in &ledger[..issued as usize] {
-                text += &format!("I {} {} {}\n", e.certificate, e.parent, e.depth);
+            for entry in &ledger[..issued as usize] {
+                let Entry {
+                    certificate,
+                    parent,
+                    depth,
+                } = entry;
+                text += &format!("I {certificate} {parent} {depth}\n");
             }
             text += &format!("T {accepted} {refused} {issued}\n");
         }
     }
     text.into_bytes()
+}
+
+/// The common part of `run` and `path`: checks the buffers, loads, executes
+/// and writes the buffers. Gives the world, the accepted and the refused.
+fn run_world(
+    file: &[u8],
+    n: usize,
+    state: &mut [u8],
+    ledger: &mut [Entry],
+    outcomes: &mut [u8],
+) -> Result<(World, u32, u32), Refusal> {
+    if state.len() < STATE_BYTES || ledger.len() < TERMS || outcomes.len() < OUTCOMES {
+        return Err(Refusal {
+            number: 1,
+            place: 0,
+        });
+    }
+    if file.len() > FILE_BYTES {
+        return Err(Refusal {
+            number: 2,
+            place: 0,
+        });
+    }
+    state[..STATE_BYTES].fill(0);
+    ledger[..TERMS].fill(Entry::default());
+    outcomes[..OUTCOMES].fill(0);
+
+    let mut world = scan(file)?;
+    let mut accepted = 0;
+    let mut refused = 0;
+    let commands = std::mem::take(&mut world.commands);
+    for (command, outcome) in commands.iter().take(n).zip(outcomes.iter_mut()) {
+        *outcome = world.execute(*command);
+        if *outcome == 0 {
+            accepted += 1;
+        } else {
+            refused += 1;
+        }
+    }
+    world.write_state(state);
+    ledger[..world.ledger.len()].copy_from_slice(&world.ledger);
+    Ok((world, accepted, refused))
+}
+
+// ---------------------------------------------------------------------------
+// Terms
+// ---------------------------------------------------------------------------
+
+const RESTRICTED: u8 = 1;
+const SIGN: u8 = 2;
+const DECRYPT: u8 = 4;
+const FIXED_TPM: u8 = 8;
+
+/// Attributes of an IAK or LAK.
+const ATTESTATION_KEY: u8 = RESTRICTED | SIGN | FIXED_TPM;
+/// Attributes of an EK.
+const ENDORSEMENT_KEY: u8 = RESTRICTED | DECRYPT | FIXED_TPM;
+/// Attributes of a signing key that a 22 gives.
+const SIGNING_KEY: u8 = SIGN | FIXED_TPM;
+
+/// What a public and a private key share; they are a pair if it is equal.
+#[derive(Clone, Copy, PartialEq, Eq, Hash)]
+struct Key {
+    id: u16,
+    attributes: u8,
+}
+
+#[derive(Clone, Copy, PartialEq, Eq, Hash)]
+enum Subject {
+    Tpm(u16),
+    Device(u16),
+}
+
+/// A term; the two-byte fields that are not ids are numbers of lower terms.
+#[derive(Clone, Copy, PartialEq, Eq, Hash)]
+enum Term {
+    PublicKey(Key),
+    PrivateKey(Key),
+    Hash {
+        content: u16,
+    },
+    Signature {
+        message: u16,
+        key: u16,
+    },
+    Attest {
+        key: u16,
+    },
+    Credential {
+        first: u16,
+        number: u16,
+        key: u16,
+    },
+    Number {
+        id: u16,
+    },
+    IdevidRequest {
+        subject: Subject,
+        certificate: u16,
+        key: u16,
+    },
+    LdevidRequest {
+        message: u16,
+        certificate: u16,
+    },
+    Certificate {
+        key: u16,
+        subject: Subject,
+        signer: u16,
+    },
+    Pair {
+        first: u16,
+        second: u16,
+    },
+}
+
+impl Term {
+    /// The kind byte.
+    fn kind(self) -> u8 {
+        match self {
+            Term::PublicKey(_) => 0x10,
+            Term::PrivateKey(_) => 0x11,
+            Term::Hash { .. } => 0x12,
+            Term::Signature { .. } => 0x13,
+            Term::Attest { .. } => 0x14,
+            Term::Credential { .. } => 0x15,
+            Term::Number { .. } => 0x16,
+            Term::IdevidRequest { .. } => 0x17,
+            Term::LdevidRequest { .. } => 0x18,
+            Term::Certificate { .. } => 0x19,
+            Term::Pair { .. } => 0x1A,
+        }
+    }
+
+    /// The parts that are learned with the term.
+    fn parts(self) -> Vec<u16> {
+        match self {
+            Term::Signature { message, .. } => vec![message],
+            Term::Attest { key } => vec![key],
+            Term::Certificate { key, .. } => vec![key],
+            Term::IdevidRequest {
+                certificate, key, ..
+            } => vec![certificate, key],
+            Term::LdevidRequest {
+                message,
+                certificate,
+            } => vec![message, certificate],
+            Term::Pair { first, second } => vec![first, second],
+            Term::PublicKey(_)
+            | Term::PrivateKey(_)
+            | Term::Hash { .. }
+            | Term::Credential { .. }
+            | Term::Number { .. } => vec![],
+        }
+    }
+}
+
+// ---------------------------------------------------------------------------
+// The world: parties, terms and what commands change
+// ---------------------------------------------------------------------------
+
+const DEVICE: u8 = 0;
+const TPM_MAKER: u8 = 1;
+const OEM_DESK: u8 = 2;
+const OWNER_DESK: u8 = 3;
+
+struct Party {
+    role: u8,
+    /// The private key that a 22 gave.
+    signing_key: Option<u16>,
+}
+
+const NUMBER_USED: u8 = 1;
+const CREDENTIAL_OPEN: u8 = 2;
+const CREDENTIAL_CLOSED: u8 = 3;
+
+/// The eight state bytes of a term.
+#[derive(Default)]
+struct TermState {
+    /// Bit p: party p knows it.
+    known: u8,
+    /// Bit p: in the table of party p's TPM; on a private key, held.
+    table: u8,
+    mark: u8,
+    desk: u8,
+    request: u16,
+    place: u16,
+}
+
+/// A command of the last section; `r` is the result as in the paper.
+#[derive(Clone, Copy)]
+enum Command {
+    Hash {
+        party: u8,
+        r: u16,
+    },
+    Sign {
+        party: u8,
+        r: u16,
+    },
+    Certify {
+        party: u8,
+        r: u16,
+    },
+    MakeCredential {
+        party: u8,
+        r: u16,
+    },
+    ActivateCredential {
+        party: u8,
+        r: u16,
+    },
+    /// 35, 36 and 37.
+    Build {
+        party: u8,
+        r: u16,
+    },
+    CheckHash {
+        party: u8,
+        hash: u16,
+        content: u16,
+    },
+    CheckSignature {
+        party: u8,
+        signature: u16,
+        key: u16,
+    },
+    CheckCertificate {
+        party: u8,
+        certificate: u16,
+        key: u16,
+    },
+    CheckAttributes {
+        party: u8,
+        key: u16,
+        attributes: u8,
+    },
+    Send {
+        party: u8,
+        receiver: u8,
+        term: u16,
+    },
+    SelfIssue {
+        party: u8,
+        r: u16,
+    },
+    Challenge {
+        desk: u8,
+        request: u16,
+        r: u16,
+    },
+    IssueIak {
+        desk: u8,
+        returning: u8,
+        credential: u16,
+        r: u16,
+    },
+    IssueLak {
+        desk: u8,
+        request: u16,
+        r: u16,
+    },
+}
+
+/// A well-formed request of 3E, taken apart.
+struct IakRequest {
+    /// The 17.
+    csr: u16,
+    /// The Subject of the 17, always a device.
+    subject: Subject,
+    ek_certificate: u16,
+    iak: u16,
+    /// What the 12 hashes.
+    hashed: u16,
+    /// The private key that signed the 12.
+    signed_by: u16,
+}
+
+/// A well-formed request of 40, taken apart.
+struct LakRequest {
+    /// The 18.
+    csr: u16,
+    lak: u16,
+    /// The private key that signed the 14.
+    attested_by: u16,
+    /// The certificate in the 18.
+    parent: u16,
+    /// What the 12 hashes.
+    hashed: u16,
+    /// The private key that signed the 12.
+    signed_by: u16,
+}
+
+/// The fields of a 19.
+struct CertificateFields {
+    key: u16,
+    subject: Subject,
+    signer: u16,
+}
+
+/// The lowest refusal that applies so far; 0 for none.
+#[derive(Default)]
+struct Verdict {
+    lowest: u8,
+}
+
+impl Verdict {
+    /// The refusal `number` applies unless `holds`.
+    fn demand(&mut self, holds: bool, number: u8) {
+        if !holds && (self.lowest == 0 || number < self.lowest) {
+            self.lowest = number;
+        }
+    }
+}
+
+#[derive(Default)]
+struct World {
+    parties: Vec<Party>,
+    terms: Vec<Term>,
+    states: Vec<TermState>,
+    commands: Vec<Command>,
+    ledger: Vec<Entry>,
+    /// The number of each term, to find one alike.
+    numbers: HashMap<Term, u16>,
+    /// The place in the ledger of each issued certificate.
+    issued: HashMap<u16, usize>,
+}
+
+impl World {
+    // ----- looking -----
+
+    fn term(&self, t: u16) -> Term {
+        self.terms[usize::from(t)]
+    }
+
+    fn kind(&self, t: u16) -> u8 {
+        self.term(t).kind()
+    }
+
+    fn role(&self, party: u8) -> u8 {
+        self.parties[usize::from(party)].role
+    }
+
+    fn known(&self, t: u16, party: u8) -> bool {
+        self.states[usize::from(t)].known & bit(party) != 0
+    }
+
+    fn parts_known(&self, t: u16, party: u8) -> bool {
+        self.term(t)
+            .parts()
+            .iter()
+            .all(|part| self.known(*part, party))
+    }
+
+    /// In the table of this party's TPM; for a private key, held by it.
+    fn in_table(&self, t: u16, party: u8) -> bool {
+        self.states[usize::from(t)].table & bit(party) != 0
+    }
+
+    /// A key's id and attributes; `t` is a 10 or 11, as loading saw to.
+    fn key(&self, t: u16) -> Key {
+        match self.term(t) {
+            Term::PublicKey(key) | Term::PrivateKey(key) => key,
+            _ => unreachable!("a key by the checks of loading"),
+        }
+    }
+
+    fn attributes(&self, t: u16) -> u8 {
+        self.key(t).attributes
+    }
+
+    fn has(&self, t: u16, attribute: u8) -> bool {
+        self.attributes(t) & attribute != 0
+    }
+
+    /// Whether a private and a public key are a pair.
+    fn pairs(&self, private: u16, public: u16) -> bool {
+        self.key(private) == self.key(public)
+    }
+
+    /// Whether the private half of a public key is named and held.
+    fn half_held(&self, public: u16, party: u8) -> bool {
+        match self.numbers.get(&Term::PrivateKey(self.key(public))) {
+            Some(private) => self.in_table(*private, party),
+            None => false,
+        }
+    }
+
+    /// The fields of a 19, as loading saw to.
+    fn certificate(&self, t: u16) -> CertificateFields {
+        match self.term(t) {
+            Term::Certificate {
+                key,
+                subject,
+                signer,
+            } => CertificateFields {
+                key,
+                subject,
+                signer,
+            },
+            _ => unreachable!("a certificate by the checks of loading"),
+        }
+    }
+
+    /// Whether a 22 gave this private key to a party of one of the roles.
+    fn signing_key_of(&self, private: u16, roles: &[u8]) -> bool {
+        self.parties
+            .iter()
+            .any(|party| party.signing_key == Some(private) && roles.contains(&party.role))
+    }
+
+    /// The ledger entry of a certificate.
+    fn entry(&self, certificate: u16) -> Option<Entry> {
+        self.issued
+            .get(&certificate)
+            .map(|place| self.ledger[*place])
+    }
+
+    /// A pair of a 17 with device Subject and a 13 over a 12.
+    fn iak_request(&self, request: u16) -> Option<IakRequest> {
+        let Term::Pair { first, second } = self.term(request) else {
+            return None;
+        };
+        let Term::IdevidRequest {
+            subject,
+            certificate,
+            key,
+        } = self.term(first)
+        else {
+            return None;
+        };
+        let Subject::Device(_) = subject else {
+            return None;
+        };
+        let (hashed, signed_by) = self.signed_hash(second)?;
+        Some(IakRequest {
+            csr: first,
+            subject,
+            ek_certificate: certificate,
+            iak: key,
+            hashed,
+            signed_by,
+        })
+    }
+
+    /// A pair of an 18, its message a 13 over a 14, and a 13 over a 12.
+    fn lak_request(&self, request: u16) -> Option<LakRequest> {
+        let Term::Pair { first, second } = self.term(request) else {
+            return None;
+        };
+        let Term::LdevidRequest {
+            message,
+            certificate,
+        } = self.term(first)
+        else {
+            return None;
+        };
+        let Term::Signature {
+            message: attest,
+            key: attested_by,
+        } = self.term(message)
+        else {
+            return None;
+        };
+        let Term::Attest { key: lak } = self.term(attest) else {
+            return None;
+        };
+        let (hashed, signed_by) = self.signed_hash(second)?;
+        Some(LakRequest {
+            csr: first,
+            lak,
+            attested_by,
+            parent: certificate,
+            hashed,
+            signed_by,
+        })
+    }
+
+    /// Of a 13 over a 12: what the 12 hashes, and the signing key.
+    fn signed_hash(&self, t: u16) -> Option<(u16, u16)> {
+        let Term::Signature { message, key } = self.term(t) else {
+            return None;
+        };
+        let Term::Hash { content } = self.term(message) else {
+            return None;
+        };
+        Some((content, key))
+    }
+
+    /// Whether `r` is (key, Subject, the desk's key).
+    fn is_certificate(&self, r: u16, key: u16, subject: Subject, desk: u8) -> bool {
+        let fields = self.certificate(r);
+        fields.key == key
+            && fields.subject == subject
+            && Some(fields.signer) == self.parties[usize::from(desk)].signing_key
+    }
+
+    // ----- changing -----
+
+    /// The party learns the term and everything in it.
+    fn learn(&mut self, t: u16, party: u8) {
+        if self.known(t, party) {
+            return;
+        }
+        self.states[usize::from(t)].known |= bit(party);
+        for part in self.term(t).parts() {
+            self.learn(part, party);
+        }
+    }
+
+    fn enter_table(&mut self, t: u16, party: u8) {
+        self.states[usize::from(t)].table |= bit(party);
+    }
+
+    fn issue(&mut self, certificate: u16, parent: u16, depth: u16) {
+        self.issued.insert(certificate, self.ledger.len());
+        self.ledger.push(Entry {
+            certificate,
+            parent,
+            depth,
+        });
+    }
+
+    /// Executes a command; gives its outcome byte.
+    fn execute(&mut self, command: Command) -> u8 {
+        let outcome = self.judge(command);
+        if outcome == 0 {
+            self.apply(command);
+        }
+        outcome
+    }
+
+    /// The lowest refusal that applies, or 0.
+    fn judge(&self, command: Command) -> u8 {
+        let mut verdict = Verdict::default();
+        match command {
+            Command::Hash { party, r } => {
+                verdict.demand(self.role(party) == DEVICE, 13);
+                let Term::Hash { content } = self.term(r) else {
+                    unreachable!("a 12 by the checks of loading")
+                };
+                verdict.demand(self.known(content, party), 14);
+            }
+            Command::Sign { party, r } => {
+                verdict.demand(self.role(party) == DEVICE, 13);
+                let Term::Signature { message, key } = self.term(r) else {
+                    unreachable!("a 13 by the checks of loading")
+                };
+                verdict.demand(self.in_table(key, party), 15);
+                verdict.demand(self.has(key, SIGN), 16);
+                if self.has(key, RESTRICTED) {
+                    let own_hash = self.kind(message) == 0x12 && self.in_table(message, party);
+                    verdict.demand(own_hash, 17);
+                } else {
+                    verdict.demand(self.known(message, party), 14);
+                }
+            }
+            Command::Certify { party, r } => {
+                verdict.demand(self.role(party) == DEVICE, 13);
+                let Term::Signature { message, key } = self.term(r) else {
+                    unreachable!("a 13 by the checks of loading")
+                };
+                let Term::Attest { key: attested } = self.term(message) else {
+                    unreachable!("a 14 by the checks of loading")
+                };
+                verdict.demand(self.in_table(key, party), 15);
+                verdict.demand(self.has(key, SIGN), 16);
+                verdict.demand(self.half_held(attested, party), 15);
+            }
+            Command::MakeCredential { party, r } => {
+                verdict.demand(self.role(party) == DEVICE, 13);
+                let Term::Credential { first, number, key } = self.term(r) else {
+                    unreachable!("a 15 by the checks of loading")
+                };
+                verdict.demand(self.known(first, party), 14);
+                verdict.demand(self.known(number, party), 14);
+                verdict.demand(self.known(key, party), 14);
+            }
+            Command::ActivateCredential { party, r } => {
+                verdict.demand(self.role(party) == DEVICE, 13);
+                let Term::Credential { first, key, .. } = self.term(r) else {
+                    unreachable!("a 15 by the checks of loading")
+                };
+                verdict.demand(self.known(r, party), 14);
+                verdict.demand(self.half_held(key, party), 15);
+                verdict.demand(self.has(key, RESTRICTED) && self.has(key, DECRYPT), 16);
+                let named_half_held = match self.term(first) {
+                    Term::Hash { content } => {
+                        self.kind(content) == 0x10 && self.half_held(content, party)
+                    }
+                    _ => false,
+                };
+                verdict.demand(named_half_held, 15);
+            }
+            Command::Build { party, r } => {
+                verdict.demand(self.role(party) == DEVICE, 13);
+                verdict.demand(self.parts_known(r, party), 14);
+            }
+            Command::CheckHash {
+                party,
+                hash,
+                content,
+            } => {
+                self.demand_checker(&mut verdict, party);
+                verdict.demand(self.known(hash, party) && self.known(content, party), 14);
+                verdict.demand(self.term(hash) == Term::Hash { content }, 18);
+            }
+            Command::CheckSignature {
+                party,
+                signature,
+                key,
+            } => {
+                self.demand_checker(&mut verdict, party);
+                verdict.demand(self.known(signature, party) && self.known(key, party), 14);
+                let Term::Signature { key: signer, .. } = self.term(signature) else {
+                    unreachable!("a 13 by the checks of loading")
+                };
+                verdict.demand(self.pairs(signer, key), 18);
+            }
+            Command::CheckCertificate {
+                party,
+                certificate,
+                key,
+            } => {
+                self.demand_checker(&mut verdict, party);
+                verdict.demand(self.known(certificate, party) && self.known(key, party), 14);
+                verdict.demand(self.pairs(self.certificate(certificate).signer, key), 18);
+            }
+            Command::CheckAttributes {
+                party,
+                key,
+                attributes,
+            } => {
+                self.demand_checker(&mut verdict, party);
+                verdict.demand(self.known(key, party), 14);
+                verdict.demand(self.attributes(key) == attributes, 18);
+            }
+            Command::Send { party, term, .. } => {
+                let may_send = match self.role(party) {
+                    DEVICE => true,
+                    OEM_DESK | OWNER_DESK => matches!(self.kind(term), 0x10 | 0x15 | 0x19),
+                    _ => false,
+                };
+                verdict.demand(may_send, 13);
+                verdict.demand(self.known(term, party), 14);
+            }
+            Command::SelfIssue { party, r } => {
+                let fields = self.certificate(r);
+                verdict.demand(self.role(party) == DEVICE, 13);
+                verdict.demand(self.known(fields.key, party), 14);
+                verdict.demand(self.in_table(fields.signer, party), 15);
+                let allowed = self.has(fields.signer, SIGN) && !self.has(fields.signer, RESTRICTED);
+                verdict.demand(allowed, 16);
+            }
+            Command::Challenge { desk, request, r } => {
+                let Term::Credential { first, number, key } = self.term(r) else {
+                    unreachable!("a 15 by the checks of loading")
+                };
+                verdict.demand(self.role(desk) == OEM_DESK, 13);
+                verdict.demand(self.known(request, desk), 14);
+                let form = self.iak_request(request);
+                verdict.demand(form.is_some(), 19);
+                if let Some(form) = form {
+                    let ek = self.certificate(form.ek_certificate);
+                    verdict.demand(form.hashed == form.csr, 20);
+                    verdict.demand(self.pairs(form.signed_by, form.iak), 20);
+                    verdict.demand(matches!(ek.subject, Subject::Tpm(_)), 21);
+                    verdict.demand(self.signing_key_of(ek.signer, &[TPM_MAKER]), 21);
+                    verdict.demand(self.attributes(form.iak) == ATTESTATION_KEY, 23);
+                    verdict.demand(self.attributes(ek.key) == ENDORSEMENT_KEY, 23);
+                    let names_iak = self.term(first) == Term::Hash { content: form.iak };
+                    verdict.demand(names_iak && key == ek.key, 27);
+                }
+                let state = &self.states[usize::from(number)];
+                verdict.demand(state.known == bit(desk), 24);
+                verdict.demand(state.mark != NUMBER_USED, 24);
+            }
+            Command::IssueIak {
+                desk,
+                returning,
+                credential,
+                r,
+            } => {
+                let Term::Credential { number, .. } = self.term(credential) else {
+                    unreachable!("a 15 by the checks of loading")
+                };
+                verdict.demand(self.role(desk) == OEM_DESK, 13);
+                let state = &self.states[usize::from(credential)];
+                let open_here = state.mark == CREDENTIAL_OPEN && state.desk == desk;
+                verdict.demand(open_here, 25);
+                verdict.demand(self.role(returning) == DEVICE, 26);
+                verdict.demand(self.known(number, returning), 26);
+                if open_here && let Some(form) = self.iak_request(state.request) {
+                    let called_for = self.is_certificate(r, form.iak, form.subject, desk);
+                    verdict.demand(called_for, 27);
+                }
+                verdict.demand(self.entry(r).is_none(), 28);
+            }
+            Command::IssueLak { desk, request, r } => {
+                verdict.demand(self.role(desk) == OWNER_DESK, 13);
+                verdict.demand(self.known(request, desk), 14);
+                let form = self.lak_request(request);
+                verdict.demand(form.is_some(), 19);
+                if let Some(form) = form {
+                    let parent = self.certificate(form.parent);
+                    verdict.demand(form.hashed == form.csr, 20);
+                    verdict.demand(self.pairs(form.signed_by, form.lak), 20);
+                    verdict.demand(self.pairs(form.attested_by, parent.key), 20);
+                    let by_desk = self.signing_key_of(parent.signer, &[OEM_DESK, OWNER_DESK]);
+                    verdict.demand(by_desk, 21);
+                    let parent_entry = self.entry(form.parent);
+                    verdict.demand(parent_entry.is_some(), 22);
+                    verdict.demand(self.attributes(form.lak) == ATTESTATION_KEY, 23);
+                    verdict.demand(self.attributes(parent.key) == ATTESTATION_KEY, 23);
+                    let called_for = self.is_certificate(r, form.lak, parent.subject, desk);
+                    verdict.demand(called_for, 27);
+                    if let Some(parent_entry) = parent_entry {
+                        verdict.demand(parent_entry.depth < DEPTH, 29);
+                    }
+                }
+                verdict.demand(self.entry(r).is_none(), 28);
+            }
+        }
+        verdict.lowest
+    }
+
+    /// Checks are for the roles 0, 2 and 3.
+    fn demand_checker(&self, verdict: &mut Verdict, party: u8) {
+        verdict.demand(self.role(party) != TPM_MAKER, 13);
+    }
+
+    /// What an accepted command changes.
+    fn apply(&mut self, command: Command) {
+        match command {
+            Command::Hash { party, r } => {
+                self.learn(r, party);
+                if let Term::Hash { content } = self.term(r)
+                    && self.kind(content) != 0x14
+                {
+                    self.enter_table(r, party);
+                }
+            }
+            Command::Sign { party, r }
+            | Command::Certify { party, r }
+            | Command::MakeCredential { party, r }
+            | Command::Build { party, r }
+            | Command::SelfIssue { party, r } => self.learn(r, party),
+            Command::ActivateCredential { party, r } => {
+                if let Term::Credential { number, .. } = self.term(r) {
+                    self.learn(number, party);
+                }
+            }
+            Command::CheckHash { .. }
+            | Command::CheckSignature { .. }
+            | Command::CheckCertificate { .. }
+            | Command::CheckAttributes { .. } => {}
+            Command::Send { receiver, term, .. } => self.learn(term, receiver),
+            Command::Challenge { desk, request, r } => {
+                if let Term::Credential { number, .. } = self.term(r) {
+                    self.states[usize::from(number)].mark = NUMBER_USED;
+                }
+                let state = &mut self.states[usize::from(r)];
+                state.mark = CREDENTIAL_OPEN;
+                state.desk = desk;
+                state.request = request;
+                self.learn(r, desk);
+            }
+            Command::IssueIak {
+                desk,
+                credential,
+                r,
+                ..
+            } => {
+                let state = &mut self.states[usize::from(credential)];
+                state.mark = CREDENTIAL_CLOSED;
+                let request = state.request;
+                if let Some(form) = self.iak_request(request) {
+                    self.issue(r, form.ek_certificate, 1);
+                }
+                self.learn(r, desk);
+            }
+            Command::IssueLak { desk, request, r } => {
+                if let Some(form) = self.lak_request(request)
+                    && let Some(parent) = self.entry(form.parent)
+                {
+                    self.issue(r, form.parent, parent.depth + 1);
+                }
+                self.learn(r, desk);
+            }
+        }
+    }
+
+    /// Writes the first part of a state buffer that is long enough.
+    fn write_state(&self, state: &mut [u8]) {
+        state[..STATE_BYTES].fill(0);
+        for (bytes, term) in state.chunks_exact_mut(8).zip(&self.states) {
+            let [request_high, request_low] = term.request.to_be_bytes();
+            let [place_high, place_low] = term.place.to_be_bytes();
+            bytes.copy_from_slice(&[
+                term.known,
+                term.table,
+                term.mark,
+                term.desk,
+                request_high,
+                request_low,
+                place_high,
+                place_low,
+            ]);
+        }
+    }
+}
+
+/// The bit of a party.
+fn bit(party: u8) -> u8 {
+    1 << party
+}
+
+// ---------------------------------------------------------------------------
+// Loading
+// ---------------------------------------------------------------------------
+
+/// A refusal of a whole call.
+struct Refusal {
+    number: u32,
+    place: u32,
+}
+
+/// The sections, in the order that they must stand in.
+#[derive(Clone, Copy, Default, PartialEq, Eq, PartialOrd, Ord)]
+enum Section {
+    #[default]
+    Parties,
+    Terms,
+    SetUp,
+    Commands,
+}
+
+/// The section and the body length of a kind; none for an unknown kind.
+fn shape(kind: u8) -> Option<(Section, usize)> {
+    let section = match kind {
+        0x01 => Section::Parties,
+        0x10..=0x1A => Section::Terms,
+        0x20..=0x22 => Section::SetUp,
+        0x30..=0x40 => Section::Commands,
+        _ => return None,
+    };
+    let length = match kind {
+        0x01 => 1,
+        0x12 | 0x14 | 0x16 => 2,
+        0x10 | 0x11 | 0x20..=0x22 | 0x30..=0x37 | 0x3D => 3,
+        0x13 | 0x18 | 0x1A | 0x3B | 0x3C => 4,
+        0x38..=0x3A | 0x3E | 0x40 => 5,
+        0x15 | 0x3F => 6,
+        0x17 | 0x19 => 7,
+        _ => return None,
+    };
+    Some((section, length))
+}
+
+/// Scans a file and does its set-up.
+fn scan(file: &[u8]) -> Result<World, Refusal> {
+    let mut world = World::default();
+    let mut section = Section::default();
+    let mut place = 0;
+    while place < file.len() {
+        match world.read_record(&file[place..], place, &mut section) {
+            Ok(length) => place += length,
+            Err(number) => {
+                return Err(Refusal {
+                    number,
+                    place: place as u32,
+                });
+            }
+        }
+    }
+    Ok(world)
+}
+
+/// The unread fields of one body, whose length was checked before.
+struct Body<'a> {
+    rest: &'a [u8],
+}
+
+impl Body<'_> {
+    fn byte(&mut self) -> u8 {
+        let byte = self.rest[0];
+        self.rest = &self.rest[1..];
+        byte
+    }
+
+    fn two(&mut self) -> u16 {
+        let high = self.byte();
+        let low = self.byte();
+        u16::from_be_bytes([high, low])
+    }
+
+    /// Attributes: at most the sum of the four.
+    fn attributes(&mut self) -> Result<u8, u32> {
+        let attributes = self.byte();
+        if attributes > RESTRICTED | SIGN | DECRYPT | FIXED_TPM {
+            return Err(7);
+        }
+        Ok(attributes)
+    }
+
+    fn key(&mut self) -> Result<Key, u32> {
+        Ok(Key {
+            id: self.two(),
+            attributes: self.attributes()?,
+        })
+    }
+
+    fn subject(&mut self) -> Result<Subject, u32> {
+        match self.byte() {
+            0 => Ok(Subject::Tpm(self.two())),
+            1 => Ok(Subject::Device(self.two())),
+            _ => Err(7),
+        }
+    }
+
+    /// A declared party.
+    fn party(&mut self, world: &World) -> Result<u8, u32> {
+        let party = self.byte();
+        if usize::from(party) >= world.parties.len() {
+            return Err(7);
+        }
+        Ok(party)
+    }
+
+    /// A term declared so far, of any kind. While a term is being read those
+    /// are the lower ones.
+    fn term(&mut self, world: &World) -> Result<u16, u32> {
+        let t = self.two();
+        if usize::from(t) >= world.terms.len() {
+            return Err(7);
+        }
+        Ok(t)
+    }
+
+    /// A term declared so far, of that kind alone.
+    fn term_of(&mut self, world: &World, kind: u8) -> Result<u16, u32> {
+        let t = self.term(world)?;
+        if world.kind(t) != kind {
+            return Err(8);
+        }
+        Ok(t)
+    }
+
+    /// A 13 over a 14.
+    fn signed_attest(&mut self, world: &World) -> Result<u16, u32> {
+        let t = self.term_of(world, 0x13)?;
+        match world.term(t) {
+            Term::Signature { message, .. } if world.kind(message) == 0x14 => Ok(t),
+            _ => Err(8),
+        }
+    }
+}
+
+impl World {
+    /// Reads the record at the start of `rest`; gives its length, or the
+    /// refusal.
+    fn read_record(
+        &mut self,
+        rest: &[u8],
+        place: usize,
+        current: &mut Section,
+    ) -> Result<usize, u32> {
+        let kind = rest[0];
+        let (section, length) = shape(kind).ok_or(3u32)?;
+        let body = rest.get(1..1 + length).ok_or(4u32)?;
+        if section < *current {
+            return Err(5);
+        }
+        *current = section;
+        let body = Body { rest: body };
+        match section {
+            Section::Parties => self.read_party(body)?,
+            Section::Terms => self.read_term(kind, body, place)?,
+            Section::SetUp => self.read_set_up(kind, body)?,
+            Section::Commands => {
+                let command = self.read_command(kind, body)?;
+                self.commands.push(command);
+            }
+        }
+        Ok(1 + length)
+    }
+
+    fn read_party(&mut self, mut body: Body) -> Result<(), u32> {
+        if self.parties.len() == PARTIES {
+            return Err(6);
+        }
+        let role = body.byte();
+        if role > OWNER_DESK {
+            return Err(7);
+        }
+        self.parties.push(Party {
+            role,
+            signing_key: None,
+        });
+        Ok(())
+    }
+
+    fn read_term(&mut self, kind: u8, mut body: Body, place: usize) -> Result<(), u32> {
+        if self.terms.len() == TERMS {
+            return Err(6);
+        }
+        let term = match kind {
+            0x10 => Term::PublicKey(body.key()?),
+            0x11 => Term::PrivateKey(body.key()?),
+            0x12 => Term::Hash {
+                content: body.term(self)?,
+            },
+            0x13 => Term::Signature {
+                message: body.term(self)?,
+                key: body.term_of(self, 0x11)?,
+            },
+            0x14 => Term::Attest {
+                key: body.term_of(self, 0x10)?,
+            },
+            0x15 => Term::Credential {
+                first: body.term(self)?,
+                number: body.term_of(self, 0x16)?,
+                key: body.term_of(self, 0x10)?,
+            },
+            0x16 => Term::Number { id: body.two() },
+            0x17 => Term::IdevidRequest {
+                subject: body.subject()?,
+                certificate: body.term_of(self, 0x19)?,
+                key: body.term_of(self, 0x10)?,
+            },
+            0x18 => Term::LdevidRequest {
+                message: body.term(self)?,
+                certificate: body.term_of(self, 0x19)?,
+            },
+            0x19 => Term::Certificate {
+                key: body.term_of(self, 0x10)?,
+                subject: body.subject()?,
+                signer: body.term_of(self, 0x11)?,
+            },
+            0x1A => Term::Pair {
+                first: body.term(self)?,
+                second: body.term(self)?,
+            },
+            _ => unreachable!("a kind of the section of terms"),
+        };
+        if self.numbers.contains_key(&term) {
+            return Err(9);
+        }
+        self.numbers.insert(term, self.terms.len() as u16);
+        self.terms.push(term);
+        self.states.push(TermState {
+            place: place as u16,
+            ..TermState::default()
+        });
+        Ok(())
+    }
+
+    fn read_set_up(&mut self, kind: u8, mut body: Body) -> Result<(), u32> {
+        let party = body.party(self)?;
+        match kind {
+            0x20 => {
+                let t = body.term(self)?;
+                let allowed = match self.term(t) {
+                    Term::PublicKey(_) | Term::Number { .. } => true,
+                    Term::Certificate {
+                        subject: Subject::Tpm(_),
+                        signer,
+                        ..
+                    } => self.signing_key_of(signer, &[TPM_MAKER]),
+                    _ => false,
+                };
+                if !allowed {
+                    return Err(10);
+                }
+                self.learn(t, party);
+            }
+            0x21 => {
+                let t = body.term_of(self, 0x11)?;
+                let others = self.states[usize::from(t)].table & !bit(party);
+                if self.has(t, FIXED_TPM) && others != 0 {
+                    return Err(11);
+                }
+                self.enter_table(t, party);
+            }
+            0x22 => {
+                let t = body.term_of(self, 0x11)?;
+                let allowed = self.role(party) != DEVICE
+                    && self.parties[usize::from(party)].signing_key.is_none()
+                    && self.attributes(t) == SIGNING_KEY
+                    && self.in_table(t, party);
+                if !allowed {
+                    return Err(12);
+                }
+                self.parties[usize::from(party)].signing_key = Some(t);
+            }
+            _ => unreachable!("a kind of the section of set-up"),
+        }
+        Ok(())
+    }
+
+    fn read_command(&self, kind: u8, mut body: Body) -> Result<Command, u32> {
+        let party = body.party(self)?;
+        let command = match kind {
+            0x30 => Command::Hash {
+                party,
+                r: body.term_of(self, 0x12)?,
+            },
+            0x31 => Command::Sign {
+                party,
+                r: body.term_of(self, 0x13)?,
+            },
+            0x32 => Command::Certify {
+                party,
+                r: body.signed_attest(self)?,
+            },
+            0x33 => Command::MakeCredential {
+                party,
+                r: body.term_of(self, 0x15)?,
+            },
+            0x34 => Command::ActivateCredential {
+                party,
+                r: body.term_of(self, 0x15)?,
+            },
+            0x35 => Command::Build {
+                party,
+                r: body.term_of(self, 0x17)?,
+            },
+            0x36 => Command::Build {
+                party,
+                r: body.term_of(self, 0x18)?,
+            },
+            0x37 => Command::Build {
+                party,
+                r: body.term_of(self, 0x1A)?,
+            },
+            0x38 => Command::CheckHash {
+                party,
+                hash: body.term_of(self, 0x12)?,
+                content: body.term(self)?,
+            },
+            0x39 => Command::CheckSignature {
+                party,
+                signature: body.term_of(self, 0x13)?,
+                key: body.term_of(self, 0x10)?,
+            },
+            0x3A => Command::CheckCertificate {
+                party,
+                certificate: body.term_of(self, 0x19)?,
+                key: body.term_of(self, 0x10)?,
+            },
+            0x3B => Command::CheckAttributes {
+                party,
+                key: body.term_of(self, 0x10)?,
+                attributes: body.attributes()?,
+            },
+            0x3C => Command::Send {
+                party,
+                receiver: body.party(self)?,
+                term: body.term(self)?,
+            },
+            0x3D => Command::SelfIssue {
+                party,
+                r: body.term_of(self, 0x19)?,
+            },
+            0x3E => Command::Challenge {
+                desk: party,
+                request: body.term(self)?,
+                r: body.term_of(self, 0x15)?,
+            },
+            0x3F => Command::IssueIak {
+                desk: party,
+                returning: body.party(self)?,
+                credential: body.term_of(self, 0x15)?,
+                r: body.term_of(self, 0x19)?,
+            },
+            0x40 => Command::IssueLak {
+                desk: party,
+                request: body.term(self)?,
+                r: body.term_of(self, 0x19)?,
+            },
+            _ => unreachable!("a kind of the section of commands"),
+        };
+        Ok(command)
+    }
 }

@@ -6,7 +6,7 @@
 //!     BIRDWEEKLY_SEEDS=1000000 cargo test --offline --release --test second_reading -- --nocapture
 
 use birdweekly::{load, LoadNumbers, STATE_BYTES};
-use reading::worlds::{self, Rng};
+use worlds::Rng;
 use reading::LoadAnswer;
 
 const SEEDS: u64 = 4_000;

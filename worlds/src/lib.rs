@@ -3,6 +3,9 @@
 
 use std::collections::HashMap;
 
+/// Longest scenario file, in bytes.
+const FILE_BYTES: usize = 32_768;
+
 /// Splitmix64.
 pub struct Rng(u64);
 
@@ -220,7 +223,7 @@ impl Draft {
     }
 
     pub fn file(&self) -> Vec<u8> {
-        let mut file = Vec::with_capacity(crate::FILE_BYTES);
+        let mut file = Vec::with_capacity(FILE_BYTES);
         for &role in &self.roles {
             file.extend_from_slice(&[0x01, role]);
         }
@@ -1309,7 +1312,7 @@ impl Town {
 
     /// Commands cut so that the file is not too long.
     fn cut(&mut self) {
-        let mut room = crate::FILE_BYTES.saturating_sub(self.draft.head());
+        let mut room = FILE_BYTES.saturating_sub(self.draft.head());
         let fits = self.draft.commands.iter().take_while(|r| {
             let fits = r.length as usize <= room;
             room = room.saturating_sub(r.length as usize);
@@ -1322,7 +1325,7 @@ impl Town {
     /// Commands added until the file has exactly the most bytes.
     fn fill(&mut self) {
         let used: usize = self.draft.commands.iter().map(|r| r.length as usize).sum();
-        let Some(mut room) = crate::FILE_BYTES.checked_sub(self.draft.head() + used) else {
+        let Some(mut room) = FILE_BYTES.checked_sub(self.draft.head() + used) else {
             return;
         };
         let mut misses = 0;
@@ -1495,10 +1498,10 @@ pub fn random_records(seed: u64) -> Vec<u8> {
         }
     }
     let mut file = draft.file();
-    if file.len() > crate::FILE_BYTES && rng.chance(90) {
+    if file.len() > FILE_BYTES && rng.chance(90) {
         let last = starts(&file)
             .into_iter()
-            .filter(|&s| s <= crate::FILE_BYTES)
+            .filter(|&s| s <= FILE_BYTES)
             .max();
         file.truncate(last.unwrap_or(0));
     }
@@ -1676,7 +1679,7 @@ pub fn any(seed: u64) -> Vec<u8> {
         90 => Vec::new(),
         91..=93 => {
             let mut file = world(own);
-            let length = crate::FILE_BYTES + 1 + rng.pick(&[0, 0, 1, 7, 300]);
+            let length = FILE_BYTES + 1 + rng.pick(&[0, 0, 1, 7, 300]);
             while file.len() < length {
                 file.extend_from_slice(&[0x30, 0, 0, 0]);
             }

@@ -1,0 +1,495 @@
+//! A small builder of scenario files, and worlds to vary.
+
+use reading::*;
+
+/// Subject bytes.
+pub const TPM: u8 = 0;
+pub const DEV: u8 = 1;
+
+/// Attributes.
+pub const AK: u8 = 0x0B;
+pub const EK: u8 = 0x0D;
+pub const CA: u8 = 0x0A;
+
+/// The sections of a file, each in the order added.
+#[derive(Clone, Default)]
+pub struct Build {
+    parties: Vec<u8>,
+    terms: Vec<u8>,
+    set_up: Vec<u8>,
+    commands: Vec<u8>,
+    party_count: u8,
+    term_count: u16,
+    command_count: usize,
+    term_places: Vec<usize>,
+}
+
+fn hi(t: u16) -> u8 {
+    t.to_be_bytes()[0]
+}
+
+fn lo(t: u16) -> u8 {
+    t.to_be_bytes()[1]
+}
+
+impl Build {
+    pub fn bytes(&self) -> Vec<u8> {
+        [
+            &self.parties[..],
+            &self.terms[..],
+            &self.set_up[..],
+            &self.commands[..],
+        ]
+        .concat()
+    }
+
+    pub fn party(&mut self, role: u8) -> u8 {
+        self.parties.extend([0x01, role]);
+        self.party_count += 1;
+        self.party_count - 1
+    }
+
+    fn term(&mut self, record: &[u8]) -> u16 {
+        self.term_places.push(self.terms.len());
+        self.terms.extend(record);
+        self.term_count += 1;
+        self.term_count - 1
+    }
+
+    /// Where the record of a term starts in the file.
+    pub fn place(&self, t: u16) -> usize {
+        self.parties.len() + self.term_places[usize::from(t)]
+    }
+
+    pub fn terms(&self) -> u16 {
+        self.term_count
+    }
+
+    pub fn commands(&self) -> usize {
+        self.command_count
+    }
+
+    pub fn public(&mut self, id: u16, attributes: u8) -> u16 {
+        self.term(&[0x10, hi(id), lo(id), attributes])
+    }
+
+    pub fn private(&mut self, id: u16, attributes: u8) -> u16 {
+        self.term(&[0x11, hi(id), lo(id), attributes])
+    }
+
+    /// A public and a private key.
+    pub fn keys(&mut self, id: u16, attributes: u8) -> (u16, u16) {
+        (self.public(id, attributes), self.private(id, attributes))
+    }
+
+    pub fn hash(&mut self, t: u16) -> u16 {
+        self.term(&[0x12, hi(t), lo(t)])
+    }
+
+    pub fn signature(&mut self, t: u16, private: u16) -> u16 {
+        self.term(&[0x13, hi(t), lo(t), hi(private), lo(private)])
+    }
+
+    pub fn attest(&mut self, public: u16) -> u16 {
+        self.term(&[0x14, hi(public), lo(public)])
+    }
+
+    pub fn credential(&mut self, t: u16, number: u16, public: u16) -> u16 {
+        self.term(&[
+            0x15,
+            hi(t),
+            lo(t),
+            hi(number),
+            lo(number),
+            hi(public),
+            lo(public),
+        ])
+    }
+
+    pub fn number(&mut self, id: u16) -> u16 {
+        self.term(&[0x16, hi(id), lo(id)])
+    }
+
+    pub fn idevid(&mut self, what: u8, who: u16, certificate: u16, public: u16) -> u16 {
+        self.term(&[
+            0x17,
+            what,
+            hi(who),
+            lo(who),
+            hi(certificate),
+            lo(certificate),
+            hi(public),
+            lo(public),
+        ])
+    }
+
+    pub fn ldevid(&mut self, t: u16, certificate: u16) -> u16 {
+        self.term(&[0x18, hi(t), lo(t), hi(certificate), lo(certificate)])
+    }
+
+    pub fn certificate(&mut self, public: u16, what: u8, who: u16, signer: u16) -> u16 {
+        self.term(&[
+            0x19,
+            hi(public),
+            lo(public),
+            what,
+            hi(who),
+            lo(who),
+            hi(signer),
+            lo(signer),
+        ])
+    }
+
+    pub fn pair(&mut self, a: u16, b: u16) -> u16 {
+        self.term(&[0x1A, hi(a), lo(a), hi(b), lo(b)])
+    }
+
+    fn set(&mut self, record: &[u8]) {
+        self.set_up.extend(record);
+    }
+
+    /// 20.
+    pub fn give(&mut self, party: u8, t: u16) {
+        self.set(&[0x20, party, hi(t), lo(t)]);
+    }
+
+    /// 21.
+    pub fn hold(&mut self, party: u8, t: u16) {
+        self.set(&[0x21, party, hi(t), lo(t)]);
+    }
+
+    /// 22.
+    pub fn desk_key(&mut self, party: u8, t: u16) {
+        self.set(&[0x22, party, hi(t), lo(t)]);
+    }
+
+    /// Any command; gives its ordinal.
+    pub fn raw(&mut self, record: &[u8]) -> usize {
+        self.commands.extend(record);
+        self.command_count += 1;
+        self.command_count - 1
+    }
+
+    /// 30 to 37 and 3D.
+    pub fn act(&mut self, kind: u8, party: u8, r: u16) -> usize {
+        self.raw(&[kind, party, hi(r), lo(r)])
+    }
+
+    /// 38, 39 and 3A.
+    pub fn check(&mut self, kind: u8, party: u8, a: u16, b: u16) -> usize {
+        self.raw(&[kind, party, hi(a), lo(a), hi(b), lo(b)])
+    }
+
+    /// 3B.
+    pub fn check_attributes(&mut self, party: u8, key: u16, attributes: u8) -> usize {
+        self.raw(&[0x3B, party, hi(key), lo(key), attributes])
+    }
+
+    /// 3C.
+    pub fn send(&mut self, party: u8, receiver: u8, t: u16) -> usize {
+        self.raw(&[0x3C, party, receiver, hi(t), lo(t)])
+    }
+
+    /// 3E.
+    pub fn challenge(&mut self, desk: u8, request: u16, r: u16) -> usize {
+        self.check(0x3E, desk, request, r)
+    }
+
+    /// 3F.
+    pub fn issue_iak(&mut self, desk: u8, returning: u8, credential: u16, r: u16) -> usize {
+        self.raw(&[
+            0x3F,
+            desk,
+            returning,
+            hi(credential),
+            lo(credential),
+            hi(r),
+            lo(r),
+        ])
+    }
+
+    /// 40.
+    pub fn issue_lak(&mut self, desk: u8, request: u16, r: u16) -> usize {
+        self.check(0x40, desk, request, r)
+    }
+
+    /// Runs the first n commands.
+    pub fn run_first(&self, n: usize) -> Ran {
+        run_bytes(&self.bytes(), n)
+    }
+
+    /// Runs all; the file must load.
+    pub fn run(&self) -> Ran {
+        self.run_first(usize::MAX)
+    }
+
+    /// The outcome of one command of a run of all.
+    pub fn outcome(&self, ordinal: usize) -> u8 {
+        let ran = self.run();
+        assert!(
+            matches!(ran.answer, RunAnswer::Ran { .. }),
+            "{:?}",
+            ran.answer
+        );
+        ran.outcomes[ordinal]
+    }
+
+    pub fn text(&self) -> String {
+        String::from_utf8(listing(&self.bytes())).unwrap()
+    }
+}
+
+/// What a run leaves in buffers of the least size.
+#[derive(Clone, Debug, PartialEq)]
+pub struct Ran {
+    pub answer: RunAnswer,
+    pub state: Vec<u8>,
+    pub ledger: Vec<Entry>,
+    pub outcomes: Vec<u8>,
+}
+
+pub fn run_bytes(file: &[u8], n: usize) -> Ran {
+    let mut state = vec![0xEE; STATE_BYTES];
+    let mut ledger = vec![
+        Entry {
+            certificate: 7,
+            parent: 7,
+            depth: 7
+        };
+        TERMS
+    ];
+    let mut outcomes = vec![0xEE; OUTCOMES];
+    let answer = run(file, n, &mut state, &mut ledger, &mut outcomes);
+    Ran {
+        answer,
+        state,
+        ledger,
+        outcomes,
+    }
+}
+
+impl Ran {
+    /// The eight state bytes of a term.
+    pub fn term(&self, t: u16) -> [u8; 8] {
+        let at = 8 * usize::from(t);
+        self.state[at..at + 8].try_into().unwrap()
+    }
+
+    pub fn knows(&self, party: u8, t: u16) -> bool {
+        self.term(t)[0] >> party & 1 == 1
+    }
+
+    pub fn table(&self, party: u8, t: u16) -> bool {
+        self.term(t)[1] >> party & 1 == 1
+    }
+
+    pub fn totals(&self) -> (u32, u32, u32) {
+        match self.answer {
+            RunAnswer::Ran {
+                accepted,
+                refused,
+                issued,
+            } => (accepted, refused, issued),
+            RunAnswer::Refused { number, place } => panic!("refused {number} at {place}"),
+        }
+    }
+}
+
+/// A device, a TPM maker, an OEM desk and an owner desk, with the terms of an
+/// honest IAK enrolment and its set-up, but no command.
+#[derive(Clone)]
+pub struct Names {
+    pub device: u8,
+    pub maker: u8,
+    pub oem: u8,
+    pub owner: u8,
+    pub ek: u16,
+    pub ek_private: u16,
+    pub iak: u16,
+    pub iak_private: u16,
+    pub maker_private: u16,
+    pub oem_private: u16,
+    pub owner_private: u16,
+    pub ek_certificate: u16,
+    pub csr: u16,
+    pub csr_hash: u16,
+    pub csr_signature: u16,
+    pub request: u16,
+    pub iak_hash: u16,
+    pub number: u16,
+    pub credential: u16,
+    pub iak_certificate: u16,
+}
+
+/// The terms of the IAK world; the attributes of IAK and EK may vary.
+pub fn iak_terms(b: &mut Build, iak_attributes: u8, ek_attributes: u8) -> Names {
+    let device = b.party(0);
+    let maker = b.party(1);
+    let oem = b.party(2);
+    let owner = b.party(3);
+    let (ek, ek_private) = b.keys(1, ek_attributes);
+    let (iak, iak_private) = b.keys(2, iak_attributes);
+    let maker_private = b.private(3, CA);
+    let oem_private = b.private(4, CA);
+    let owner_private = b.private(5, CA);
+    let ek_certificate = b.certificate(ek, TPM, 100, maker_private);
+    let csr = b.idevid(DEV, 200, ek_certificate, iak);
+    let csr_hash = b.hash(csr);
+    let csr_signature = b.signature(csr_hash, iak_private);
+    let request = b.pair(csr, csr_signature);
+    let iak_hash = b.hash(iak);
+    let number = b.number(77);
+    let credential = b.credential(iak_hash, number, ek);
+    let iak_certificate = b.certificate(iak, DEV, 200, oem_private);
+    Names {
+        device,
+        maker,
+        oem,
+        owner,
+        ek,
+        ek_private,
+        iak,
+        iak_private,
+        maker_private,
+        oem_private,
+        owner_private,
+        ek_certificate,
+        csr,
+        csr_hash,
+        csr_signature,
+        request,
+        iak_hash,
+        number,
+        credential,
+        iak_certificate,
+    }
+}
+
+/// The keys of the three desks.
+pub fn desk_set_up(b: &mut Build, n: &Names) {
+    for (party, key) in [
+        (n.maker, n.maker_private),
+        (n.oem, n.oem_private),
+        (n.owner, n.owner_private),
+    ] {
+        b.hold(party, key);
+        b.desk_key(party, key);
+    }
+}
+
+/// What the device holds and learns, and the number of the OEM desk.
+pub fn device_set_up(b: &mut Build, n: &Names) {
+    b.hold(n.device, n.ek_private);
+    b.hold(n.device, n.iak_private);
+    b.give(n.device, n.iak);
+    b.give(n.device, n.ek_certificate);
+    b.give(n.oem, n.number);
+}
+
+/// 35, 30, 31, 37, 3C: the request reaches the OEM desk.
+pub fn make_request(b: &mut Build, n: &Names) {
+    b.act(0x35, n.device, n.csr);
+    b.act(0x30, n.device, n.csr_hash);
+    b.act(0x31, n.device, n.csr_signature);
+    b.act(0x37, n.device, n.request);
+    b.send(n.device, n.oem, n.request);
+}
+
+/// The IAK world with its set-up and the request at the OEM desk.
+pub fn asked() -> (Build, Names) {
+    let mut b = Build::default();
+    let n = iak_terms(&mut b, AK, EK);
+    desk_set_up(&mut b, &n);
+    device_set_up(&mut b, &n);
+    make_request(&mut b, &n);
+    (b, n)
+}
+
+/// The honest IAK enrolment: nine commands.
+pub fn honest() -> (Build, Names) {
+    let (mut b, n) = asked();
+    finish_iak(&mut b, &n);
+    (b, n)
+}
+
+/// 3E, 3C, 34, 3F.
+pub fn finish_iak(b: &mut Build, n: &Names) {
+    b.challenge(n.oem, n.request, n.credential);
+    b.send(n.oem, n.device, n.credential);
+    b.act(0x34, n.device, n.credential);
+    b.issue_iak(n.oem, n.device, n.credential, n.iak_certificate);
+}
+
+/// The terms of one LAK step.
+#[derive(Clone, Copy)]
+pub struct Lak {
+    pub public: u16,
+    pub private: u16,
+    pub attest: u16,
+    pub signed_attest: u16,
+    pub csr: u16,
+    pub csr_hash: u16,
+    pub csr_signature: u16,
+    pub request: u16,
+    pub certificate: u16,
+}
+
+/// Terms of a LAK with that id, under a parent's private key and certificate.
+pub fn lak_terms(
+    b: &mut Build,
+    id: u16,
+    attributes: u8,
+    parent_private: u16,
+    parent_certificate: u16,
+    desk_private: u16,
+) -> Lak {
+    let (public, private) = b.keys(id, attributes);
+    let attest = b.attest(public);
+    let signed_attest = b.signature(attest, parent_private);
+    let csr = b.ldevid(signed_attest, parent_certificate);
+    let csr_hash = b.hash(csr);
+    let csr_signature = b.signature(csr_hash, private);
+    let request = b.pair(csr, csr_signature);
+    let certificate = b.certificate(public, DEV, 200, desk_private);
+    Lak {
+        public,
+        private,
+        attest,
+        signed_attest,
+        csr,
+        csr_hash,
+        csr_signature,
+        request,
+        certificate,
+    }
+}
+
+/// 32, 36, 30, 31, 37, 3C, 40: a LAK; the device must know the parent.
+pub fn lak_commands(b: &mut Build, device: u8, owner: u8, l: &Lak) -> usize {
+    b.act(0x32, device, l.signed_attest);
+    b.act(0x36, device, l.csr);
+    b.act(0x30, device, l.csr_hash);
+    b.act(0x31, device, l.csr_signature);
+    b.act(0x37, device, l.request);
+    b.send(device, owner, l.request);
+    b.issue_lak(owner, l.request, l.certificate)
+}
+
+/// An honest IAK and under it a chain of `count` LAKs, each the parent of the
+/// next. Gives the ordinals of the 40s and the LAKs.
+pub fn chain(count: u16) -> (Build, Names, Vec<usize>, Vec<Lak>) {
+    let (mut b, n) = honest();
+    b.send(n.oem, n.device, n.iak_certificate);
+    let mut parent = (n.iak_private, n.iak_certificate);
+    let mut ordinals = Vec::new();
+    let mut laks = Vec::new();
+    for step in 0..count {
+        let l = lak_terms(&mut b, 1000 + step, AK, parent.0, parent.1, n.owner_private);
+        b.hold(n.device, l.private);
+        ordinals.push(lak_commands(&mut b, n.device, n.owner, &l));
+        b.send(n.owner, n.device, l.certificate);
+        parent = (l.private, l.certificate);
+        laks.push(l);
+    }
+    (b, n, ordinals, laks)
+}

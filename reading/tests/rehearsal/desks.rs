@@ -1,0 +1,620 @@
+//! Desk commands, 3E, 3F and 40: refusals 13 to 29 but 22.
+//!
+//! 22 cannot be built: a 19 signed by a desk's key becomes known only by an
+//! accepted 3F or 40, which puts it in the ledger.
+
+use crate::builder::*;
+
+/// Changes nothing but the outcome byte.
+fn refused_cleanly(b: &Build, ordinal: usize, number: u8) {
+    let before = b.run_first(ordinal);
+    let after = b.run_first(ordinal + 1);
+    let (accepted, refused, issued) = before.totals();
+    assert_eq!(after.outcomes[ordinal], number);
+    assert_eq!(after.totals(), (accepted, refused + 1, issued));
+    assert_eq!(before.state, after.state);
+    assert_eq!(before.ledger, after.ledger);
+}
+
+#[test]
+fn challenge_role() {
+    for role in [0, 1, 3] {
+        let (mut b, n) = asked();
+        let party = b.party(role);
+        b.send(n.device, party, n.request);
+        let last = b.challenge(party, n.request, n.credential);
+        refused_cleanly(&b, last, 13);
+    }
+    // 13 even when nothing else is right.
+    let (mut b, n) = asked();
+    let last = b.challenge(n.owner, n.iak, n.credential);
+    refused_cleanly(&b, last, 13);
+}
+
+#[test]
+fn challenge_request_not_known() {
+    let mut b = Build::default();
+    let n = iak_terms(&mut b, AK, EK);
+    desk_set_up(&mut b, &n);
+    device_set_up(&mut b, &n);
+    let first = b.challenge(n.oem, n.request, n.credential);
+    let formless = b.challenge(n.oem, n.iak_hash, n.credential);
+    refused_cleanly(&b, first, 14);
+    refused_cleanly(&b, formless, 14);
+}
+
+#[test]
+fn challenge_form() {
+    let (mut b, n) = asked();
+    let swapped = b.pair(n.csr_signature, n.csr);
+    let alone = b.pair(n.csr, n.csr);
+    let tpm_csr = b.idevid(TPM, 200, n.ek_certificate, n.iak);
+    let tpm_hash = b.hash(tpm_csr);
+    let tpm_signature = b.signature(tpm_hash, n.iak_private);
+    let tpm_request = b.pair(tpm_csr, tpm_signature);
+    let plain = b.private(50, 2);
+    let over_csr = b.signature(n.csr, plain);
+    let over_csr_request = b.pair(n.csr, over_csr);
+    b.hold(n.device, plain);
+    for (kind, r) in [
+        (0x37, swapped),
+        (0x37, alone),
+        (0x35, tpm_csr),
+        (0x30, tpm_hash),
+        (0x31, tpm_signature),
+        (0x37, tpm_request),
+        (0x31, over_csr),
+        (0x37, over_csr_request),
+    ] {
+        let at = b.act(kind, n.device, r);
+        assert_eq!(b.outcome(at), 0);
+    }
+    for request in [swapped, alone, tpm_request, over_csr_request] {
+        b.send(n.device, n.oem, request);
+        let last = b.challenge(n.oem, request, n.credential);
+        refused_cleanly(&b, last, 19);
+    }
+    for request in [n.csr, n.csr_signature, n.iak] {
+        let last = b.challenge(n.oem, request, n.credential);
+        refused_cleanly(&b, last, 19);
+    }
+}
+
+#[test]
+fn challenge_hash_and_signature() {
+    let (mut b, n) = asked();
+    // The 12 hashes another 17; the 13 is by another key, also one of the
+    // same id.
+    let other_csr = b.idevid(DEV, 201, n.ek_certificate, n.iak);
+    let mixed = b.pair(other_csr, n.csr_signature);
+    let other = b.private(50, AK);
+    let near = b.private(2, CA);
+    let by_other = b.signature(n.csr_hash, other);
+    let by_near = b.signature(n.csr_hash, near);
+    let other_request = b.pair(n.csr, by_other);
+    let near_request = b.pair(n.csr, by_near);
+    b.hold(n.device, other);
+    b.hold(n.device, near);
+    for (kind, r) in [
+        (0x35, other_csr),
+        (0x37, mixed),
+        (0x31, by_other),
+        (0x31, by_near),
+        (0x37, other_request),
+        (0x37, near_request),
+    ] {
+        let at = b.act(kind, n.device, r);
+        assert_eq!(b.outcome(at), 0);
+    }
+    for request in [mixed, other_request, near_request] {
+        b.send(n.device, n.oem, request);
+        let last = b.challenge(n.oem, request, n.credential);
+        refused_cleanly(&b, last, 20);
+    }
+}
+
+/// A challenge on a 17 with another certificate, which the device makes by a
+/// 3D, or learns in some other way.
+fn challenge_with_certificate(what: u8, by_desk: bool) -> u8 {
+    let mut b = Build::default();
+    let n = iak_terms(&mut b, AK, EK);
+    let own = b.private(60, 2);
+    let signer = if by_desk { n.oem_private } else { own };
+    let certificate = b.certificate(n.ek, what, 100, signer);
+    let csr = b.idevid(DEV, 200, certificate, n.iak);
+    let hash = b.hash(csr);
+    let signature = b.signature(hash, n.iak_private);
+    let request = b.pair(csr, signature);
+    desk_set_up(&mut b, &n);
+    device_set_up(&mut b, &n);
+    b.hold(n.device, own);
+    b.act(0x3D, n.device, certificate);
+    b.act(0x35, n.device, csr);
+    b.act(0x30, n.device, hash);
+    b.act(0x31, n.device, signature);
+    b.act(0x37, n.device, request);
+    b.send(n.device, n.oem, request);
+    let last = b.challenge(n.oem, request, n.credential);
+    b.outcome(last)
+}
+
+#[test]
+fn challenge_certificate() {
+    assert_eq!(challenge_with_certificate(TPM, false), 21);
+    assert_eq!(challenge_with_certificate(DEV, false), 21);
+    // A desk's key cannot self-issue, so the request is never known.
+    assert_eq!(challenge_with_certificate(DEV, true), 14);
+    // The issued IAK certificate in a 17: a desk's key, a device's Subject.
+    let (mut b, n) = honest();
+    let csr = b.idevid(DEV, 200, n.iak_certificate, n.iak);
+    let hash = b.hash(csr);
+    let signature = b.signature(hash, n.iak_private);
+    let request = b.pair(csr, signature);
+    let number = b.number(78);
+    let credential = b.credential(n.iak_hash, number, n.iak);
+    b.give(n.oem, number);
+    b.send(n.oem, n.device, n.iak_certificate);
+    b.act(0x35, n.device, csr);
+    b.act(0x30, n.device, hash);
+    b.act(0x31, n.device, signature);
+    b.act(0x37, n.device, request);
+    b.send(n.device, n.oem, request);
+    let last = b.challenge(n.oem, request, credential);
+    refused_cleanly(&b, last, 21);
+}
+
+#[test]
+fn challenge_attributes() {
+    for attributes in 0..16 {
+        // IAKs: those that cannot sign are refused before the desk.
+        let mut b = Build::default();
+        let n = iak_terms(&mut b, attributes, EK);
+        desk_set_up(&mut b, &n);
+        device_set_up(&mut b, &n);
+        make_request(&mut b, &n);
+        let last = b.challenge(n.oem, n.request, n.credential);
+        let expected = match attributes {
+            AK => 0,
+            _ if attributes & 2 == 0 => 14,
+            _ => 23,
+        };
+        assert_eq!(b.outcome(last), expected, "IAK {attributes:x}");
+        // EKs.
+        let mut b = Build::default();
+        let n = iak_terms(&mut b, AK, attributes);
+        desk_set_up(&mut b, &n);
+        device_set_up(&mut b, &n);
+        make_request(&mut b, &n);
+        let last = b.challenge(n.oem, n.request, n.credential);
+        let expected = if attributes == EK { 0 } else { 23 };
+        assert_eq!(b.outcome(last), expected, "EK {attributes:x}");
+    }
+}
+
+#[test]
+fn challenge_number() {
+    // Not known to the desk, known to the desk and another, known to another
+    // alone, known to nobody: 24, never 14.
+    for (desk, other, expected) in [
+        (true, false, 0),
+        (true, true, 24),
+        (false, true, 24),
+        (false, false, 24),
+    ] {
+        let (mut b, n) = asked();
+        let number = b.number(78);
+        let credential = b.credential(n.iak_hash, number, n.ek);
+        if desk {
+            b.give(n.oem, number);
+        }
+        if other {
+            b.give(n.maker, number);
+        }
+        let last = b.challenge(n.oem, n.request, credential);
+        assert_eq!(b.outcome(last), expected);
+        if expected != 0 {
+            refused_cleanly(&b, last, expected);
+        }
+    }
+}
+
+#[test]
+fn challenge_result() {
+    let (mut b, n) = asked();
+    let ek_hash = b.hash(n.ek);
+    let wrong_hash = b.credential(ek_hash, n.number, n.ek);
+    let wrong_key = b.credential(n.iak_hash, n.number, n.iak);
+    let no_hash = b.credential(n.iak, n.number, n.ek);
+    for r in [wrong_hash, wrong_key, no_hash] {
+        let last = b.challenge(n.oem, n.request, r);
+        refused_cleanly(&b, last, 27);
+    }
+    // 24 before 27.
+    let number = b.number(78);
+    let both = b.credential(ek_hash, number, n.ek);
+    let last = b.challenge(n.oem, n.request, both);
+    refused_cleanly(&b, last, 24);
+    // The right one is still accepted after all.
+    let last = b.challenge(n.oem, n.request, n.credential);
+    assert_eq!(b.outcome(last), 0);
+}
+
+#[test]
+fn issue_iak_role() {
+    let (b, n) = asked();
+    for party in [n.device, n.maker, n.owner] {
+        let mut b = b.clone();
+        b.challenge(n.oem, n.request, n.credential);
+        b.send(n.oem, n.device, n.credential);
+        b.act(0x34, n.device, n.credential);
+        let last = b.issue_iak(party, n.device, n.credential, n.iak_certificate);
+        refused_cleanly(&b, last, 13);
+    }
+}
+
+#[test]
+fn issue_iak_credential() {
+    // Never opened.
+    let (mut b, n) = asked();
+    let last = b.issue_iak(n.oem, n.device, n.credential, n.iak_certificate);
+    refused_cleanly(&b, last, 25);
+    // Closed already, though the certificate is also issued already.
+    let (mut b, n) = honest();
+    let last = b.issue_iak(n.oem, n.device, n.credential, n.iak_certificate);
+    refused_cleanly(&b, last, 25);
+    // Open at another desk.
+    let (mut b, n) = asked();
+    let second = b.party(2);
+    let key = b.private(70, CA);
+    let certificate = b.certificate(n.iak, DEV, 200, key);
+    b.hold(second, key);
+    b.desk_key(second, key);
+    b.challenge(n.oem, n.request, n.credential);
+    b.send(n.oem, n.device, n.credential);
+    b.send(n.oem, second, n.credential);
+    b.act(0x34, n.device, n.credential);
+    let last = b.issue_iak(second, n.device, n.credential, certificate);
+    refused_cleanly(&b, last, 25);
+    let last = b.issue_iak(n.oem, n.device, n.credential, n.iak_certificate);
+    assert_eq!(b.outcome(last), 0);
+}
+
+#[test]
+fn issue_iak_returning_party() {
+    let (mut b, n) = asked();
+    let bystander = b.party(0);
+    b.challenge(n.oem, n.request, n.credential);
+    b.send(n.oem, n.device, n.credential);
+    b.act(0x34, n.device, n.credential);
+    b.send(n.device, n.owner, n.number);
+    for party in [bystander, n.maker, n.oem, n.owner] {
+        let last = b.issue_iak(n.oem, party, n.credential, n.iak_certificate);
+        refused_cleanly(&b, last, 26);
+    }
+    // Any device that knows the number may return it.
+    b.send(n.device, bystander, n.number);
+    let last = b.issue_iak(n.oem, bystander, n.credential, n.iak_certificate);
+    assert_eq!(b.outcome(last), 0);
+}
+
+#[test]
+fn issue_iak_result() {
+    let (mut b, n) = asked();
+    let wrong_key = b.certificate(n.ek, DEV, 200, n.oem_private);
+    let wrong_number = b.certificate(n.iak, DEV, 201, n.oem_private);
+    let wrong_subject = b.certificate(n.iak, TPM, 200, n.oem_private);
+    let wrong_signer = b.certificate(n.iak, DEV, 200, n.owner_private);
+    b.challenge(n.oem, n.request, n.credential);
+    b.send(n.oem, n.device, n.credential);
+    let early = b.issue_iak(n.oem, n.device, n.credential, wrong_key);
+    b.act(0x34, n.device, n.credential);
+    // 26 before 27.
+    refused_cleanly(&b, early, 26);
+    for r in [
+        wrong_key,
+        wrong_number,
+        wrong_subject,
+        wrong_signer,
+        n.ek_certificate,
+    ] {
+        let last = b.issue_iak(n.oem, n.device, n.credential, r);
+        refused_cleanly(&b, last, 27);
+    }
+    let last = b.issue_iak(n.oem, n.device, n.credential, n.iak_certificate);
+    assert_eq!(b.outcome(last), 0);
+}
+
+#[test]
+fn issue_iak_by_a_desk_without_a_key() {
+    let mut b = Build::default();
+    let n = iak_terms(&mut b, AK, EK);
+    b.hold(n.maker, n.maker_private);
+    b.desk_key(n.maker, n.maker_private);
+    b.hold(n.oem, n.oem_private);
+    device_set_up(&mut b, &n);
+    make_request(&mut b, &n);
+    finish_iak(&mut b, &n);
+    let ran = b.run();
+    assert_eq!(ran.outcomes[..9], [0, 0, 0, 0, 0, 0, 0, 0, 27]);
+}
+
+#[test]
+fn issued_certificate_called_for_is_27_before_28() {
+    let (mut b, n) = honest();
+    let number = b.number(78);
+    let credential = b.credential(n.iak_hash, number, n.ek);
+    let csr = b.idevid(DEV, 300, n.ek_certificate, n.iak);
+    let hash = b.hash(csr);
+    let signature = b.signature(hash, n.iak_private);
+    let request = b.pair(csr, signature);
+    let second = b.certificate(n.iak, DEV, 300, n.oem_private);
+    b.give(n.oem, number);
+    b.act(0x35, n.device, csr);
+    b.act(0x30, n.device, hash);
+    b.act(0x31, n.device, signature);
+    b.act(0x37, n.device, request);
+    b.send(n.device, n.oem, request);
+    b.challenge(n.oem, request, credential);
+    b.send(n.oem, n.device, credential);
+    b.act(0x34, n.device, credential);
+    // Issued already, but not the one that this request calls for.
+    let last = b.issue_iak(n.oem, n.device, credential, n.iak_certificate);
+    refused_cleanly(&b, last, 27);
+    // The same IAK for another Subject is another certificate.
+    let last = b.issue_iak(n.oem, n.device, credential, second);
+    assert_eq!(b.outcome(last), 0);
+    assert_eq!(b.run().totals().2, 2);
+}
+
+/// A chain of one LAK, up to but not with its 40.
+fn lak_asked() -> (Build, Names, Lak) {
+    let (mut b, n) = honest();
+    b.send(n.oem, n.device, n.iak_certificate);
+    let l = lak_terms(
+        &mut b,
+        1000,
+        AK,
+        n.iak_private,
+        n.iak_certificate,
+        n.owner_private,
+    );
+    b.hold(n.device, l.private);
+    b.act(0x32, n.device, l.signed_attest);
+    b.act(0x36, n.device, l.csr);
+    b.act(0x30, n.device, l.csr_hash);
+    b.act(0x31, n.device, l.csr_signature);
+    b.act(0x37, n.device, l.request);
+    b.send(n.device, n.owner, l.request);
+    (b, n, l)
+}
+
+#[test]
+fn issue_lak() {
+    let (mut b, n, l) = lak_asked();
+    let last = b.issue_lak(n.owner, l.request, l.certificate);
+    assert_eq!(b.outcome(last), 0);
+    let ran = b.run();
+    assert_eq!(ran.totals().2, 2);
+    assert_eq!(ran.ledger[1].certificate, l.certificate);
+    assert_eq!(ran.ledger[1].parent, n.iak_certificate);
+    assert_eq!(ran.ledger[1].depth, 2);
+    assert!(ran.knows(n.owner, l.certificate));
+    assert!(!ran.knows(n.device, l.certificate));
+    let again = b.issue_lak(n.owner, l.request, l.certificate);
+    refused_cleanly(&b, again, 28);
+}
+
+#[test]
+fn issue_lak_role_and_knowledge() {
+    let (mut b, n, l) = lak_asked();
+    b.send(n.device, n.oem, l.request);
+    for party in [n.device, n.maker, n.oem] {
+        let last = b.issue_lak(party, l.request, l.certificate);
+        refused_cleanly(&b, last, 13);
+    }
+    let second = b.party(3);
+    let last = b.issue_lak(second, l.request, l.certificate);
+    refused_cleanly(&b, last, 14);
+    // Known, but this desk has no key: no r is the one called for.
+    b.send(n.device, second, l.request);
+    let last = b.issue_lak(second, l.request, l.certificate);
+    refused_cleanly(&b, last, 27);
+}
+
+/// Builds and sends a request of an 18 and a 13; gives the outcome of its 40.
+fn try_lak(b: &mut Build, n: &Names, csr: u16, signer: u16, r: u16) -> usize {
+    let hash = b.hash(csr);
+    let signature = b.signature(hash, signer);
+    let request = b.pair(csr, signature);
+    for (kind, t) in [
+        (0x36, csr),
+        (0x30, hash),
+        (0x31, signature),
+        (0x37, request),
+    ] {
+        let at = b.act(kind, n.device, t);
+        assert_eq!(b.outcome(at), 0);
+    }
+    b.send(n.device, n.owner, request);
+    b.issue_lak(n.owner, request, r)
+}
+
+#[test]
+fn issue_lak_form() {
+    let (mut b, n, l) = lak_asked();
+    let swapped = b.pair(l.csr_signature, l.csr);
+    b.act(0x37, n.device, swapped);
+    b.send(n.device, n.owner, swapped);
+    let plain = b.private(50, 2);
+    b.hold(n.device, plain);
+    let unhashed = b.signature(l.csr, plain);
+    let unhashed_request = b.pair(l.csr, unhashed);
+    b.act(0x31, n.device, unhashed);
+    b.act(0x37, n.device, unhashed_request);
+    b.send(n.device, n.owner, unhashed_request);
+    // A 3E request at a 40.
+    b.send(n.device, n.owner, n.request);
+    for request in [swapped, unhashed_request, n.request, l.csr, l.csr_signature] {
+        let last = b.issue_lak(n.owner, request, l.certificate);
+        refused_cleanly(&b, last, 19);
+    }
+    // The 18's message: a bare 14, a 13 over a 12.
+    let bare = b.ldevid(l.attest, n.iak_certificate);
+    let last = try_lak(&mut b, &n, bare, l.private, l.certificate);
+    refused_cleanly(&b, last, 19);
+    let over_hash = b.ldevid(l.csr_signature, n.iak_certificate);
+    let last = try_lak(&mut b, &n, over_hash, l.private, l.certificate);
+    refused_cleanly(&b, last, 19);
+    // A LAK request at a 3E.
+    let number = b.number(78);
+    let credential = b.credential(n.iak_hash, number, n.ek);
+    b.give(n.oem, number);
+    b.send(n.device, n.oem, l.request);
+    let last = b.challenge(n.oem, l.request, credential);
+    refused_cleanly(&b, last, 19);
+}
+
+#[test]
+fn issue_lak_hash_and_signatures() {
+    let (mut b, n, l) = lak_asked();
+    // Signed by the IAK, not the LAK.
+    let by_iak = b.signature(l.csr_hash, n.iak_private);
+    let by_iak_request = b.pair(l.csr, by_iak);
+    b.act(0x31, n.device, by_iak);
+    b.act(0x37, n.device, by_iak_request);
+    b.send(n.device, n.owner, by_iak_request);
+    let last = b.issue_lak(n.owner, by_iak_request, l.certificate);
+    refused_cleanly(&b, last, 20);
+    // The hash of something else.
+    let other_signature = b.signature(n.iak_hash, l.private);
+    let other_request = b.pair(l.csr, other_signature);
+    b.act(0x30, n.device, n.iak_hash);
+    b.act(0x31, n.device, other_signature);
+    b.act(0x37, n.device, other_request);
+    b.send(n.device, n.owner, other_request);
+    let last = b.issue_lak(n.owner, other_request, l.certificate);
+    refused_cleanly(&b, last, 20);
+    // The attest signed by the LAK itself, not the certificate's key.
+    let own_attest = b.signature(l.attest, l.private);
+    let csr = b.ldevid(own_attest, n.iak_certificate);
+    b.act(0x32, n.device, own_attest);
+    let last = try_lak(&mut b, &n, csr, l.private, l.certificate);
+    refused_cleanly(&b, last, 20);
+    // The attest signed by an unrestricted key of the IAK's id.
+    let near = b.private(2, CA);
+    let near_attest = b.signature(l.attest, near);
+    let csr = b.ldevid(near_attest, n.iak_certificate);
+    b.hold(n.device, near);
+    b.act(0x31, n.device, near_attest);
+    let last = try_lak(&mut b, &n, csr, l.private, l.certificate);
+    refused_cleanly(&b, last, 20);
+}
+
+#[test]
+fn issue_lak_signer() {
+    // The EK certificate as parent: the maker's key is no desk's. The attest
+    // must be signed by the EK to get so far, and an EK cannot sign; so use a
+    // maker's certificate of the IAK.
+    let (mut b, n, l) = lak_asked();
+    let by_maker = b.certificate(n.iak, TPM, 100, n.maker_private);
+    b.give(n.device, by_maker);
+    let csr = b.ldevid(l.signed_attest, by_maker);
+    let last = try_lak(&mut b, &n, csr, l.private, l.certificate);
+    refused_cleanly(&b, last, 21);
+    // A self-issued certificate of the IAK.
+    let own = b.private(60, 2);
+    let self_issued = b.certificate(n.iak, DEV, 200, own);
+    b.hold(n.device, own);
+    b.act(0x3D, n.device, self_issued);
+    let csr = b.ldevid(l.signed_attest, self_issued);
+    let last = try_lak(&mut b, &n, csr, l.private, l.certificate);
+    refused_cleanly(&b, last, 21);
+}
+
+#[test]
+fn issue_lak_attributes() {
+    for attributes in 0..16 {
+        let (mut b, n) = honest();
+        b.send(n.oem, n.device, n.iak_certificate);
+        let l = lak_terms(
+            &mut b,
+            1000,
+            attributes,
+            n.iak_private,
+            n.iak_certificate,
+            n.owner_private,
+        );
+        b.hold(n.device, l.private);
+        let last = lak_commands(&mut b, n.device, n.owner, &l);
+        let expected = match attributes {
+            AK => 0,
+            _ if attributes & 2 == 0 => 14,
+            _ => 23,
+        };
+        assert_eq!(b.outcome(last), expected, "LAK {attributes:x}");
+    }
+    // A parent of other attributes is never in the ledger, so it is 21 if its
+    // signer is no desk. (22 and the parent's 23 cannot be built.)
+    let (mut b, n, l) = lak_asked();
+    let own = b.private(60, 2);
+    let parent = b.public(61, CA);
+    let parent_private = b.private(61, CA);
+    let certificate = b.certificate(parent, DEV, 200, own);
+    let forged = b.signature(l.attest, parent_private);
+    b.hold(n.device, own);
+    b.hold(n.device, parent_private);
+    b.give(n.device, parent);
+    b.act(0x3D, n.device, certificate);
+    b.act(0x31, n.device, forged);
+    let csr = b.ldevid(forged, certificate);
+    let last = try_lak(&mut b, &n, csr, l.private, l.certificate);
+    refused_cleanly(&b, last, 21);
+}
+
+#[test]
+fn issue_lak_result() {
+    let (mut b, n, l) = lak_asked();
+    let wrong_key = b.certificate(n.iak, DEV, 200, n.owner_private);
+    let wrong_number = b.certificate(l.public, DEV, 201, n.owner_private);
+    let wrong_subject = b.certificate(l.public, TPM, 200, n.owner_private);
+    let wrong_signer = b.certificate(l.public, DEV, 200, n.oem_private);
+    for r in [
+        wrong_key,
+        wrong_number,
+        wrong_subject,
+        wrong_signer,
+        n.iak_certificate,
+    ] {
+        let last = b.issue_lak(n.owner, l.request, r);
+        refused_cleanly(&b, last, 27);
+    }
+}
+
+#[test]
+fn issued_already_before_too_deep() {
+    // At depth 9 a certificate that is in the ledger already: 28. The LAK of
+    // depth 2 asks again, certified by the LAK of depth 8.
+    let (mut b, n, _, laks) = chain(7);
+    let first = laks[0];
+    let last = laks[6];
+    let attest = b.signature(first.attest, last.private);
+    let csr = b.ldevid(attest, last.certificate);
+    b.act(0x32, n.device, attest);
+    let at = try_lak(&mut b, &n, csr, first.private, first.certificate);
+    refused_cleanly(&b, at, 28);
+}
+
+#[test]
+fn lak_may_be_its_own_certifier() {
+    // The IAK asks for a LAK certificate of itself: nothing forbids it.
+    let (mut b, n) = honest();
+    b.send(n.oem, n.device, n.iak_certificate);
+    let attest = b.attest(n.iak);
+    let signed = b.signature(attest, n.iak_private);
+    let csr = b.ldevid(signed, n.iak_certificate);
+    let r = b.certificate(n.iak, DEV, 200, n.owner_private);
+    b.act(0x32, n.device, signed);
+    let at = try_lak(&mut b, &n, csr, n.iak_private, r);
+    assert_eq!(b.outcome(at), 0);
+    assert_eq!(b.run().ledger[1].depth, 2);
+}

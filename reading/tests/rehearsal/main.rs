@@ -1,0 +1,10 @@
+//! Tests of the second reading, all in one program.
+
+mod buffers;
+mod builder;
+mod commands;
+mod desks;
+mod loading;
+mod program;
+mod random;
+mod situations;
