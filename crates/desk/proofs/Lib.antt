@@ -2,7 +2,10 @@ pub mod Read
 pub mod Forms
 pub mod Signers
 pub mod Outcomes
-pub mod Entries
 pub mod Subjects
 pub mod Called
 pub mod IssueIak
+pub mod IssueLak
+pub mod Appending
+pub mod Issued
+pub mod Places

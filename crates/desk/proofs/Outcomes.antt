@@ -40,7 +40,7 @@ module _ (f : File) (ys : List Test) {x : ℕ} (z : x ≡ 0) where
   number-goes s p n e = chain-rest 24 _ ys (omega arith) refl (sym e ∙ z)
 
 -- a test of a chain that answers 0
-passed : (n : ℕ) (b : Bool) (xs : List Test) → 0 < n → chain (need n b ∷ xs) ≡ 0 → (b ≡ true) × (chain xs ≡ 0)
+pub passed : (n : ℕ) (b : Bool) (xs : List Test) → 0 < n → chain (need n b ∷ xs) ≡ 0 → (b ≡ true) × (chain xs ≡ 0)
 passed n true xs l e = (refl, sym (chain-passes n true xs refl) ∙ e)
 passed n false xs l e = let w = sym (chain-fails n false xs refl) ∙ e in absurd (omega arith)
 

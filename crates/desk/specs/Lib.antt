@@ -1,2 +1,5 @@
 pub mod Formed
 pub mod Tests
+pub mod Appends
+pub mod Issues
+pub mod Dispatch

@@ -1,13 +1,16 @@
 -- Parts of what a challenge and an issue ask, by the numbers of the terms that they speak of.
+use mathlib.Core.Bool.{not, _||_}
 use mathlib.Core.List.{List, [], _∷_}
-use Prim.Native.Nat.{ℕ}
-use lib.Dec.{eqb}
-use Rattle.rules.specs.Limits.{tpmMaker}
+use Prim.Native.Nat.{ℕ, _+_}
+use lib.Dec.{eqb, leb}
+use Rattle.rules.specs.declared.Entry.{Entry}
+use Rattle.rules.specs.Limits.{tpmMaker, oemDesk, ownerDesk, depthLimit}
 use Rattle.rules.specs.Refusals.{Test, need}
 use Rattle.rules.specs.Attributes.{sameAttributes, iakAttributes, ekAttributes}
 use Rattle.rules.specs.declared.Subject.{Subject}
-use Rattle.rules.specs.Term.{hashKind, sameSubject, isTpmSubject}
-use Rattle.rules.specs.File.{File, isKind, hashedTerm, credentialTerm, credentialKey, certifiedKey, signer, subject, attributes, signsFor, signsForRole}
+use Rattle.rules.specs.Term.{hashKind, signatureKind, attestKind, sameSubject, isTpmSubject}
+use Rattle.rules.specs.File.{File, isKind, hashedTerm, message, signingKey, credentialTerm, credentialKey, certifiedKey, signer, subject, attributes, paired, signsFor, signsForRole}
+use Rattle.rules.specs.State.{listed, depthOf}
 
 abbrev pub endorsementTests : File → ℕ → ℕ → ℕ → List Test
 endorsementTests f certificate iak ek =
@@ -30,4 +33,27 @@ calledTests f desk r key wanted =
     need 27 (eqb (certifiedKey f r) key)
     ∷ need 27 (sameSubject (subject f r) wanted)
     ∷ need 27 (signsFor f desk (signer f r))
+    ∷ []
+
+-- a signature over an attest
+abbrev pub attestTests : File → ℕ → List Test
+attestTests f signature =
+    need 19 (isKind f signatureKind signature)
+    ∷ need 19 (isKind f attestKind (message f signature))
+    ∷ []
+
+abbrev pub parentageTests : File → List Entry → ℕ → ℕ → ℕ → List Test
+parentageTests f ledger signature lak parent =
+    need 20 (paired f (certifiedKey f parent) (signingKey f signature))
+    ∷ need 21 (signsForRole f oemDesk (signer f parent) || signsForRole f ownerDesk (signer f parent))
+    ∷ need 22 (listed ledger parent)
+    ∷ need 23 (sameAttributes (attributes f lak) iakAttributes)
+    ∷ need 23 (sameAttributes (attributes f (certifiedKey f parent)) iakAttributes)
+    ∷ []
+
+-- an entry of a certificate below its parent's
+abbrev pub entryTests : List Entry → ℕ → ℕ → List Test
+entryTests ledger r parent =
+    need 28 (not (listed ledger r))
+    ∷ need 29 (leb (depthOf ledger parent + 1) depthLimit)
     ∷ []

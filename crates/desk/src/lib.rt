@@ -1,38 +1,52 @@
-// Desk commands: what each decides, by the terms of their numbers.
+// Desk commands: what each decides and leaves, by the terms of their numbers.
 use rules::Attributes;
 use rules::Subject;
 use rules::Term;
 ghost use mathlib.Core.Path.{_≡_};
-ghost use mathlib.Core.Bool.{_&&_};
+ghost use mathlib.Core.Bool.{_&&_, _||_};
 ghost use mathlib.Core.List.{List};
 ghost use Prim.Native.Nat.{ℕ, _+_, _*_, _<_, _≤_};
 ghost use lib.Dec.{eqb};
 ghost use lib.ListN.{length};
 ghost use Rattle.rules.specs.declared.Entry.{Entry};
-ghost use Rattle.rules.specs.Limits.{rowWidth, partyLimit, termLimit};
+ghost use Rattle.rules.specs.Limits.{rowWidth, partyLimit, termLimit, oemDesk, ownerDesk};
 ghost use Rattle.rules.specs.Attributes.{sameAttributes};
-ghost use Rattle.rules.specs.Term.{idevidRequestKind, certificateKind, credentialKind, isTpmSubject, isDeviceSubject};
-ghost use Rattle.rules.specs.File.{challenge, issueIak, isRole, kind, subject, attributes, signsForRole};
+ghost use Rattle.rules.specs.Term.{idevidRequestKind, certificateKind, credentialKind, isTpmSubject, isDeviceSubject, signatureKind};
+ghost use Rattle.rules.specs.File.{challenge, issueIak, isRole, kind, subject, attributes, signsForRole, issueLak};
 ghost use Rattle.rules.specs.State.{credentialOpen, listed, depthOf};
 ghost use Rattle.rules.specs.Desk.{formTests, proofTests, numberTests};
 ghost use Rattle.theorems.proofs.Loading.{Checked, Wellformed};
 ghost use Rattle.state.specs.View.{view};
 ghost use Rattle.state.proofs.Exact.{stateOf};
 ghost use Rattle.setup.specs.Allowed.{noKey};
-ghost use Rattle.tables.specs.Regions.{tablesIn};
+ghost use Rattle.tables.specs.Regions.{tableWords, tablesIn};
+ghost use Rattle.entries.specs.Words.{ledgerWords};
+ghost use Rattle.learning.specs.There.{kindThere};
+ghost use Rattle.lookup.specs.There.{commandThere};
+ghost use Rattle.lookup.specs.Commands.{CommandAt};
 ghost use Rattle.loaded.specs.Chain.{chain};
-ghost use Rattle.loaded.specs.Loaded.{fileIn, Holds, Finds, PartyHere, TermHere, Decides};
-ghost use Rattle.loaded.specs.Entries.{Enters, DecidesListed};
+ghost use Rattle.loaded.specs.Loaded.{fileIn, Holds, Finds, PartyHere, TermHere, Decides, Leaves};
+ghost use Rattle.loaded.specs.Entries.{Enters, Entered, DecidesListed, DecidesBy, Accepts, Issues};
 ghost use Rattle.desk.specs.Formed.{Formed, Requested};
-ghost use Rattle.desk.specs.Tests.{endorsementTests, credentialTests, calledTests};
+ghost use Rattle.desk.specs.Tests.{endorsementTests, credentialTests, calledTests, attestTests, parentageTests, entryTests};
+ghost use Rattle.desk.specs.Appends.{Appends};
+ghost use Rattle.desk.specs.Issues.{IssuesIak};
+ghost use Rattle.desk.specs.Dispatch.{OpenRequested, DeskEffectReady, DeskLeaves};
 
-// The role of OEM desks.
+// Roles of desks.
 const OEM_DESK: u8 = 2;
 
-// The marks of a used number and of an open credential.
+const OWNER_DESK: u8 = 3;
+
+// The depth of the deepest entry.
+const DEPTH_LIMIT: u16 = 8;
+
+// The marks of a used number, and of an open and a closed credential.
 const NUMBER_USED: u8 = 1;
 
 const CREDENTIAL_OPEN: u8 = 2;
+
+const CREDENTIAL_CLOSED: u8 = 3;
 
 // The form of a request: a pair of its body and a signature over a hash.
 pub fn form(file: &[u8], state: &[u8], q: usize, kind: u8) -> u8
@@ -362,4 +376,265 @@ pub fn decide_issue_iak(
         return 28;
     }
     0
+}
+
+// The message of an LDevID request: a signature over an attest.
+fn signed_attest(file: &[u8], state: &[u8], t: usize) -> u8
+    requires { ⌜ Holds (now file) (now state) × (t < length (fileIn (now file) .terms)) ⌝ }
+    ensures { λ x. ⌜ x ≡ chain (attestTests (fileIn (now (file .entry))) t) ⌝ }
+{
+    let signed = learning::term_of(file, state, t);
+    let Term::Signature(content, _) = signed else {
+        return 19;
+    };
+    let message = content as usize;
+    if !loaded::is_kind(file, state, message, 0x14) {
+        return 19;
+    }
+    0
+}
+
+// Whether a key is the signing key of an OEM desk or of an owner desk.
+fn signs_for_desk(file: &[u8], tables: &[u16; tables::WORDS], key: usize, parties: usize) -> bool
+    requires { ⌜ Checked (fileIn (now file)) × Finds (now file) (now tables) × (parties ≡ length (fileIn (now file) .roles)) × ((p : ℕ) → p < parties → PartyHere (now file) p) × (key < noKey) ⌝ }
+    ensures { λ x. ⌜ x ≡ (signsForRole (fileIn (now (file .entry))) oemDesk key || signsForRole (fileIn (now (file .entry))) ownerDesk key) ⌝ }
+{
+    if signs_for_role(file, tables, OEM_DESK, key, parties) {
+        return true;
+    }
+    signs_for_role(file, tables, OWNER_DESK, key, parties)
+}
+
+// The parentage of an LAK: its attest by the key of a desk's certificate, which is listed, and the attributes of both keys.
+fn parentage(
+    file: &[u8],
+    state: &[u8],
+    tables: &[u16; tables::WORDS],
+    parties: usize,
+    signature: usize,
+    lak: usize,
+    parent: usize,
+) -> u8
+    requires { ⌜ Holds (now file) (now state) × Finds (now file) (now tables) × (parties ≡ length (fileIn (now file) .roles)) × (kind (fileIn (now file)) signature ≡ signatureKind) × (lak < length (fileIn (now file) .terms)) × (kind (fileIn (now file)) parent ≡ certificateKind) ⌝ }
+    ensures { λ x. ⌜ ((words : List ℕ) (n : ℕ) (ledger : List Entry) → Enters (now (tables .entry)) words n ledger → x ≡ chain (parentageTests (fileIn (now (file .entry))) ledger signature lak parent)) ⌝ }
+{
+    let key = loaded::certified_key_of(file, state, parent);
+    let half = loaded::signing_key_of(file, state, signature);
+    if !loaded::is_half(tables, key, half) {
+        return 20;
+    }
+    let signer = loaded::signer_of(file, state, parent);
+    if !signs_for_desk(file, tables, signer, parties) {
+        return 21;
+    }
+    if !is_listed(tables, parent) {
+        return 22;
+    }
+    if !has_exactly(file, state, lak, Attributes::iak()) {
+        return 23;
+    }
+    if !has_exactly(file, state, key, Attributes::iak()) {
+        return 23;
+    }
+    0
+}
+
+// The entry of a certificate below its parent's: none so far, and not too deep.
+fn entry_allowed(
+    tables: &[u16; tables::WORDS],
+    words: &[u16; entries::WORDS],
+    r: usize,
+    parent: usize,
+) -> u8
+    requires { ⌜ (r < termLimit) × (parent < termLimit) × (0 < tablesIn (now tables) .entry parent) × (tablesIn (now tables) .entry parent ≤ termLimit) ⌝ }
+    ensures { λ x. ⌜ ((n : ℕ) (ledger : List Entry) → Enters (now (tables .entry)) (now (words .entry)) n ledger → x ≡ chain (entryTests ledger r parent)) ⌝ }
+{
+    if is_listed(tables, r) {
+        return 28;
+    }
+    let depth = depth_of(tables, words, parent);
+    if depth >= DEPTH_LIMIT {
+        return 29;
+    }
+    0
+}
+
+// 40 IssueLak.
+pub fn decide_issue_lak(
+    file: &[u8],
+    state: &[u8],
+    tables: &[u16; tables::WORDS],
+    words: &[u16; entries::WORDS],
+    parties: usize,
+    party: usize,
+    q: usize,
+    r: usize,
+) -> u8
+    requires { ⌜ Holds (now file) (now state) × Finds (now file) (now tables) × (parties ≡ length (fileIn (now file) .roles)) × Wellformed (fileIn (now file)) (issueLak party q r) × Entered (now tables) (now words) ⌝ }
+    ensures { λ x. ⌜ DecidesBy (now (file .entry)) (now (state .entry)) (now (tables .entry)) (now (words .entry)) (issueLak party q r) x ⌝ }
+{
+    if !loaded::is_role(file, party, OWNER_DESK) {
+        return 13;
+    }
+    if !state::knows(state, party, q) {
+        return 14;
+    }
+    let formed = form(file, state, q, 0x18);
+    if formed != 0 {
+        return formed;
+    }
+    let body = loaded::left_of(file, state, q);
+    let signature = loaded::ldevid_message_of(file, state, body);
+    let attested = signed_attest(file, state, signature);
+    if attested != 0 {
+        return attested;
+    }
+    let attest = loaded::message_of(file, state, signature);
+    let lak = loaded::attested_key_of(file, state, attest);
+    let proved = proof_of_key(file, state, tables, q, lak);
+    if proved != 0 {
+        return proved;
+    }
+    let parent = loaded::ldevid_certificate_of(file, state, body);
+    let descends = parentage(file, state, tables, parties, signature, lak, parent);
+    if descends != 0 {
+        return descends;
+    }
+    let wanted = subject_of(file, state, parent);
+    let called = called_for(file, state, tables, party, r, lak, wanted);
+    if called != 0 {
+        return called;
+    }
+    entry_allowed(tables, words, r, parent)
+}
+
+// An entry is written after the others, and its place noted.
+fn append(
+    tables: &mut [u16; tables::WORDS],
+    words: &mut [u16; entries::WORDS],
+    n: usize,
+    certificate: usize,
+    parent: usize,
+    depth: u16,
+)
+    requires { ⌜ (length (now tables) ≡ tableWords) × (length (now words) ≡ ledgerWords) × (n < termLimit) × (certificate < termLimit) × (parent < termLimit) ⌝ }
+    ensures { λ _. ⌜ Appends (now (tables .entry)) (now (words .entry)) n (record { certificate = certificate; parent = parent; depth = depth }) (now (tables .exit)) (now (words .exit)) ⌝ }
+{
+    let place = (n + 1) as u16;
+    tables::note_entry(tables, certificate, place);
+    entries::note_entry(words, n, certificate as u16, parent as u16, depth);
+}
+
+// What 3E leaves: the desk learns the credential; its number is used, and it is open with the request and the desk.
+pub fn effect_challenge(file: &[u8], state: &mut [u8], party: usize, q: usize, r: usize)
+    requires { ⌜ Holds (now file) (now state) × Wellformed (fileIn (now file)) (challenge party q r) ⌝ }
+    ensures { λ _. ⌜ Leaves (now (file .entry)) (now (state .entry)) (now (state .exit)) (challenge party q r) ⌝ }
+{
+    let number = loaded::credential_number_of(file, state, r);
+    loaded::learn(file, state, party, r);
+    state::note_mark(state, number, NUMBER_USED);
+    state::note_mark(state, r, CREDENTIAL_OPEN);
+    state::note_desk(state, r, party as u8);
+    state::note_request(state, r, q);
+}
+
+// What 3F leaves: the desk learns the certificate, the credential is closed, and the ledger has the certificate under that of the EK.
+pub fn effect_issue_iak(
+    file: &[u8],
+    state: &mut [u8],
+    tables: &mut [u16; tables::WORDS],
+    words: &mut [u16; entries::WORDS],
+    n: usize,
+    party: usize,
+    c: usize,
+    r: usize,
+)
+    requires { ⌜ Holds (now file) (now state) × IssuesIak (now file) (now state) (now tables) (now words) n party c r ⌝ }
+    ensures { λ _. ⌜ ((other : ℕ) → Issues (now (file .entry)) (now (state .entry)) (now (tables .entry)) (now (words .entry)) n (issueIak party other c r) (now (state .exit)) (now (tables .exit)) (now (words .exit))) ⌝ }
+{
+    let request = state::request_of(state, c);
+    let body = loaded::left_of(file, state, request);
+    let parent = loaded::idevid_certificate_of(file, state, body);
+    loaded::learn(file, state, party, r);
+    state::note_mark(state, c, CREDENTIAL_CLOSED);
+    append(tables, words, n, r, parent, 1);
+}
+
+// What 40 leaves: the desk learns the certificate, and the ledger has it under the request's certificate, one deeper.
+pub fn effect_issue_lak(
+    file: &[u8],
+    state: &mut [u8],
+    tables: &mut [u16; tables::WORDS],
+    words: &mut [u16; entries::WORDS],
+    n: usize,
+    party: usize,
+    q: usize,
+    r: usize,
+)
+    requires { ⌜ Holds (now file) (now state) × Wellformed (fileIn (now file)) (issueLak party q r) × Accepts (now file) (now state) (now tables) (now words) n (issueLak party q r) × (length (now tables) ≡ tableWords) ⌝ }
+    ensures { λ _. ⌜ Issues (now (file .entry)) (now (state .entry)) (now (tables .entry)) (now (words .entry)) n (issueLak party q r) (now (state .exit)) (now (tables .exit)) (now (words .exit)) ⌝ }
+{
+    let body = loaded::left_of(file, state, q);
+    let parent = loaded::ldevid_certificate_of(file, state, body);
+    let depth = depth_of(tables, words, parent);
+    loaded::learn(file, state, party, r);
+    append(tables, words, n, r, parent, depth + 1);
+}
+
+// What the desk command at a place decides.
+pub fn decide(
+    file: &[u8],
+    state: &[u8],
+    tables: &[u16; tables::WORDS],
+    words: &[u16; entries::WORDS],
+    parties: usize,
+    at: usize,
+) -> u8
+    requires { ⌜ Holds (now file) (now state) × Finds (now file) (now tables) × (parties ≡ length (fileIn (now file) .roles)) × CommandAt (Wellformed (fileIn (now file))) (now file) at × (0x3D < kindThere (now file) at) × Entered (now tables) (now words) × OpenRequested (now file) (now state) ⌝ }
+    ensures { λ x. ⌜ DecidesBy (now (file .entry)) (now (state .entry)) (now (tables .entry)) (now (words .entry)) (commandThere (now (file .entry)) at) x ⌝ }
+{
+    let kind = file[at];
+    let party = file[at + 1] as usize;
+    if kind == 0x3F {
+        let other = file[at + 2] as usize;
+        let c = records::word_at(file, at + 3) as usize;
+        let r = records::word_at(file, at + 5) as usize;
+        return decide_issue_iak(file, state, tables, party, other, c, r);
+    }
+    let q = records::word_at(file, at + 2) as usize;
+    let r = records::word_at(file, at + 4) as usize;
+    if kind == 0x3E {
+        return decide_challenge(file, state, tables, parties, party, q, r);
+    }
+    decide_issue_lak(file, state, tables, words, parties, party, q, r)
+}
+
+// What the desk command at a place leaves, where it is accepted. Answers how many entries the ledger has then.
+pub fn effect(
+    file: &[u8],
+    state: &mut [u8],
+    tables: &mut [u16; tables::WORDS],
+    words: &mut [u16; entries::WORDS],
+    entries: usize,
+    at: usize,
+) -> usize
+    requires { ⌜ DeskEffectReady (now file) (now state) (now tables) (now words) entries at ⌝ }
+    ensures { λ r. ⌜ DeskLeaves (now (file .entry)) (now (state .entry)) (now (tables .entry)) (now (words .entry)) entries (commandThere (now (file .entry)) at) (now (state .exit)) (now (tables .exit)) (now (words .exit)) r ⌝ }
+{
+    let kind = file[at];
+    let party = file[at + 1] as usize;
+    if kind == 0x3F {
+        let c = records::word_at(file, at + 3) as usize;
+        let r = records::word_at(file, at + 5) as usize;
+        effect_issue_iak(file, state, tables, words, entries, party, c, r);
+        return entries + 1;
+    }
+    let q = records::word_at(file, at + 2) as usize;
+    let r = records::word_at(file, at + 4) as usize;
+    if kind == 0x3E {
+        effect_challenge(file, state, party, q, r);
+        return entries;
+    }
+    effect_issue_lak(file, state, tables, words, entries, party, q, r);
+    entries + 1
 }

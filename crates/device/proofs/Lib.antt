@@ -1,2 +1,3 @@
 pub mod Outcomes
+pub mod Read
 pub mod Effects

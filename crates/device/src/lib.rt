@@ -10,6 +10,9 @@ ghost use Rattle.rules.specs.File.{hash, sign, certify, makeCredential, activat
 ghost use Rattle.rules.specs.Device.{maySend, mayBeSentByDesk};
 ghost use Rattle.theorems.proofs.Loading.{Wellformed};
 ghost use Rattle.state.specs.View.{view};
+ghost use Rattle.learning.specs.There.{kindThere};
+ghost use Rattle.lookup.specs.There.{commandThere};
+ghost use Rattle.lookup.specs.Commands.{CommandAt};
 ghost use Rattle.loaded.specs.Chain.{chain};
 ghost use Rattle.loaded.specs.Loaded.{fileIn, Holds, Finds, PartyHere, TermHere, Decides, Leaves};
 
@@ -399,4 +402,140 @@ pub fn effect_activate(file: &[u8], state: &mut [u8], party: usize, r: usize)
 {
     let number = loaded::credential_number_of(file, state, r);
     loaded::learn(file, state, party, number);
+}
+
+// 30 to 37, by the record: a party and what it makes.
+fn decide_made(file: &[u8], state: &[u8], tables: &[u16; tables::WORDS], at: usize, kind: u8) -> u8
+    requires { ⌜ Holds (now file) (now state) × Finds (now file) (now tables) × CommandAt (Wellformed (fileIn (now file))) (now file) at × (kindThere (now file) at ≡ kind) × (0x30 ≤ kind) × (kind ≤ 0x37) ⌝ }
+    ensures { λ x. ⌜ Decides (now (file .entry)) (now (state .entry)) (commandThere (now (file .entry)) at) x ⌝ }
+{
+    let party = file[at + 1] as usize;
+    let r = records::word_at(file, at + 2) as usize;
+    match kind {
+        0x30 => decide_hash(file, state, party, r),
+        0x31 => decide_sign(file, state, party, r),
+        0x32 => decide_certify(file, state, tables, party, r),
+        0x33 => decide_make_credential(file, state, party, r),
+        0x34 => decide_activate(file, state, tables, party, r),
+        0x35 => decide_idevid_request(file, state, party, r),
+        0x36 => decide_ldevid_request(file, state, party, r),
+        _ => decide_pair(file, state, party, r),
+    }
+}
+
+// 38 to 3B, by the record: a party and what it checks.
+fn decide_checked(
+    file: &[u8],
+    state: &[u8],
+    tables: &[u16; tables::WORDS],
+    at: usize,
+    kind: u8,
+) -> u8
+    requires { ⌜ Holds (now file) (now state) × Finds (now file) (now tables) × CommandAt (Wellformed (fileIn (now file))) (now file) at × (kindThere (now file) at ≡ kind) × (0x38 ≤ kind) × (kind ≤ 0x3B) ⌝ }
+    ensures { λ x. ⌜ Decides (now (file .entry)) (now (state .entry)) (commandThere (now (file .entry)) at) x ⌝ }
+{
+    let party = file[at + 1] as usize;
+    let t = records::word_at(file, at + 2) as usize;
+    if kind == 0x3B {
+        return decide_check_attributes(file, state, party, t, file[at + 4]);
+    }
+    let u = records::word_at(file, at + 4) as usize;
+    match kind {
+        0x38 => decide_check_hash(file, state, party, t, u),
+        0x39 => decide_check_signature(file, state, tables, party, t, u),
+        _ => decide_check_certificate(file, state, tables, party, t, u),
+    }
+}
+
+// 3C, by the record.
+fn decide_sent(file: &[u8], state: &[u8], at: usize) -> u8
+    requires { ⌜ Holds (now file) (now state) × CommandAt (Wellformed (fileIn (now file))) (now file) at × (kindThere (now file) at ≡ 0x3C) ⌝ }
+    ensures { λ x. ⌜ Decides (now (file .entry)) (now (state .entry)) (commandThere (now (file .entry)) at) x ⌝ }
+{
+    let party = file[at + 1] as usize;
+    let other = file[at + 2] as usize;
+    let t = records::word_at(file, at + 3) as usize;
+    decide_send(file, state, party, other, t)
+}
+
+// 3D, by the record.
+fn decide_issued(file: &[u8], state: &[u8], at: usize) -> u8
+    requires { ⌜ Holds (now file) (now state) × CommandAt (Wellformed (fileIn (now file))) (now file) at × (kindThere (now file) at ≡ 0x3D) ⌝ }
+    ensures { λ x. ⌜ Decides (now (file .entry)) (now (state .entry)) (commandThere (now (file .entry)) at) x ⌝ }
+{
+    let party = file[at + 1] as usize;
+    let r = records::word_at(file, at + 2) as usize;
+    decide_self_issue(file, state, party, r)
+}
+
+// What the device command at a place decides.
+pub fn decide(file: &[u8], state: &[u8], tables: &[u16; tables::WORDS], at: usize) -> u8
+    requires { ⌜ Holds (now file) (now state) × Finds (now file) (now tables) × CommandAt (Wellformed (fileIn (now file))) (now file) at × (kindThere (now file) at < 0x3E) ⌝ }
+    ensures { λ x. ⌜ Decides (now (file .entry)) (now (state .entry)) (commandThere (now (file .entry)) at) x ⌝ }
+{
+    let kind = file[at];
+    if kind < 0x38 {
+        return decide_made(file, state, tables, at, kind);
+    }
+    if kind < 0x3C {
+        return decide_checked(file, state, tables, at, kind);
+    }
+    if kind == 0x3C {
+        return decide_sent(file, state, at);
+    }
+    decide_issued(file, state, at)
+}
+
+// What 30 to 37 leave, by the record: the party learns what it made.
+fn effect_made(file: &[u8], state: &mut [u8], at: usize, kind: u8)
+    requires { ⌜ Holds (now file) (now state) × CommandAt (Wellformed (fileIn (now file))) (now file) at × (kindThere (now file) at ≡ kind) × (0x30 ≤ kind) × (kind ≤ 0x37) ⌝ }
+    ensures { λ _. ⌜ Leaves (now (file .entry)) (now (state .entry)) (now (state .exit)) (commandThere (now (file .entry)) at) ⌝ }
+{
+    let party = file[at + 1] as usize;
+    let r = records::word_at(file, at + 2) as usize;
+    match kind {
+        0x30 => effect_hash(file, state, party, r),
+        0x34 => effect_activate(file, state, party, r),
+        _ => loaded::learn(file, state, party, r),
+    }
+}
+
+// What 3C leaves, by the record: the other party learns the term.
+fn effect_sent(file: &[u8], state: &mut [u8], at: usize)
+    requires { ⌜ Holds (now file) (now state) × CommandAt (Wellformed (fileIn (now file))) (now file) at × (kindThere (now file) at ≡ 0x3C) ⌝ }
+    ensures { λ _. ⌜ Leaves (now (file .entry)) (now (state .entry)) (now (state .exit)) (commandThere (now (file .entry)) at) ⌝ }
+{
+    let other = file[at + 2] as usize;
+    let t = records::word_at(file, at + 3) as usize;
+    loaded::learn(file, state, other, t);
+}
+
+// What 3D leaves, by the record: the party learns the certificate.
+fn effect_issued(file: &[u8], state: &mut [u8], at: usize)
+    requires { ⌜ Holds (now file) (now state) × CommandAt (Wellformed (fileIn (now file))) (now file) at × (kindThere (now file) at ≡ 0x3D) ⌝ }
+    ensures { λ _. ⌜ Leaves (now (file .entry)) (now (state .entry)) (now (state .exit)) (commandThere (now (file .entry)) at) ⌝ }
+{
+    let party = file[at + 1] as usize;
+    let r = records::word_at(file, at + 2) as usize;
+    loaded::learn(file, state, party, r);
+}
+
+// What the device command at a place leaves, where it is accepted; checks leave nothing.
+pub fn effect(file: &[u8], state: &mut [u8], at: usize)
+    requires { ⌜ Holds (now file) (now state) × CommandAt (Wellformed (fileIn (now file))) (now file) at × (kindThere (now file) at < 0x3E) ⌝ }
+    ensures { λ _. ⌜ Leaves (now (file .entry)) (now (state .entry)) (now (state .exit)) (commandThere (now (file .entry)) at) ⌝ }
+{
+    let kind = file[at];
+    if kind < 0x38 {
+        effect_made(file, state, at, kind);
+        return;
+    }
+    if kind < 0x3C {
+        return;
+    }
+    if kind == 0x3C {
+        effect_sent(file, state, at);
+        return;
+    }
+    effect_issued(file, state, at);
 }

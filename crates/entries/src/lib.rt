@@ -35,13 +35,7 @@ pub fn depth_of(words: &[u16; WORDS], i: usize) -> u16
 }
 
 // An entry is written at a place.
-pub fn note_entry(
-    words: &mut [u16; WORDS],
-    i: usize,
-    certificate: u16,
-    parent: u16,
-    depth: u16,
-)
+pub fn note_entry(words: &mut [u16; WORDS], i: usize, certificate: u16, parent: u16, depth: u16)
     requires { ⌜ (length (now words) ≡ ledgerWords) × (i < termLimit) ⌝ }
     ensures { λ _. ⌜ now (words .exit) ≡ withEntry (now (words .entry)) i (record { certificate = certificate; parent = parent; depth = depth }) ⌝ }
 {

@@ -1,4 +1,5 @@
 -- The term of a record by the words where they stand.
+--     byte-at, word-at                 what stands in a body, by where it stands in the file
 --     inside                           where the body of a record ends in the file
 --     public-key-there to pair-there   the term of a record, one law a kind
 --     idevid-certificate-there, idevid-key-there, signer-there   the fields behind a Subject
@@ -61,10 +62,10 @@ hasParts k = eqb k signatureKind || eqb k attestKind || eqb k idevidRequestKind 
 
 module _ (bs : List ℕ) (at : ℕ) where
   -- what stands in the first n bytes of a body
-  byte-at : (n i : ℕ) → i < n → getD (take n (drop (at + 1) bs)) i 0 ≡ getD bs (at + suc i) 0
+  pub byte-at : (n i : ℕ) → i < n → getD (take n (drop (at + 1) bs)) i 0 ≡ getD bs (at + suc i) 0
   byte-at n i h = let e : at + 1 + i ≡ at + suc i = omega arith in rw (getD-take n (drop (at + 1) bs) i 0 h, getD-drop (at + 1) bs i 0, e)
 
-  word-at : (n i : ℕ) → i + 1 < n → word (take n (drop (at + 1) bs)) i ≡ word bs (at + suc i)
+  pub word-at : (n i : ℕ) → i + 1 < n → word (take n (drop (at + 1) bs)) i ≡ word bs (at + suc i)
   unfolding word
   word-at n i h =
       let e : at + suc (i + 1) ≡ at + suc i + 1 = omega arith in

@@ -183,7 +183,12 @@ fn ledger_line(out: &mut [u8], at: usize, ledger: &[u16; entries::WORDS], i: usi
 }
 
 // The lines of a ledger's entries.
-pub fn entries_into(out: &mut [u8], at: usize, ledger: &[u16; entries::WORDS], issued: usize) -> usize
+pub fn entries_into(
+    out: &mut [u8],
+    at: usize,
+    ledger: &[u16; entries::WORDS],
+    issued: usize,
+) -> usize
     requires { ⌜ (issued ≤ termLimit) × (at + lineRoom * issued < 2 ^ 64) ⌝ }
     ensures { λ r. ⌜ Written (now (out .entry)) at (entryLines (entriesIn (now (ledger .entry)) issued)) (now (out .exit)) r ⌝ }
     ensures { λ r. ⌜ r ≤ at + entryBytes * issued ⌝ }

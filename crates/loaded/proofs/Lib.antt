@@ -5,3 +5,4 @@ pub mod Filled
 pub mod Learning
 pub mod Halves
 pub mod Tested
+pub mod Ledger

@@ -28,6 +28,9 @@ pub record Enters (tables words : List ℕ) (n : ℕ) (ledger : List Entry) : Ty
   pub beyond : (i : ℕ) → entryWords * n ≤ i → getD words i 0 ≡ 0
   pub place : (c : ℕ) → tablesIn tables .entry c ≡ entryFrom 0 ledger c
 
+abbrev pub Entered : List ℕ → List ℕ → Type 0
+Entered tables words = (n : ℕ) × (ledger : List Entry) × Enters tables words n ledger
+
 -- the outcome of a command that asks whether a certificate is listed, and of one that looks at the ledger
 abbrev pub DecidesListed : List ℕ → List ℕ → List ℕ → Command → ℕ → Type 0
 DecidesListed bs s tables c x = (words : List ℕ) (n : ℕ) (ledger : List Entry) → Enters tables words n ledger → x ≡ outcome (fileIn bs) (stateOf (view s) ledger) c

@@ -3,6 +3,8 @@
 --     final-leaves, refused-leaves, short-leaves, long-leaves      the buffer after loading
 --     final-answer, refused-answer, short-answer, long-answer      the answer
 --     refused-not-0                                                a refusal is not 0
+--     inside-lower                                                 what lies inside a term is not higher
+--     unknown, unheld                                              at the start no term but a declared one is known, or in a table
 -- Assumes nothing.
 use mathlib.Core.Path.{_≡_, refl, sym, ap, _∙_}
 use mathlib.Core.Bool.{Bool, true, false, cond, _&&_}
@@ -29,21 +31,21 @@ use Rattle.loader.specs.Describes.{Describes}
 use Rattle.loader.proofs.Bounds.{refusal-not-0}
 use Rattle.loader.proofs.Entering.{learnt-declared}
 
-never-true : (b : Bool) → (b ≡ true → ⊥) → b ≡ false
+pub never-true : (b : Bool) → (b ≡ true → ⊥) → b ≡ false
 never-true true h = absurd (h refl)
 never-true false h = refl
 
 -- what lies inside a term is not higher
-inside-lower : (f : File) → ((t u : ℕ) → List·Memᴰ u (parts f t) → u < t) → {t u : ℕ} → Inside f t u → u ≤ t
+pub inside-lower : (f : File) → ((t u : ℕ) → List·Memᴰ u (parts f t) → u < t) → {t u : ℕ} → Inside f t u → u ≤ t
 inside-lower f low itself = omega arith
 inside-lower f low (inPart {t = t} {u = v} m i) = omega (arith, low t v m, inside-lower f low i)
 
 -- no term but a declared one is known, or in a table
 module _ (f : File) (c : Checked f) (p t : ℕ) (beyond : length (f .terms) ≤ t) where
-  unknown : taught f (f .setup) p t ≡ false
+  pub unknown : taught f (f .setup) p t ≡ false
   unknown = never-true (taught f (f .setup) p t) (λ e. let (u, m, i) = taught-only f (f .setup) p t e in omega (arith, learnt-declared f c p u m, inside-lower f (c .lower) i))
 
-  unheld : holdsKey f p t ≡ false
+  pub unheld : holdsKey f p t ≡ false
   unheld = never-true (holdsKey f p t) (λ e. omega (arith, private-declared f t (c .holdsKind p t (holds-given f p t e))))
 
 -- the rows of the columns are those of the state, and fill as much

@@ -1,6 +1,7 @@
 use borrow.Author.Needs.{needs}
 use mathlib.Core.Path.{_∙_}
-use Rattle.desk.proofs.Entries.{depth-read}
+use Rattle.loaded.proofs.Ledger.{depth-read}
+use native.Mathlib.Omega.{arith}
 use Rattle.desk.proofs.depth_of.Statement.{statement}
 use Rattle.desk.proofs.depth_of.Tie as tie
 
@@ -17,7 +18,7 @@ depth-of-requires : tie.Need-depth-of-requires
 depth-of-requires c κs = search needs
 
 returns : tie.Need-returns
-returns c n ledger e = c .depth-of .ensures ∙ depth-read (c .before .before .args .t) e (c .before .before .pre .1) (c .before .entry-of .ensures)
+returns c n ledger e = c .depth-of .ensures ∙ depth-read (c .before .before .args .t) e (c .before .entry-of .ensures) (omega (arith, c .before .entry-of .ensures, c .before .before .pre .1))
 
 pub depth-of-spec : {M : Type 1} → statement M
 depth-of-spec =

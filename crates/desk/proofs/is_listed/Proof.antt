@@ -3,7 +3,7 @@ use mathlib.Core.Path.{_≡_, sym, ap, _∙_}
 use mathlib.Core.Bool.{not}
 use Prim.Native.Nat.{ℕ}
 use lib.Dec.{eqb}
-use Rattle.desk.proofs.Entries.{listed-entry}
+use Rattle.loaded.proofs.Ledger.{listed-entry}
 use Rattle.desk.proofs.is_listed.Statement.{statement}
 use Rattle.desk.proofs.is_listed.Tie as tie
 

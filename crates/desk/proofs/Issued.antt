@@ -1,0 +1,134 @@
+-- What accepted desk commands leave.
+--     challenge-left              3E
+--     iak-new, iak-open, lak-accepted     tests that an accepted 3F or 40 passed
+--     same-ledger                 the words hold one ledger
+--     iak-issued, lak-issued      3F, 40
+-- Assumes nothing.
+use mathlib.Core.Path.{_≡_, refl, sym, ap, _∙_}
+use mathlib.Core.Bool.{true, false}
+use mathlib.Core.List.{List, [], _∷_, _++_}
+use Prim.Native.Nat.{ℕ, _+_, _≤_}
+use borrow.Author.Tests.{eqb-true, leb-true, not-true}
+use Rattle.rules.specs.declared.Entry.{Entry}
+use Rattle.rules.specs.Limits.{depthLimit}
+use Rattle.rules.specs.Term.{ldevidRequestKind, pairKind}
+use Rattle.rules.specs.File.{File, challenge, issueIak, issueLak, kind, credentialNumber, idevidCertificate, ldevidCertificate, leftOf}
+use Rattle.rules.specs.State.{State, numberUsed, credentialOpen, credentialClosed, put, listed, depthOf, learnt, opening, closing, entered}
+use Rattle.rules.specs.Desk.{requestBody, formTests, proofTests, ekCertificateOf, parentCertificateOf, calledFor, challengeEffect, issueIakTests, issueIakEffect, issueLakTests, issueLakEffect}
+use Rattle.rules.specs.Run.{testsOf, outcome, effectOf}
+use Rattle.theorems.proofs.Passing.{passed}
+use Rattle.state.specs.View.{Columns, view, withMark, withDesk, withRequest}
+use Rattle.state.proofs.Exact.{stateOf}
+use Rattle.loaded.specs.Loaded.{fileIn, Learns, Leaves}
+use Rattle.loaded.specs.Entries.{Enters, Accepts, Issues}
+use Rattle.desk.specs.Appends.{Appends}
+use Rattle.desk.specs.Issues.{IssuesIak}
+use Rattle.desk.proofs.Read.{is-kind-kind}
+
+-- the columns of an opened credential
+abbrev openedWith : Columns → ℕ → ℕ → ℕ → ℕ → Columns
+openedWith v number credential request desk = record {
+  knows = v .knows;
+  table = v .table;
+  mark = put (put (v .mark) number numberUsed) credential credentialOpen;
+  desk = put (v .desk) credential desk;
+  request = put (v .request) credential request;
+  place = v .place;
+}
+
+pub challenge-left :
+    {bs s s₁ s₅ : List ℕ} {v₂ v₃ v₄ : Columns} {p q r number : ℕ} → number ≡ credentialNumber (fileIn bs) r → Learns bs s s₁ p r
+    → v₂ ≡ withMark (view s₁) (put (view s₁ .mark) number numberUsed) → v₃ ≡ withMark v₂ (put (v₂ .mark) r credentialOpen) → v₄ ≡ withDesk v₃ (put (v₃ .desk) r p) → view s₅ ≡ withRequest v₄ (put (v₄ .request) r q)
+    → Leaves bs s s₅ (challenge p q r)
+unfolding effectOf challengeEffect opening
+challenge-left {bs} {s} {s₁} {s₅} {v₂} {v₃} {v₄} {p} {q} {r} {number} n w a b c d =
+    let marked = b ∙ ap (λ (v : Columns). withMark v (put (v .mark) r credentialOpen)) a in
+    let taken = c ∙ ap (λ (v : Columns). withDesk v (put (v .desk) r p)) marked in
+    let opened : view s₅ ≡ openedWith (view s₁) number r q p = d ∙ ap (λ (v : Columns). withRequest v (put (v .request) r q)) taken in
+    record {
+      columns = λ ledger.
+          ap (λ (v : Columns). stateOf v ledger) opened
+          ∙ ap (λ (x : State). opening x number r q p) (w .columns ledger)
+          ∙ ap (λ (m : ℕ). opening (learnt (fileIn bs) (stateOf (view s) ledger) p r) m r q p) n;
+      places = ap (λ (v : Columns). v .place) opened ∙ w .places;
+    }
+
+-- an accepted 3F is of a certificate that is not listed
+pub iak-new : (f : File) (s : State) (p q c r : ℕ) → outcome f s (issueIak p q c r) ≡ 0 → listed (s .ledger) r ≡ false
+unfolding outcome testsOf issueIakTests calledFor
+iak-new f s p q c r e = not-true _ (passed (issueIakTests f s p q c r) refl e .1 .1 .1 .1 .1 .1 .1 .1 .0)
+
+-- and of an open credential
+pub iak-open : (f : File) (s : State) (p q c r : ℕ) → outcome f s (issueIak p q c r) ≡ 0 → s .mark c ≡ credentialOpen
+unfolding outcome testsOf issueIakTests calledFor
+iak-open f s p q c r e = eqb-true _ _ (passed (issueIakTests f s p q c r) refl e .1 .0)
+
+-- an accepted 40: its request's form, a listed parent, a certificate that is not, and the depth
+pub record LakPassed (f : File) (ledger : List Entry) (q r : ℕ) : Type 0 where
+  pub pair : kind f q ≡ pairKind
+  pub body : kind f (leftOf f q) ≡ ldevidRequestKind
+  pub parent : listed ledger (ldevidCertificate f (leftOf f q)) ≡ true
+  pub new : listed ledger r ≡ false
+  pub depth : depthOf ledger (ldevidCertificate f (leftOf f q)) + 1 ≤ depthLimit
+
+lak-passed : (f : File) (s : State) (p q r : ℕ) → outcome f s (issueLak p q r) ≡ 0 → LakPassed f (s .ledger) q r
+unfolding outcome testsOf issueLakTests formTests proofTests calledFor requestBody parentCertificateOf
+lak-passed f s p q r e =
+    let tests = passed (issueLakTests f s p q r) refl e in
+    let listing = tests .1 .1 .1 .1 .1 .1 .1 .1 .1 .1 .1 .1 in
+    let new = listing .1 .1 .1 .1 .1 .1 in
+    record {
+      pair = is-kind-kind f q (tests .1 .1 .0);
+      body = is-kind-kind f (leftOf f q) (tests .1 .1 .1 .0);
+      parent = listing .0;
+      new = not-true _ (new .0);
+      depth = leb-true _ depthLimit (new .1 .0);
+    }
+
+pub lak-accepted : {bs s tables words : List ℕ} {n p q r : ℕ} (a : Accepts bs s tables words n (issueLak p q r)) → LakPassed (fileIn bs) (a .ledger) q r
+lak-accepted {bs} {s} {p = p} {q} {r} a = lak-passed (fileIn bs) (stateOf (view s) (a .ledger)) p q r (a .accepted)
+
+-- the words hold one ledger
+pub same-ledger : {tables words : List ℕ} {n : ℕ} {a b : List Entry} → Enters tables words n a → Enters tables words n b → a ≡ b
+same-ledger x y = x .same ∙ sym (y .same)
+
+pub iak-issued :
+    {bs s s₁ s₂ tables words tables′ words′ : List ℕ} {n p c r request body parent : ℕ} → IssuesIak bs s tables words n p c r → request ≡ view s .request c → body ≡ leftOf (fileIn bs) request → parent ≡ idevidCertificate (fileIn bs) body
+    → Learns bs s s₁ p r → view s₂ ≡ withMark (view s₁) (put (view s₁ .mark) c credentialClosed) → Appends tables words n (record { certificate = r; parent = parent; depth = 1 }) tables′ words′
+    → (other : ℕ) → Issues bs s tables words n (issueIak p other c r) s₂ tables′ words′
+unfolding effectOf issueIakEffect entered closing ekCertificateOf requestBody
+iak-issued {bs} {s} {s₁} {s₂} {n = n} {p} {c} {r} {request} {body} {parent} i q b e w m a other =
+    let f = fileIn bs in
+    let above : parent ≡ ekCertificateOf f (view s .request c) = e ∙ ap (idevidCertificate f) (b ∙ ap (leftOf f) q) in
+    let next : ℕ → Entry = λ t. record { certificate = r; parent = t; depth = 1 } in
+    record {
+      ledger = λ old. old ++ (next parent ∷ []);
+      columns = λ old h.
+          ap (λ (v : Columns). stateOf v (old ++ (next parent ∷ []))) m
+          ∙ ap (λ (x : State). entered (closing x c) (next parent)) (w .columns old)
+          ∙ ap (λ (t : ℕ). entered (closing (learnt f (stateOf (view s) old) p r) c) (next t)) above;
+      enters = λ old h. a .enters old h (ap (λ (es : List Entry). listed es r) (same-ledger h (i .accepts .enters)) ∙ iak-new f (stateOf (view s) (i .accepts .ledger)) p (i .other) c r (i .accepts .accepted));
+      places = ap (λ (v : Columns). v .place) m ∙ w .places;
+      keys = a .keys;
+    }
+
+pub lak-issued :
+    {bs s s₁ tables words tables′ words′ : List ℕ} {n p q r body parent depth : ℕ} → Accepts bs s tables words n (issueLak p q r) → body ≡ leftOf (fileIn bs) q → parent ≡ ldevidCertificate (fileIn bs) body
+    → ((m : ℕ) (ledger : List Entry) → Enters tables words m ledger → depth ≡ depthOf ledger parent)
+    → Learns bs s s₁ p r → Appends tables words n (record { certificate = r; parent = parent; depth = depth + 1 }) tables′ words′
+    → Issues bs s tables words n (issueLak p q r) s₁ tables′ words′
+unfolding effectOf issueLakEffect entered parentCertificateOf requestBody
+lak-issued {bs} {s} {n = n} {p} {q} {r} {body} {parent} {depth} i b e d w a =
+    let f = fileIn bs in
+    let above : parent ≡ parentCertificateOf f q = e ∙ ap (ldevidCertificate f) b in
+    let next : ℕ → ℕ → Entry = λ t m. record { certificate = r; parent = t; depth = m + 1 } in
+    record {
+      ledger = λ old. old ++ (next parent depth ∷ []);
+      columns = λ old h.
+          ap (λ (x : State). entered x (next parent depth)) (w .columns old)
+          ∙ ap (λ (m : ℕ). entered (learnt f (stateOf (view s) old) p r) (next parent m)) (d n old h)
+          ∙ ap (λ (t : ℕ). entered (learnt f (stateOf (view s) old) p r) (next t (depthOf old t))) above;
+      enters = λ old h. a .enters old h (ap (λ (es : List Entry). listed es r) (same-ledger h (i .enters)) ∙ lak-accepted i .new);
+      places = w .places;
+      keys = a .keys;
+    }

@@ -1,0 +1,64 @@
+-- A desk command by its record in the file.
+--     lak-kind                  the last of their kinds
+--     iak-bytes, two-bytes      what of each record stands in the file
+--     issue-read                3F by numbers that were read
+--     decided-as, issues-as, challenge-as     what it decides and leaves, where its record reads as that command
+-- Assumes nothing.
+use mathlib.Core.Path.{_≡_, refl, sym, subst, subst⁻¹, _∙_}
+use mathlib.Core.Bool.{Bool, true, false}
+use mathlib.Core.List.{List}
+use Prim.Native.Nat.{ℕ, _+_, _<_}
+use native.Mathlib.Omega.{arith}
+use lib.Dec.{eqb}
+use lib.ListN.{length}
+use borrow.Author.Tests.{eqb-true, eqb-false}
+use Rattle.rules.specs.Record.{sectionOf, fieldsOf, bodyLength, width, widths}
+use Rattle.rules.specs.File.{Command, issueIak}
+use Rattle.theorems.proofs.Loading.{Wellformed}
+use Rattle.learning.specs.There.{kindThere}
+use Rattle.lookup.specs.There.{commandThere}
+use Rattle.lookup.specs.Commands.{CommandAt}
+use Rattle.lookup.proofs.Left.{command-range}
+use Rattle.lookup.proofs.Fields.{command-ends}
+use Rattle.loaded.specs.Loaded.{fileIn, Leaves}
+use Rattle.loaded.specs.Entries.{DecidesBy, Accepts, Issues}
+use Rattle.desk.specs.Dispatch.{DeskLeaves}
+
+pub issue-read : {k : Command} {p q m n c r : ℕ} → k ≡ issueIak p q m n → c ≡ m → r ≡ n → k ≡ issueIak p q c r
+issue-read {p = p} {q = q} e h i = e ∙ (λ x. issueIak p q (sym h x) (sym i x))
+
+module _ {bs : List ℕ} {at : ℕ} (w : CommandAt (Wellformed (fileIn bs)) bs at) where
+  -- the last of them
+  pub lak-kind : 0x3D < kindThere bs at → (kindThere bs at ≡ 0x3F → ⊥) → (kindThere bs at ≡ 0x3E → ⊥) → kindThere bs at ≡ 0x40
+  lak-kind l a b = omega (arith, command-range (kindThere bs at) (w .isCommand) .1, a, b)
+
+  pub iak-bytes : kindThere bs at ≡ 0x3F → at + 6 < length bs
+  unfolding bodyLength widths width fieldsOf sectionOf
+  iak-bytes e = omega (arith, command-ends bs at 0x3F e (w .whole))
+
+  -- 3E and 40
+  pub two-bytes : 0x3D < kindThere bs at → (kindThere bs at ≡ 0x3F → ⊥) → at + 5 < length bs
+  unfolding bodyLength widths width fieldsOf sectionOf
+  two-bytes l a = go (eqb (kindThere bs at) 0x3E) refl
+    where
+      go : (b : Bool) → eqb (kindThere bs at) 0x3E ≡ b → at + 5 < length bs
+      go true e = omega (arith, command-ends bs at 0x3E (eqb-true _ _ e) (w .whole))
+      go false e = omega (arith, command-ends bs at 0x40 (lak-kind l a (eqb-false _ _ e)) (w .whole))
+
+module _ (bs : List ℕ) (at : ℕ) {c : Command} (e : commandThere bs at ≡ c) where
+  pub decided-as : (s tables words : List ℕ) (x : ℕ) → DecidesBy bs s tables words c x → DecidesBy bs s tables words (commandThere bs at) x
+  decided-as s tables words x d = subst⁻¹ (λ (k : Command). DecidesBy bs s tables words k x) e d
+
+  pub issues-as : {s tables words : List ℕ} {n : ℕ} {s′ tables′ words′ : List ℕ} → Issues bs s tables words n c s′ tables′ words′ → DeskLeaves bs s tables words n (commandThere bs at) s′ tables′ words′ (n + 1)
+  issues-as {s} {tables} {words} {n} {s′} {tables′} {words′} d =
+      subst⁻¹ (λ (k : Command). DeskLeaves bs s tables words n k s′ tables′ words′ (n + 1)) e
+      (record { ledger = d .ledger; columns = d .columns; enters = d .enters; places = d .places; keys = d .keys })
+
+  -- 3E enters nothing
+  pub challenge-as : {s tables words : List ℕ} {n : ℕ} {s′ : List ℕ} → Leaves bs s s′ c → DeskLeaves bs s tables words n (commandThere bs at) s′ tables words n
+  challenge-as {s} {tables} {words} {n} {s′} d =
+      subst⁻¹ (λ (k : Command). DeskLeaves bs s tables words n k s′ tables words n) e
+      (record { ledger = λ old. old; columns = λ old h. d .columns old; enters = λ old h. h; places = d .places; keys = record { words = refl; signer = refl; half = refl } })
+
+  pub accepts-as : {s tables words : List ℕ} {n : ℕ} → Accepts bs s tables words n (commandThere bs at) → Accepts bs s tables words n c
+  accepts-as {s} {tables} {words} {n} a = subst (λ (k : Command). Accepts bs s tables words n k) e a

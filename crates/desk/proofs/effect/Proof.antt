@@ -1,0 +1,142 @@
+use borrow.Author.Needs.{needs}
+use mathlib.Core.Path.{refl}
+use Prim.Native.Nat.{_+_}
+use native.Mathlib.Omega.{arith}
+use Rattle.rules.specs.File.{challenge, issueLak}
+use Rattle.lookup.proofs.Fields.{four-bytes, two-read, known-as, challenge-there, issue-iak-there, issue-lak-there}
+use Rattle.desk.proofs.Issued.{iak-open}
+use Rattle.desk.proofs.Places.{lak-kind, iak-bytes, two-bytes, issue-read, accepts-as, issues-as, challenge-as}
+use Rattle.desk.proofs.effect.Statement.{statement}
+use Rattle.desk.proofs.effect.Tie as tie
+
+shared-slice-read-kind : tie.Need-shared-slice-read-kind
+shared-slice-read-kind c = search needs
+
+add-party : tie.Need-add-party
+add-party c = search needs
+
+shared-slice-read-party : tie.Need-shared-slice-read-party
+shared-slice-read-party c = omega (arith, four-bytes (c .before .before .before .before .pre .command))
+
+cast-party : tie.Need-cast-party
+cast-party c = omega (arith, c .shared-slice-known3 .given (c .before .before .before .before .args .at + 1))
+
+add-word-at : tie.Need-add-word-at
+add-word-at c = search needs
+
+word-at-requires : tie.Need-word-at-requires
+word-at-requires c κs = omega (arith, iak-bytes (c .before .before .before .before .before .pre .command) (c .if1 .taken))
+
+cast-c : tie.Need-cast-c
+cast-c c = search needs
+
+add-word-at-2 : tie.Need-add-word-at-2
+add-word-at-2 c = search needs
+
+word-at-requires-2 : tie.Need-word-at-requires-2
+word-at-requires-2 c κs = omega (arith, iak-bytes (c .before .before .before .before .before .before .pre .command) (c .before .if1 .taken))
+
+cast-r : tie.Need-cast-r
+cast-r c = search needs
+
+effect-issue-iak-requires : tie.Need-effect-issue-iak-requires
+effect-issue-iak-requires c κs =
+    let o = c .before .before .before .before .before .before .before .before .before .before in
+    let p = o .pre in
+    let e = issue-read (issue-iak-there _ _ (c .before .before .before .before .before .if1 .taken)) (c .before .before .before .before .word-at .ensures) (c .before .before .before .word-at2 .ensures) in
+    let a = accepts-as _ _ e (p .accepts) in
+    (p .holds, record { other = _; wellformed = known-as (p .command) e; requested = p .opened _ (iak-open _ _ _ _ _ _ (a .accepted)); accepts = a; words = p .keys })
+
+add-result : tie.Need-add-result
+add-result c = search needs
+
+same-length : tie.Need-same-length
+same-length c = search needs
+
+returns : tie.Need-returns
+returns c =
+    let e = issue-read (issue-iak-there _ _ (c .before .before .before .before .before .before .before .before .if1 .taken)) (c .before .before .before .before .before .before .before .word-at .ensures) (c .before .before .before .before .before .before .word-at2 .ensures) in
+    issues-as _ _ e (c .before .before .effect-issue-iak .ensures _)
+
+add-word-at-3 : tie.Need-add-word-at-3
+add-word-at-3 c = search needs
+
+word-at-requires-3 : tie.Need-word-at-requires-3
+word-at-requires-3 c κs = let p = c .before .before .before .before .before .pre in omega (arith, two-bytes (p .command) (p .isDesk) (c .if1 .left))
+
+cast-q : tie.Need-cast-q
+cast-q c = search needs
+
+add-word-at-4 : tie.Need-add-word-at-4
+add-word-at-4 c = search needs
+
+word-at-requires-4 : tie.Need-word-at-requires-4
+word-at-requires-4 c κs = let p = c .before .before .before .before .before .before .pre in omega (arith, two-bytes (p .command) (p .isDesk) (c .before .if1 .left))
+
+cast-r-2 : tie.Need-cast-r-2
+cast-r-2 c = search needs
+
+effect-challenge-requires : tie.Need-effect-challenge-requires
+effect-challenge-requires c κs =
+    let p = c .before .before .before .before .before .before .before .before .before .pre in
+    let e = two-read challenge (challenge-there _ _ (c .before .if2 .taken)) (c .before .before .before .word-at3 .ensures) (c .before .before .word-at4 .ensures) in
+    (p .holds, known-as (p .command) e)
+
+same-length-2 : tie.Need-same-length-2
+same-length-2 c = search needs
+
+returns-2 : tie.Need-returns-2
+returns-2 c =
+    let p = c .before .before .before .before .before .before .before .before .before .before .before .before .pre in
+    let e = two-read challenge (challenge-there _ _ (c .before .before .before .before .if2 .taken)) (c .before .before .before .before .before .before .word-at3 .ensures) (c .before .before .before .before .before .word-at4 .ensures) in
+    challenge-as _ _ e (c .before .before .effect-challenge .ensures)
+
+effect-issue-lak-requires : tie.Need-effect-issue-lak-requires
+effect-issue-lak-requires c κs =
+    let p = c .before .before .before .before .before .before .before .before .before .before .before .pre in
+    let e = two-read issueLak (issue-lak-there _ _ (lak-kind (p .command) (p .isDesk) (c .before .before .before .before .before .before .if1 .left) (c .before .before .before .if2 .left))) (c .before .before .before .before .before .word-at3 .ensures) (c .before .before .before .before .word-at4 .ensures) in
+    (p .holds, known-as (p .command) e, accepts-as _ _ e (p .accepts), p .keys)
+
+add-result-2 : tie.Need-add-result-2
+add-result-2 c = search needs
+
+same-length-3 : tie.Need-same-length-3
+same-length-3 c = search needs
+
+returns-3 : tie.Need-returns-3
+returns-3 c =
+    let p = c .before .before .before .before .before .before .before .before .before .before .before .before .before .before .pre in
+    let e = two-read issueLak (issue-lak-there _ _ (lak-kind (p .command) (p .isDesk) (c .before .before .before .before .before .before .before .before .before .if1 .left) (c .before .before .before .before .before .before .if2 .left))) (c .before .before .before .before .before .before .before .before .word-at3 .ensures) (c .before .before .before .before .before .before .before .word-at4 .ensures) in
+    issues-as _ _ e (c .before .before .effect-issue-lak .ensures)
+
+pub effect-spec : {M : Type 1} → statement M
+effect-spec =
+    tie.close
+    (tie.spec
+    shared-slice-read-kind
+    add-party
+    shared-slice-read-party
+    cast-party
+    add-word-at
+    word-at-requires
+    cast-c
+    add-word-at-2
+    word-at-requires-2
+    cast-r
+    effect-issue-iak-requires
+    add-result
+    same-length
+    returns
+    add-word-at-3
+    word-at-requires-3
+    cast-q
+    add-word-at-4
+    word-at-requires-4
+    cast-r-2
+    effect-challenge-requires
+    same-length-2
+    returns-2
+    effect-issue-lak-requires
+    add-result-2
+    same-length-3
+    returns-3)

@@ -1,0 +1,4 @@
+pub mod Turns
+pub mod Started
+pub mod Ended
+pub mod Written

@@ -1,0 +1,136 @@
+-- The ledger by the places of its entries.
+--     entry-at                         the entry at a place of the words
+--     listed-entry                     a listed certificate has an entry
+--     entry-inside, entry-most         the tables' column of places stays within the ledger
+--     column-none, column-listed, column-some     whether a certificate is listed, by that column
+--     depth-read, parent-read, parent-none     its depth and parent
+-- Assumes nothing.
+use mathlib.Core.Path.{_≡_, refl, sym, ap, _∙_}
+use mathlib.Core.Bool.{Bool, true, false, cond, not, _||_}
+use mathlib.Core.Logic.{_⊎_, inl, inr, ⊎-elim}
+use mathlib.Core.List.{List, [], _∷_, _++_}
+use Prim.Native.Nat.{ℕ, zero, suc, _+_, _-_, _<_, _≤_}
+use native.Mathlib.Omega.{arith}
+use lib.Dec.{eqb}
+use lib.ListN.{length, getD, List·getD-append}
+use borrow.Author.Tests.{eqb-true, eqb-false, ne-eqb, not-true}
+use Rattle.rules.specs.declared.Entry.{Entry}
+use Rattle.rules.specs.Limits.{termLimit}
+use Rattle.rules.specs.State.{listed, depthOf, parentOf}
+use Rattle.rules.specs.Lent.{noEntry}
+use Rattle.tables.specs.Regions.{tablesIn}
+use Rattle.entries.specs.Words.{entryIn, entriesIn}
+use Rattle.entries.proofs.Words.{entries-length}
+use Rattle.loaded.specs.Entries.{entryFrom, Enters}
+
+-- the first entry of a certificate; zeros where there is none
+abbrev entryOf : List Entry → ℕ → Entry
+entryOf [] c = noEntry
+entryOf (e ∷ es) c = cond (eqb (e .certificate) c) e (entryOf es c)
+
+depth-of-entry : (es : List Entry) (c : ℕ) → depthOf es c ≡ entryOf es c .depth
+unfolding depthOf
+depth-of-entry [] c = refl
+depth-of-entry (e ∷ es) c = go (eqb (e .certificate) c) (depth-of-entry es c)
+  where
+    go : (b : Bool) → depthOf es c ≡ entryOf es c .depth → cond b (e .depth) (depthOf es c) ≡ cond b e (entryOf es c) .depth
+    go true h = refl
+    go false h = h
+
+parent-of-entry : (es : List Entry) (c : ℕ) → parentOf es c ≡ entryOf es c .parent
+unfolding parentOf
+parent-of-entry [] c = refl
+parent-of-entry (e ∷ es) c = go (eqb (e .certificate) c) (parent-of-entry es c)
+  where
+    go : (b : Bool) → parentOf es c ≡ entryOf es c .parent → cond b (e .parent) (parentOf es c) ≡ cond b e (entryOf es c) .parent
+    go true h = refl
+    go false h = h
+
+-- by the place of its entry; i is the place of the list's first
+abbrev Placed : List Entry → ℕ → ℕ → Entry → Type 0
+Placed es i x e = ((x ≡ 0) × (e ≡ noEntry)) ⊎ ((i < x) × (x ≤ i + length es) × (e ≡ getD es (x - suc i) noEntry))
+
+entry-placed : (es : List Entry) (i c x : ℕ) → entryFrom i es c ≡ x → Placed es i x (entryOf es c)
+unfolding entryFrom
+entry-placed [] i c x e = inl (sym e, refl)
+entry-placed (y ∷ es) i c x e = go (eqb (y .certificate) c) e (entry-placed es (suc i) c x)
+  where
+    go : (b : Bool) → cond b (suc i) (entryFrom (suc i) es c) ≡ x → (entryFrom (suc i) es c ≡ x → Placed es (suc i) x (entryOf es c)) → Placed (y ∷ es) i x (cond b y (entryOf es c))
+    go true q more = inr (omega arith, omega arith, (let z : 0 ≡ x - suc i = omega arith in ap (λ (k : ℕ). getD (y ∷ es) k noEntry) z))
+    go false q more =
+        ⊎-elim inl
+        (λ w. let z : suc (x - suc (suc i)) ≡ x - suc i = omega (arith, w .0) in inr (omega (arith, w .0), omega (arith, w .1), w .2 ∙ ap (λ (k : ℕ). getD (y ∷ es) k noEntry) z))
+        (more q)
+
+-- the entries of the words, one by one
+last-entry : (es : List Entry) (e : Entry) (n : ℕ) → length es ≡ n → getD (es ++ (e ∷ [])) n noEntry ≡ e
+last-entry [] e zero q = refl
+last-entry [] e (suc n) q = absurd (omega arith)
+last-entry (x ∷ es) e zero q = absurd (omega arith)
+last-entry (x ∷ es) e (suc n) q = last-entry es e n (omega arith)
+
+pub entry-at : (words : List ℕ) (n j : ℕ) → j < n → getD (entriesIn words n) j noEntry ≡ entryIn words j
+unfolding entriesIn
+entry-at words zero j l = absurd (omega arith)
+entry-at words (suc n) j l = go (eqb j n) refl (entry-at words n j)
+  where
+    go : (b : Bool) → eqb j n ≡ b → (j < n → getD (entriesIn words n) j noEntry ≡ entryIn words j) → getD (entriesIn words n ++ (entryIn words n ∷ [])) j noEntry ≡ entryIn words j
+    go true q more =
+        let e = eqb-true j n q in
+        ap (λ (k : ℕ). getD (entriesIn words n ++ (entryIn words n ∷ [])) k noEntry) e ∙ last-entry (entriesIn words n) (entryIn words n) n (entries-length words n) ∙ ap (entryIn words) (sym e)
+    go false q more =
+        let m = eqb-false j n q in
+        List·getD-append (entriesIn words n) (entryIn words n ∷ []) noEntry j (omega (arith, entries-length words n)) ∙ more (omega arith)
+
+pub listed-entry : (es : List Entry) (i c : ℕ) → listed es c ≡ not (eqb (entryFrom i es c) 0)
+unfolding listed entryFrom
+listed-entry [] i c = refl
+listed-entry (e ∷ es) i c = go (eqb (e .certificate) c) (listed-entry es (suc i) c)
+  where
+    go : (b : Bool) → listed es c ≡ not (eqb (entryFrom (suc i) es c) 0) → (b || listed es c) ≡ not (eqb (cond b (suc i) (entryFrom (suc i) es c)) 0)
+    go true h = sym (ap not (ne-eqb (suc i) 0 (λ q. omega arith)))
+    go false h = h
+
+-- by the tables' column
+module _ {tables words : List ℕ} {n : ℕ} {ledger : List Entry} (t : ℕ) (e : Enters tables words n ledger) where
+  pub ledger-length : length ledger ≡ n
+  ledger-length = ap length (e .same) ∙ entries-length words n
+
+  placed : (x : ℕ) → x ≡ tablesIn tables .entry t → Placed ledger 0 x (entryOf ledger t)
+  placed x q = entry-placed ledger 0 t x (sym (e .place t) ∙ sym q)
+
+  pub entry-inside : tablesIn tables .entry t ≤ n
+  entry-inside = ⊎-elim (λ w. omega (arith, w .0)) (λ w. omega (arith, w .1, ledger-length)) (placed (tablesIn tables .entry t) refl)
+
+  pub entry-most : tablesIn tables .entry t ≤ termLimit
+  entry-most = omega (arith, entry-inside, e .few)
+
+  listed-column : listed ledger t ≡ not (eqb (tablesIn tables .entry t) 0)
+  listed-column = listed-entry ledger 0 t ∙ ap (λ (x : ℕ). not (eqb x 0)) (sym (e .place t))
+
+  pub column-none : tablesIn tables .entry t ≡ 0 → listed ledger t ≡ false
+  column-none z = listed-column ∙ ap (λ (x : ℕ). not (eqb x 0)) z
+
+  pub column-listed : 0 < tablesIn tables .entry t → listed ledger t ≡ true
+  column-listed l = listed-column ∙ ap not (ne-eqb (tablesIn tables .entry t) 0 (λ z. omega arith))
+
+  pub column-some : listed ledger t ≡ true → 0 < tablesIn tables .entry t
+  column-some l = let m = eqb-false (tablesIn tables .entry t) 0 (not-true _ (sym listed-column ∙ l)) in omega (arith, m)
+
+  entry-read : (x : ℕ) → x ≡ tablesIn tables .entry t → 0 < x → entryIn words (x - 1) ≡ entryOf ledger t
+  entry-read x q l =
+      ⊎-elim (λ w. absurd (omega (arith, w .0)))
+      (λ w.
+      let m = ledger-length in
+      sym (w .2 ∙ ap (λ (es : List Entry). getD es (x - 1) noEntry) (e .same) ∙ entry-at words n (x - 1) (omega (arith, w .1))))
+      (placed x q)
+
+  pub depth-read : {x : ℕ} → x ≡ tablesIn tables .entry t → 0 < x → entryIn words (x - 1) .depth ≡ depthOf ledger t
+  depth-read {x} q l = ap (λ (z : Entry). z .depth) (entry-read x q l) ∙ sym (depth-of-entry ledger t)
+
+  pub parent-read : {x : ℕ} → x ≡ tablesIn tables .entry t → 0 < x → entryIn words (x - 1) .parent ≡ parentOf ledger t
+  parent-read {x} q l = ap (λ (z : Entry). z .parent) (entry-read x q l) ∙ sym (parent-of-entry ledger t)
+
+  pub parent-none : tablesIn tables .entry t ≡ 0 → 0 ≡ parentOf ledger t
+  parent-none z =
+      ⊎-elim (λ w. sym (parent-of-entry ledger t ∙ ap (λ (x : Entry). x .parent) (w .1))) (λ w. absurd (omega (arith, w .0))) (placed (tablesIn tables .entry t) refl)

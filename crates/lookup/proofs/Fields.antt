@@ -1,0 +1,125 @@
+-- The command of a record by the bytes where they stand.
+--     hash-there to issue-lak-there   the command of a record, one law a kind
+--     command-ends                    where the record of a command ends in the file
+--     three-bytes, four-bytes         its body has three bytes at least, its record four
+--     one-read, two-read, known-as    the command by numbers that were read, and what is known of it
+-- Assumes nothing.
+use mathlib.Core.Path.{_≡_, refl, sym, ap, ap₂, subst, _∙_}
+use mathlib.Core.List.{List}
+use Prim.Native.Nat.{ℕ, _+_, _<_, _≤_}
+use native.Mathlib.Omega.{arith}
+use lib.ListN.{length, getD, take, drop}
+use Rattle.rules.specs.Record.{sectionOf, fieldsOf, bodyLength, width, widths, word}
+use Rattle.rules.specs.File.{Command, hash, sign, certify, makeCredential, activateCredential, makeIdevidRequest, makeLdevidRequest, makePair, checkHash, checkSignature, checkCertificate, checkAttributes, send, selfIssue, challenge, issueIak, issueLak}
+use Rattle.rules.specs.Load.{commandAt}
+use Rattle.learning.specs.There.{kindThere}
+use Rattle.learning.proofs.Words.{byte-at, word-at}
+use Rattle.reader.specs.Place.{nextPlace, RecordAt}
+use Rattle.lookup.specs.There.{commandThere}
+use Rattle.lookup.specs.Commands.{CommandAt}
+use Rattle.lookup.proofs.Left.{command-long}
+
+module _ (bs : List ℕ) (at : ℕ) where
+  -- a record that stands in the file ends in it
+  pub command-ends : (k : ℕ) → kindThere bs at ≡ k → RecordAt bs at → at + 1 + bodyLength k ≤ length bs
+  unfolding nextPlace
+  command-ends k e w = rw e at (w .whole)
+
+  -- the command of a kind with a body of n bytes
+  of-kind : (k n : ℕ) → bodyLength k ≡ n → kindThere bs at ≡ k → commandThere bs at ≡ commandAt k (take n (drop (at + 1) bs))
+  unfolding commandThere
+  of-kind k n l e = rw (e, l)
+
+  -- a party and a term
+  one-term : (k : ℕ) (make : ℕ → ℕ → Command) → bodyLength k ≡ 3 → ((b : List ℕ) → commandAt k b ≡ make (getD b 0 0) (word b 1)) → kindThere bs at ≡ k → commandThere bs at ≡ make (getD bs (at + 1) 0) (word bs (at + 2))
+  one-term k make l f e = of-kind k 3 l e ∙ f _ ∙ ap₂ make (byte-at bs at 3 0 (omega arith)) (word-at bs at 3 1 (omega arith))
+
+  -- a party and two terms
+  two-terms : (k : ℕ) (make : ℕ → ℕ → ℕ → Command) → bodyLength k ≡ 5 → ((b : List ℕ) → commandAt k b ≡ make (getD b 0 0) (word b 1) (word b 3)) → kindThere bs at ≡ k → commandThere bs at ≡ make (getD bs (at + 1) 0) (word bs (at + 2)) (word bs (at + 4))
+  two-terms k make l f e = of-kind k 5 l e ∙ f _ ∙ (λ x. make (byte-at bs at 5 0 (omega arith) x) (word-at bs at 5 1 (omega arith) x) (word-at bs at 5 3 (omega arith) x))
+
+  pub hash-there : kindThere bs at ≡ 0x30 → commandThere bs at ≡ hash (getD bs (at + 1) 0) (word bs (at + 2))
+  unfolding commandAt bodyLength widths width fieldsOf sectionOf
+  hash-there = one-term 0x30 hash refl (λ b. refl)
+
+  pub sign-there : kindThere bs at ≡ 0x31 → commandThere bs at ≡ sign (getD bs (at + 1) 0) (word bs (at + 2))
+  unfolding commandAt bodyLength widths width fieldsOf sectionOf
+  sign-there = one-term 0x31 sign refl (λ b. refl)
+
+  pub certify-there : kindThere bs at ≡ 0x32 → commandThere bs at ≡ certify (getD bs (at + 1) 0) (word bs (at + 2))
+  unfolding commandAt bodyLength widths width fieldsOf sectionOf
+  certify-there = one-term 0x32 certify refl (λ b. refl)
+
+  pub make-credential-there : kindThere bs at ≡ 0x33 → commandThere bs at ≡ makeCredential (getD bs (at + 1) 0) (word bs (at + 2))
+  unfolding commandAt bodyLength widths width fieldsOf sectionOf
+  make-credential-there = one-term 0x33 makeCredential refl (λ b. refl)
+
+  pub activate-there : kindThere bs at ≡ 0x34 → commandThere bs at ≡ activateCredential (getD bs (at + 1) 0) (word bs (at + 2))
+  unfolding commandAt bodyLength widths width fieldsOf sectionOf
+  activate-there = one-term 0x34 activateCredential refl (λ b. refl)
+
+  pub idevid-request-there : kindThere bs at ≡ 0x35 → commandThere bs at ≡ makeIdevidRequest (getD bs (at + 1) 0) (word bs (at + 2))
+  unfolding commandAt bodyLength widths width fieldsOf sectionOf
+  idevid-request-there = one-term 0x35 makeIdevidRequest refl (λ b. refl)
+
+  pub ldevid-request-there : kindThere bs at ≡ 0x36 → commandThere bs at ≡ makeLdevidRequest (getD bs (at + 1) 0) (word bs (at + 2))
+  unfolding commandAt bodyLength widths width fieldsOf sectionOf
+  ldevid-request-there = one-term 0x36 makeLdevidRequest refl (λ b. refl)
+
+  pub pair-there : kindThere bs at ≡ 0x37 → commandThere bs at ≡ makePair (getD bs (at + 1) 0) (word bs (at + 2))
+  unfolding commandAt bodyLength widths width fieldsOf sectionOf
+  pair-there = one-term 0x37 makePair refl (λ b. refl)
+
+  pub check-hash-there : kindThere bs at ≡ 0x38 → commandThere bs at ≡ checkHash (getD bs (at + 1) 0) (word bs (at + 2)) (word bs (at + 4))
+  unfolding commandAt bodyLength widths width fieldsOf sectionOf
+  check-hash-there = two-terms 0x38 checkHash refl (λ b. refl)
+
+  pub check-signature-there : kindThere bs at ≡ 0x39 → commandThere bs at ≡ checkSignature (getD bs (at + 1) 0) (word bs (at + 2)) (word bs (at + 4))
+  unfolding commandAt bodyLength widths width fieldsOf sectionOf
+  check-signature-there = two-terms 0x39 checkSignature refl (λ b. refl)
+
+  pub check-certificate-there : kindThere bs at ≡ 0x3A → commandThere bs at ≡ checkCertificate (getD bs (at + 1) 0) (word bs (at + 2)) (word bs (at + 4))
+  unfolding commandAt bodyLength widths width fieldsOf sectionOf
+  check-certificate-there = two-terms 0x3A checkCertificate refl (λ b. refl)
+
+  pub check-attributes-there : kindThere bs at ≡ 0x3B → commandThere bs at ≡ checkAttributes (getD bs (at + 1) 0) (word bs (at + 2)) (getD bs (at + 4) 0)
+  unfolding commandAt bodyLength widths width fieldsOf sectionOf
+  check-attributes-there e = of-kind 0x3B 4 refl e ∙ (λ x. checkAttributes (byte-at bs at 4 0 (omega arith) x) (word-at bs at 4 1 (omega arith) x) (byte-at bs at 4 3 (omega arith) x))
+
+  pub send-there : kindThere bs at ≡ 0x3C → commandThere bs at ≡ send (getD bs (at + 1) 0) (getD bs (at + 2) 0) (word bs (at + 3))
+  unfolding commandAt bodyLength widths width fieldsOf sectionOf
+  send-there e = of-kind 0x3C 4 refl e ∙ (λ x. send (byte-at bs at 4 0 (omega arith) x) (byte-at bs at 4 1 (omega arith) x) (word-at bs at 4 2 (omega arith) x))
+
+  pub self-issue-there : kindThere bs at ≡ 0x3D → commandThere bs at ≡ selfIssue (getD bs (at + 1) 0) (word bs (at + 2))
+  unfolding commandAt bodyLength widths width fieldsOf sectionOf
+  self-issue-there = one-term 0x3D selfIssue refl (λ b. refl)
+
+  pub challenge-there : kindThere bs at ≡ 0x3E → commandThere bs at ≡ challenge (getD bs (at + 1) 0) (word bs (at + 2)) (word bs (at + 4))
+  unfolding commandAt bodyLength widths width fieldsOf sectionOf
+  challenge-there = two-terms 0x3E challenge refl (λ b. refl)
+
+  pub issue-iak-there : kindThere bs at ≡ 0x3F → commandThere bs at ≡ issueIak (getD bs (at + 1) 0) (getD bs (at + 2) 0) (word bs (at + 3)) (word bs (at + 5))
+  unfolding commandAt bodyLength widths width fieldsOf sectionOf
+  issue-iak-there e = of-kind 0x3F 6 refl e ∙ (λ x. issueIak (byte-at bs at 6 0 (omega arith) x) (byte-at bs at 6 1 (omega arith) x) (word-at bs at 6 2 (omega arith) x) (word-at bs at 6 4 (omega arith) x))
+
+  pub issue-lak-there : kindThere bs at ≡ 0x40 → commandThere bs at ≡ issueLak (getD bs (at + 1) 0) (word bs (at + 2)) (word bs (at + 4))
+  unfolding commandAt bodyLength widths width fieldsOf sectionOf
+  issue-lak-there = two-terms 0x40 issueLak refl (λ b. refl)
+
+-- a command by numbers that were read
+pub one-read : (make : ℕ → ℕ → Command) {c : Command} {p m r : ℕ} → c ≡ make p m → r ≡ m → c ≡ make p r
+one-read make {p = p} e h = e ∙ ap (make p) (sym h)
+
+pub two-read : (make : ℕ → ℕ → ℕ → Command) {c : Command} {p m n r t : ℕ} → c ≡ make p m n → r ≡ m → t ≡ n → c ≡ make p r t
+two-read make {p = p} e h i = e ∙ ap₂ (make p) (sym h) (sym i)
+
+module _ {P : Command → Type 0} {bs : List ℕ} {at : ℕ} (w : CommandAt P bs at) where
+  pub three-bytes : 2 < bodyLength (kindThere bs at)
+  unfolding nextPlace
+  three-bytes = omega (arith, command-long bs at (w .isCommand))
+
+  pub four-bytes : at + 3 < length bs
+  four-bytes = omega (arith, command-long bs at (w .isCommand), w .whole .whole)
+
+  pub known-as : {c : Command} → commandThere bs at ≡ c → P c
+  known-as e = subst P e (w .known)
