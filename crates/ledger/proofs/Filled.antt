@@ -13,23 +13,15 @@ use Rattle.rules.specs.Limits.{termLimit}
 use Rattle.rules.specs.Lent.{firstPart, noEntry}
 use Rattle.entries.specs.Words.{entryWords, entryIn, wordsOf, ledgerOf}
 use Rattle.entries.proofs.Words.{words-append}
+use Rattle.entries.proofs.Read.{past}
 use Rattle.ledger.specs.Filled.{filled}
 
 -- the words of entries give them back, one by one
-past-one : (i k : ℕ) → entryWords * suc i + k ≡ suc (suc (suc (entryWords * i + k)))
-past-one i k = omega arith
-
-past-one₀ : (i : ℕ) → entryWords * suc i ≡ suc (suc (suc (entryWords * i)))
-past-one₀ i = omega arith
-
 at-entry : (es : List Entry) (i : ℕ) → entryIn (wordsOf es) i ≡ getD es i noEntry
 unfolding wordsOf
 at-entry [] i = refl
 at-entry (e ∷ es) zero = refl
-at-entry (e ∷ es) (suc i) = moved ∙ at-entry es i
-  where
-    moved : entryIn (wordsOf (e ∷ es)) (suc i) ≡ entryIn (wordsOf es) i
-    moved j = record { certificate = getD (wordsOf (e ∷ es)) (past-one₀ i j) 0; parent = getD (wordsOf (e ∷ es)) (past-one i 1 j) 0; depth = getD (wordsOf (e ∷ es)) (past-one i 2 j) 0 }
+at-entry (e ∷ es) (suc i) = past (e .certificate) (e .parent) (e .depth) (wordsOf es) i ∙ at-entry es i
 
 -- one place more
 one-more : (k : ℕ) (xs l : List Entry) → k < length xs → k < length l → set (take k xs ++ drop k l) k (getD xs k noEntry) ≡ take (suc k) xs ++ drop (suc k) l
@@ -49,7 +41,10 @@ filled-from xs l (suc k) h g =
 words-none : (m : ℕ) → wordsOf (replicate m noEntry) ≡ replicate (entryWords * m) 0
 unfolding wordsOf
 words-none zero = refl
-words-none (suc m) = ap (λ (r : List ℕ). 0 ∷ 0 ∷ 0 ∷ r) (words-none m) ∙ ap (λ (k : ℕ). replicate k 0) (sym (past-one₀ m))
+words-none (suc m) = ap (λ (r : List ℕ). 0 ∷ 0 ∷ 0 ∷ r) (words-none m) ∙ ap (λ (k : ℕ). replicate k 0) more
+  where
+    more : suc (suc (suc (entryWords * m))) ≡ entryWords * suc m
+    more = omega arith
 
 module _ (es : List Entry) (few : length es ≤ termLimit) where
   abbrev all : List Entry
