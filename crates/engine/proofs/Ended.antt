@@ -56,13 +56,13 @@ first-inside (suc n) bs at = inside-by bs at (commandsFrom n bs (nextPlace bs at
 
 -- a file of fileLimit bytes has no more than commandLimit commands
 module _ (bs : List ℕ) (f : File) (e : load bs ≡ loaded f) (short : length bs ≤ fileLimit) (n : ℕ) where
-  few-outcomes : length (outcomesOf f n) ≤ commandLimit
+  pub few-outcomes : length (outcomesOf f n) ≤ commandLimit
   few-outcomes =
       let first = commandsFrom (length bs) bs 0 in
       let (m, s) = commands-wellformed bs f e in
       omega (arith, totals f n .1, ap (λ (cs : List Command). length cs) (first-commands bs f e n), left-few (Wellformed f) bs n m first s (first-inside (length bs) bs 0))
 
-  few-counted : accepted f n + refusals f n ≤ commandLimit
+  pub few-counted : accepted f n + refusals f n ≤ commandLimit
   few-counted = omega (arith, totals f n .0, few-outcomes)
 
 drop-replicate : (n k : ℕ) → k ≤ n → _≡_ {A = List ℕ} (drop k (replicate n 0)) (replicate (n - k) 0)

@@ -80,7 +80,7 @@ module _ (bs : List ℕ) (n : ℕ) (lent : Lent) where
   unfolding runAnswer
   answer-long e = rw e refl
 
-too-long : (bs : List ℕ) → fileLimit < length bs → load bs ≡ refused 2 0
+pub too-long : (bs : List ℕ) → fileLimit < length bs → load bs ≡ refused 2 0
 unfolding load
 too-long bs h = rw (lt-leb (length bs) fileLimit h) refl
 

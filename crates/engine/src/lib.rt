@@ -100,7 +100,16 @@ fn run_parts(
     }
     let tally = found.tally;
     let first = lookup::first_command(file);
-    let t = run_commands(file, state, tables, words, outcomes, tally.parties, first, n);
+    let t = run_commands(
+        file,
+        state,
+        tables,
+        words,
+        outcomes,
+        tally.parties,
+        first,
+        n,
+    );
     RunAnswer::Ran(t.accepted as u32, t.refused as u32, t.issued as u32)
 }
 

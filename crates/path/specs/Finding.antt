@@ -8,12 +8,14 @@ use Rattle.rules.specs.declared.Entry.{Entry}
 use Rattle.rules.specs.Limits.{depthLimit, pathPlaces}
 use Rattle.rules.specs.State.{listed, depthOf}
 use Rattle.rules.specs.Lent.{Answer, success, refusal, steps}
-use Rattle.loaded.specs.Entries.{Enters, Entered}
+use Rattle.loaded.specs.Entries.{Enters}
 
 -- a ledger whose depths are within the limit, and room for a path
 pub record Findable (tables words list : List ℕ) : Type 0 where
-  pub entered : Entered tables words
-  pub shallow : (n : ℕ) (ledger : List Entry) → Enters tables words n ledger → (c : ℕ) → listed ledger c ≡ true → depthOf ledger c ≤ depthLimit
+  pub count : ℕ
+  pub ledger : List Entry
+  pub enters : Enters tables words count ledger
+  pub shallow : (c : ℕ) → listed ledger c ≡ true → depthOf ledger c ≤ depthLimit
   pub room : pathPlaces ≤ length list
 
 -- the answer for a term, and the list after it, as the rules say of a run's ledger

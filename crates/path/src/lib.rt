@@ -1,5 +1,6 @@
 // The way from an issued certificate to its endorsement certificate, by the ledger that a run left.
 use rules::PathAnswer;
+use rules::RunAnswer;
 ghost use mathlib.Core.Path.{_≡_};
 ghost use mathlib.Core.List.{List, _++_};
 ghost use Prim.Native.Nat.{ℕ, _+_, _<_, _≤_};
@@ -10,6 +11,16 @@ ghost use Rattle.rules.specs.State.{parentOf};
 ghost use Rattle.rules.specs.Lent.{steps, pathInNumbers};
 ghost use Rattle.loaded.specs.Entries.{Enters, Entered};
 ghost use Rattle.path.specs.Finding.{Findable, foundIn, listedIn};
+ghost use Rattle.path.specs.Paths.{Askable, Answers, Paths};
+
+// Places of a list that a path may need: the deepest certificate, its parents and the endorsement certificate.
+pub const PATH_PLACES: usize = 9;
+
+// The answer of Path, and how many places of the ledger are to be written: 0 or 1,024.
+pub struct PathAnswered {
+    pub places: usize,
+    pub answer: PathAnswer,
+}
 
 // The parent of a listed certificate; 0 of another term.
 fn parent_of(tables: &[u16; tables::WORDS], words: &[u16; entries::WORDS], t: u16) -> u16
@@ -70,4 +81,52 @@ fn find(
     let depth = entries::depth_of(words, entry - 1);
     climb(tables, words, list, term, depth as usize);
     PathAnswer::Steps(depth as u32)
+}
+
+// The path of a term where there was a run, else the run's refusal.
+fn answer(
+    ran: RunAnswer,
+    tables: &[u16; tables::WORDS],
+    words: &[u16; entries::WORDS],
+    term: u16,
+    list: &mut [u16],
+) -> PathAnswer
+    requires { ⌜ Askable ran (now tables) (now words) (now list) ⌝ }
+    ensures { λ x. ⌜ Answers ran (now (tables .entry)) (now (words .entry)) term (now (list .entry)) (now (list .exit)) x ⌝ }
+{
+    match ran {
+        RunAnswer::Ran(_, _, _) => find(tables, words, term, list),
+        RunAnswer::Refused(number, place) => PathAnswer::Refused(number, place),
+    }
+}
+
+// Runs a file as `engine::run` does, and writes the path of a term into a list.
+pub fn path(
+    file: &[u8],
+    n: usize,
+    room: usize,
+    state: &mut [u8],
+    outcomes: &mut [u8],
+    term: u16,
+    list: &mut [u16],
+    words: &mut [u16; entries::WORDS],
+    tables: &mut [u16; tables::WORDS],
+) -> PathAnswered
+    ensures { λ r. ⌜ Paths (now (file .entry)) n room (now (state .entry)) (now (outcomes .entry)) term (now (list .entry)) (now (state .exit)) (now (outcomes .exit)) (now (list .exit)) (now (words .exit)) r ⌝ }
+{
+    *words = [0u16; entries::WORDS];
+    if list.len() < PATH_PLACES {
+        return PathAnswered {
+            places: 0,
+            answer: PathAnswer::Refused(1, 0),
+        };
+    }
+    let done = engine::run(file, n, room, state, outcomes, words, tables);
+    let places = done.places;
+    let ran = done.answer;
+    let found = answer(ran, tables, words, term, list);
+    PathAnswered {
+        places: places,
+        answer: found,
+    }
 }

@@ -1,5 +1,5 @@
--- The ledger after Run, filled from the engine's words.
---     ledger-left    it is the ledger that the rules leave, and the places filled are within the ledger and the words
+-- The ledger after Run and Path, filled from the engine's words.
+--     ledger-left, path-ledger    it is the ledger that the rules leave, and the places filled are within the ledger and the words
 -- Assumes nothing.
 use mathlib.Core.Path.{_≡_, refl, _∙_}
 use mathlib.Core.Bool.{Bool, true, false, cond, _&&_}
@@ -10,10 +10,10 @@ use borrow.Author.Tests.{leb-true}
 use lib.Dec.{leb}
 use lib.ListN.{length}
 use Rattle.rules.specs.declared.Entry.{Entry}
-use Rattle.rules.specs.Limits.{fileLimit, termLimit, commandLimit, stateBytes}
+use Rattle.rules.specs.Limits.{fileLimit, termLimit, commandLimit, stateBytes, pathPlaces}
 use Rattle.rules.specs.Load.{Load, loaded, refused, load}
 use Rattle.rules.specs.Run.{issued}
-use Rattle.rules.specs.Lent.{Lent, longEnough, firstPart, noEntry, written, leaves, runLeaves}
+use Rattle.rules.specs.Lent.{Lent, longEnough, firstPart, noEntry, written, leaves, runLeaves, pathBuffers}
 use Rattle.theorems.proofs.Booleans.{and-true}
 use Rattle.theorems.proofs.Laws.{few-issued}
 use Rattle.entries.specs.Words.{ledgerOf}
@@ -62,3 +62,12 @@ module _ (bs : List ℕ) (n : ℕ) (lent : Lent) where
 
   pub ledger-left : (words : List ℕ) (places : ℕ) → words ≡ ledgerOf (gained bs n lent) → places ≡ placesOf bs lent → Filled words places (runLeaves bs n lent .ledger)
   ledger-left words places w p = rw (w, p) left
+
+  by-list : (b : Bool) (es : List Entry) (places : ℕ) (new : Lent) → Left es places (lent .ledger) (new .ledger) → Left (cond b es []) (cond b places 0) (lent .ledger) (cond b new lent .ledger)
+  by-list true es places new h = h
+  by-list false es places new h = left-none [] (lent .ledger)
+
+  pub path-ledger : (t : ℕ) (list words : List ℕ) (places : ℕ) → words ≡ ledgerOf (cond (leb pathPlaces (length list)) (gained bs n lent) []) → places ≡ cond (leb pathPlaces (length list)) (placesOf bs lent) 0
+      → Filled words places (pathBuffers bs n lent t list .ledger)
+  unfolding pathBuffers
+  path-ledger t list words places w p = rw (w, p) (by-list (leb pathPlaces (length list)) (gained bs n lent) (placesOf bs lent) (runLeaves bs n lent) left)

@@ -28,7 +28,7 @@ sub-depth-of c = search needs
 
 depth-of-requires : tie.Need-depth-of-requires
 depth-of-requires c κs =
-    let e = c .before .before .before .before .pre .entered .2 in
+    let e = c .before .before .before .before .pre .enters in
     omega (arith, c .before .entry-of .ensures, c .if2 .left, entry-inside (c .before .before .before .before .args .term) e, e .few)
 
 cast-climb : tie.Need-cast-climb
@@ -37,13 +37,13 @@ cast-climb c = search needs
 climb-requires : tie.Need-climb-requires
 climb-requires c κs =
     let o = c .before .before .before .before .before .before in
-    let (n, ledger, e) = o .pre .entered in
+    let e = o .pre .enters in
     let q = c .before .before .before .entry-of .ensures in
     let m = c .before .before .if2 .left in
     let l = column-listed (o .args .term) e (omega (arith, q, m)) in
     let d = c .before .depth-of .ensures ∙ depth-read (o .args .term) e q (omega (arith, m)) in
-    let s = o .pre .shallow n ledger e (o .args .term) l in
-    (o .pre .entered, omega (arith, d, s), omega (arith, d, s, o .pre .room))
+    let s = o .pre .shallow (o .args .term) l in
+    ((o .pre .count, o .pre .ledger, e), omega (arith, d, s), omega (arith, d, s, o .pre .room))
 
 cast-t16 : tie.Need-cast-t16
 cast-t16 c = search needs

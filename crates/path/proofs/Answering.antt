@@ -1,0 +1,186 @@
+-- Path by what Run gives: its answer, the buffers and the list.
+--     path-short     a list that is too short leaves all untouched
+--     askable        a run's ledger is one in which paths are found
+--     refused-answers     a refusal of the run is Path's
+--     path-ran       what a run and the path by its ledger leave is what the rules say
+-- Assumes nothing.
+use mathlib.Core.Path.{_≡_, refl, sym, ap, subst, _∙_}
+use mathlib.Core.Bool.{Bool, true, false, cond, _&&_, and-true}
+use mathlib.Core.List.{List, [], _∷_}
+use Prim.Native.Nat.{ℕ, _<_, _≤_}
+use native.Mathlib.Omega.{arith}
+use lib.Dec.{leb}
+use lib.ListN.{length, getD, replicate}
+use borrow.Author.Tests.{le-leb, lt-leb, leb-false}
+use Rattle.rules.specs.declared.Entry.{Entry}
+use Rattle.rules.specs.declared.RunAnswer.{RunAnswer}
+use Rattle.rules.specs.declared.RunAnswer.the-variants as ran
+use Rattle.rules.specs.declared.PathAnswer.{PathAnswer}
+use Rattle.rules.specs.declared.PathAnswer.the-variants as path
+use Rattle.rules.specs.Limits.{fileLimit, depthLimit, pathPlaces}
+use Rattle.rules.specs.File.{File}
+use Rattle.rules.specs.Load.{Load, loaded, refused, load}
+use Rattle.rules.specs.State.{listed, depthOf}
+use Rattle.rules.specs.Run.{reached, issued}
+use Rattle.rules.specs.Lent.{Answer, success, refusal, runInNumbers, pathInNumbers, Lent, longEnough, answered, runAnswer, runLeaves, found, pathAnswered, pathAnswer, pathBuffers, pathWritten, pathListed, pathLeaves}
+use Rattle.theorems.proofs.Ledgers.{listed-found}
+use Rattle.entries.specs.Words.{ledgerWords, entriesIn, ledgerOf}
+use Rattle.entries.proofs.Read.{entries-ledger}
+use Rattle.loaded.specs.Entries.{Enters}
+use Rattle.commands.specs.Standing.{Stands}
+use Rattle.engine.specs.declared.Answered.{Answered}
+use Rattle.engine.specs.Runs.{writes, entriesAfter, gained, placesOf, Left, Ran}
+use Rattle.engine.proofs.Ended.{ledger-none}
+use Rattle.engine.proofs.Written.{too-long}
+use Rattle.path.specs.Finding.{Findable, foundIn, listedIn}
+use Rattle.path.specs.Paths.{Askable, Answers, PathRan}
+
+-- a test that fails, behind another
+second-fails : (a b : Bool) → b ≡ false → a && b ≡ false
+second-fails true b e = e
+second-fails false b e = refl
+
+-- a run that is not refused is of a file that loads
+answered-ran : (n : ℕ) (l : Load) (a r i : ℕ) → success (a ∷ r ∷ i ∷ []) ≡ answered n l → (f : File) × (l ≡ loaded f) × (i ≡ issued f n)
+unfolding answered
+answered-ran n (loaded f) a r i e = (f, refl, ap (λ (x : Answer). getD (x .values) 2 0) e)
+answered-ran n (refused number place) a r i e = absurd (let z : _≡_ {A = ℕ} 3 1 = ap (λ (x : Answer). length (x .values)) e in omega arith)
+
+-- and a refused one of a file that does not
+answered-refused : (n t : ℕ) (l : Load) (number place : ℕ) → refusal number place ≡ answered n l → (refusal number place ≡ pathAnswered n t l) × ((list : List ℕ) → list ≡ pathListed n t list l)
+unfolding answered pathAnswered pathListed
+answered-refused n t (loaded f) number place e = absurd (let z : _≡_ {A = ℕ} 1 3 = ap (λ (x : Answer). length (x .values)) e in omega arith)
+answered-refused n t (refused m at) number place e = (e, λ list. refl)
+
+module _ (bs : List ℕ) (n : ℕ) (lent : Lent) (t : ℕ) (list : List ℕ) where
+  -- too short a list
+  module _ (short : length list < pathPlaces) where
+    no-answer : refusal 1 0 ≡ pathAnswer bs n lent t list
+    unfolding pathAnswer
+    no-answer = sym (ap (λ (b : Bool). cond b (pathAnswered n t (load bs)) (refusal 1 0)) (second-fails (longEnough lent) (leb pathPlaces (length list)) (lt-leb pathPlaces (length list) short)))
+
+    no-buffers : lent ≡ pathBuffers bs n lent t list
+    unfolding pathBuffers
+    no-buffers = rw (lt-leb pathPlaces (length list) short) refl
+
+    no-list : list ≡ pathLeaves bs n lent t list
+    unfolding pathLeaves
+    no-list = sym (ap (λ (b : Bool). cond b (pathListed n t list (load bs)) list) (second-fails (longEnough lent) (leb pathPlaces (length list)) (lt-leb pathPlaces (length list) short)))
+
+    pub path-short : PathRan bs n lent t list (lent .state) (lent .outcomes) list (replicate ledgerWords 0) (record { places = 0; answer = path.Refused 1 0 })
+    unfolding pathInNumbers
+    path-short = record {
+      answer = no-answer;
+      state = ap (λ (x : Lent). x .state) no-buffers;
+      outcomes = ap (λ (x : Lent). x .outcomes) no-buffers;
+      steps = no-list;
+      words = rw (lt-leb pathPlaces (length list) short) ledger-none;
+      places = rw (lt-leb pathPlaces (length list) short) refl;
+    }
+
+  -- a list that is long enough
+  module _ (long : pathPlaces ≤ length list) where
+    long-is : leb pathPlaces (length list) ≡ true
+    long-is = le-leb pathPlaces (length list) long
+
+    buffers : runLeaves bs n lent ≡ pathBuffers bs n lent t list
+    unfolding pathBuffers
+    buffers = rw long-is refl
+
+    answer-by : (b : Bool) → longEnough lent ≡ b → pathAnswer bs n lent t list ≡ cond b (pathAnswered n t (load bs)) (refusal 1 0)
+    unfolding pathAnswer
+    answer-by true e = rw (e, long-is) refl
+    answer-by false e = rw e refl
+
+    list-by : (b : Bool) → longEnough lent ≡ b → pathLeaves bs n lent t list ≡ cond b (pathListed n t list (load bs)) list
+    unfolding pathLeaves
+    list-by true e = rw (e, long-is) refl
+    list-by false e = rw e refl
+
+    run-by : (b : Bool) → longEnough lent ≡ b → runAnswer bs n lent ≡ cond b (answered n (load bs)) (refusal 1 0)
+    unfolding runAnswer
+    run-by b e = rw e refl
+
+    -- the run's refusal is Path's
+    refused-by : (b : Bool) → longEnough lent ≡ b → (number place : ℕ) → refusal number place ≡ cond b (answered n (load bs)) (refusal 1 0)
+        → (refusal number place ≡ pathAnswer bs n lent t list) × (list ≡ pathLeaves bs n lent t list)
+    refused-by true e number place q =
+        let w = answered-refused n t (load bs) number place q in
+        (w .0 ∙ sym (answer-by true e), w .1 list ∙ sym (list-by true e))
+    refused-by false e number place q = (q ∙ sym (answer-by false e), sym (list-by false e))
+
+    refused-path : (number place : ℕ) → runInNumbers (ran.Refused number place) ≡ runAnswer bs n lent → (refusal number place ≡ pathAnswer bs n lent t list) × (list ≡ pathLeaves bs n lent t list)
+    unfolding runInNumbers
+    refused-path number place q = refused-by (longEnough lent) refl number place (q ∙ run-by (longEnough lent) refl)
+
+    -- the ledger of a run
+    module _ (tables w s : List ℕ) (a r i : ℕ) (q : runInNumbers (ran.Ran a r i) ≡ runAnswer bs n lent) (same : w ≡ ledgerOf (gained bs n lent)) (stands : Stands bs s tables w i) where
+      ran-by : (b : Bool) → longEnough lent ≡ b → success (a ∷ r ∷ i ∷ []) ≡ cond b (answered n (load bs)) (refusal 1 0)
+          → (f : File) × (load bs ≡ loaded f) × (i ≡ issued f n) × (longEnough lent ≡ true)
+      ran-by true e z = let (f, l, k) = answered-ran n (load bs) a r i z in (f, l, k, e)
+      ran-by false e z = absurd (let y : _≡_ {A = ℕ} 3 1 = ap (λ (x : Answer). length (x .values)) z in omega arith)
+
+      of-file : (f : File) × (load bs ≡ loaded f) × (i ≡ issued f n) × (longEnough lent ≡ true)
+      unfolding runInNumbers
+      of-file = ran-by (longEnough lent) refl (q ∙ run-by (longEnough lent) refl)
+
+      -- a file that loads is not too long
+      fits : (f : File) → load bs ≡ loaded f → (b : Bool) → leb (length bs) fileLimit ≡ b → b ≡ true
+      unfolding answered
+      fits f l true e = refl
+      fits f l false e = absurd (let z : _≡_ {A = ℕ} 1 3 = ap (λ (x : Load). length (answered n x .values)) (sym (too-long bs (leb-false (length bs) fileLimit e)) ∙ l) in omega arith)
+
+      ledger-is : (f : File) → load bs ≡ loaded f → i ≡ issued f n → longEnough lent ≡ true → Enters tables w i (reached f n .ledger)
+      unfolding gained entriesAfter issued
+      ledger-is f l k e =
+          let g : w ≡ ledgerOf (reached f n .ledger) = rw (e, fits f l (leb (length bs) fileLimit) refl, l) at same in
+          let d : entriesIn w i ≡ reached f n .ledger = ap (λ (x : List ℕ). entriesIn x i) g ∙ ap (entriesIn (ledgerOf (reached f n .ledger))) k ∙ entries-ledger (reached f n .ledger) in
+          subst (Enters tables w i) d (stands .enters)
+
+      -- Path finds it there
+      ran-path : {list′ : List ℕ} (x : PathAnswer) → ((m : ℕ) (ledger : List Entry) → Enters tables w m ledger → (pathInNumbers x ≡ foundIn ledger t) × (list′ ≡ listedIn ledger t list))
+          → (pathInNumbers x ≡ pathAnswer bs n lent t list) × (list′ ≡ pathLeaves bs n lent t list)
+      unfolding pathAnswered found pathListed pathWritten
+      ran-path x h =
+          let (f, l, k, e) = of-file in
+          let d = h i (reached f n .ledger) (ledger-is f l k e) in
+          (d .0 ∙ sym (answer-by true e ∙ ap (pathAnswered n t) l), d .1 ∙ sym (list-by true e ∙ ap (pathListed n t list) l))
+
+-- a run's ledger is one in which paths are found
+pub askable : (x : RunAnswer) (bs s tables words list : List ℕ) → Left bs s tables words x → pathPlaces ≤ length list → Askable x tables words list
+askable (ran.Ran a r i) bs s tables words list w long =
+    let stands = w a r i refl in
+    record {
+      count = i;
+      ledger = entriesIn words i;
+      enters = stands .enters;
+      shallow = λ c l. let m = listed-found (entriesIn words i) c l in omega (arith, m .depth, stands .kept .sound .entries (m .place) (m .entry) (m .here) .most);
+      room = long;
+    }
+askable (ran.Refused number place) bs s tables words list w long = tt
+
+pub refused-answers : (number place : ℕ) (list : List ℕ) → (pathInNumbers (path.Refused number place) ≡ refusal number place) × (list ≡ list)
+unfolding pathInNumbers
+refused-answers number place list = (refl, refl)
+
+-- the whole
+module _ (bs : List ℕ) (n : ℕ) (lent : Lent) (t : ℕ) (list : List ℕ) (long : pathPlaces ≤ length list) where
+  by-answer : (y : RunAnswer) (s w tables : List ℕ) → runInNumbers y ≡ runAnswer bs n lent → w ≡ ledgerOf (gained bs n lent) → Left bs s tables w y
+      → (list′ : List ℕ) (x : PathAnswer) → Answers y tables w t list list′ x → (pathInNumbers x ≡ pathAnswer bs n lent t list) × (list′ ≡ pathLeaves bs n lent t list)
+  by-answer (ran.Ran a r i) s w tables q same left list′ x h = ran-path bs n lent t list long tables w s a r i q same (left a r i refl) x h
+  by-answer (ran.Refused number place) s w tables q same left list′ x h = let d = refused-path bs n lent t list long number place q in (h .0 ∙ d .0, h .1 ∙ d .1)
+
+  pub path-ran : (s₁ s out w tables list′ : List ℕ) (r : Answered) (x : PathAnswer) → Ran bs n lent s out w r → Left bs s₁ tables w (r .answer) → Answers (r .answer) tables w t list list′ x
+      → PathRan bs n lent t list s out list′ w (record { places = r .places; answer = x })
+  path-ran s₁ s out w tables list′ r x run left h =
+      let d = by-answer (r .answer) s₁ w tables (run .answer) (run .words) left list′ x h in
+      let e = long-is bs n lent t list long in
+      let b = buffers bs n lent t list long in
+      record {
+        answer = d .0;
+        state = run .state ∙ ap (λ (y : Lent). y .state) b;
+        outcomes = run .outcomes ∙ ap (λ (y : Lent). y .outcomes) b;
+        steps = d .1;
+        words = rw e (run .words);
+        places = rw e (run .places);
+      }
