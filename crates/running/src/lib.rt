@@ -22,13 +22,7 @@ pub struct PathCore {
 }
 
 // What Run calls: the entries come in the answer.
-pub fn execute(
-    file: &[u8],
-    n: usize,
-    room: usize,
-    state: &mut [u8],
-    outcomes: &mut [u8],
-) -> Core
+pub fn execute(file: &[u8], n: usize, room: usize, state: &mut [u8], outcomes: &mut [u8]) -> Core
     ensures { λ r. ⌜ Runs (now (file .entry)) n room (now (state .entry)) (now (outcomes .entry)) (now (state .exit)) (now (outcomes .exit)) (r .words) (record { places = r .places; answer = r .answer }) ⌝ }
 {
     let mut words = [0u16; entries::WORDS];
