@@ -1,3 +1,4 @@
+-- `ledger::entry_at` meets its contract: three words, read by the readers of entries. Assumes nothing.
 use borrow.Author.Needs.{needs}
 use Rattle.ledger.proofs.entry_at.Statement.{statement}
 use Rattle.ledger.proofs.entry_at.Tie as tie
