@@ -1,4 +1,5 @@
 -- The words of a whole ledger, read back.
+--     past               an entry further on
 --     entries-ledger     the entries in the words of a ledger are the ledger's
 -- Assumes nothing.
 use mathlib.Core.Path.{_≡_, refl, ap, ap₂, _∙_}
@@ -10,8 +11,7 @@ use Rattle.rules.specs.declared.Entry.{Entry}
 use Rattle.rules.specs.Limits.{termLimit}
 use Rattle.entries.specs.Words.{entryWords, entryIn, entriesIn, wordsOf, ledgerOf}
 
--- an entry further on
-past : (a b c : ℕ) (ws : List ℕ) (n : ℕ) → entryIn (a ∷ b ∷ c ∷ ws) (suc n) ≡ entryIn ws n
+pub past : (a b c : ℕ) (ws : List ℕ) (n : ℕ) → entryIn (a ∷ b ∷ c ∷ ws) (suc n) ≡ entryIn ws n
 past a b c ws n = λ i. record {
   certificate = getD (a ∷ b ∷ c ∷ ws) (at₀ i) 0;
   parent = getD (a ∷ b ∷ c ∷ ws) (at 1 i) 0;

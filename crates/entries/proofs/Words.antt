@@ -3,6 +3,7 @@
 --     entries-none, entries-length    no entries; how many there are
 --     entries-kept, entries-next      those before an entry that is written, and those with it
 --     beyond-next                     zero words beyond them
+--     words-append                    the words of entries and others
 --     ledger-words                    the words are those of their entries, and zero beyond them
 -- Assumes nothing.
 use mathlib.Core.Path.{_≡_, refl, sym, ap, ap₂, _∙_}
@@ -72,7 +73,7 @@ module _ (words : List ℕ) (i : ℕ) (e : Entry) where
   beyond-next z j l = word-kept j (omega arith) (omega arith) (omega arith) ∙ z j (omega arith)
 
 -- the words of entries
-words-append : (xs ys : List Entry) → wordsOf (xs ++ ys) ≡ wordsOf xs ++ wordsOf ys
+pub words-append : (xs ys : List Entry) → wordsOf (xs ++ ys) ≡ wordsOf xs ++ wordsOf ys
 unfolding wordsOf
 words-append [] ys = refl
 words-append (x ∷ xs) ys = ap (λ (l : List ℕ). x .certificate ∷ x .parent ∷ x .depth ∷ l) (words-append xs ys)

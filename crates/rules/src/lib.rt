@@ -137,6 +137,7 @@ pub enum Field {
 }
 
 // A line of the ledger: an issued certificate, its parent and how many steps lead to an endorsement certificate.
+#[repr(C)]
 pub struct Entry {
     pub certificate: u16,
     pub parent: u16,

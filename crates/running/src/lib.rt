@@ -1,0 +1,113 @@
+// Run and Path: the engine runs on plain slices, and its entries go to the ledger.
+use rules::Entry;
+use rules::PathAnswer;
+use rules::RunAnswer;
+ghost use mathlib.Core.Path.{_≡_};
+ghost use Rattle.rules.specs.Lent.{runInNumbers, runAnswer, runLeaves, pathInNumbers, pathAnswer, pathBuffers, pathLeaves};
+ghost use Rattle.engine.specs.Runs.{lentWith, Runs};
+ghost use Rattle.path.specs.Paths.{Paths};
+
+// What a run answers, with its entries in words and how many places of the ledger are to be written.
+pub struct Core {
+    pub words: [u16; entries::WORDS],
+    pub places: usize,
+    pub answer: RunAnswer,
+}
+
+// The same of Path.
+pub struct PathCore {
+    pub words: [u16; entries::WORDS],
+    pub places: usize,
+    pub answer: PathAnswer,
+}
+
+// What Run calls: the entries come in the answer.
+pub fn execute(file: &[u8], n: usize, room: usize, state: &mut [u8], outcomes: &mut [u8]) -> Core
+    ensures { λ r. ⌜ Runs (now (file .entry)) n room (now (state .entry)) (now (outcomes .entry)) (now (state .exit)) (now (outcomes .exit)) (r .words) (record { places = r .places; answer = r .answer }) ⌝ }
+{
+    let mut words = [0u16; entries::WORDS];
+    let mut tables = [0u16; tables::WORDS];
+    let done = engine::run(file, n, room, state, outcomes, &mut words, &mut tables);
+    let answer = done.answer;
+    Core {
+        words: words,
+        places: done.places,
+        answer: answer,
+    }
+}
+
+// What Path calls.
+pub fn execute_path(
+    file: &[u8],
+    n: usize,
+    room: usize,
+    state: &mut [u8],
+    outcomes: &mut [u8],
+    term: u16,
+    list: &mut [u16],
+) -> PathCore
+    ensures { λ r. ⌜ Paths (now (file .entry)) n room (now (state .entry)) (now (outcomes .entry)) term (now (list .entry)) (now (state .exit)) (now (outcomes .exit)) (now (list .exit)) (r .words) (record { places = r .places; answer = r .answer }) ⌝ }
+{
+    let mut words = [0u16; entries::WORDS];
+    let mut tables = [0u16; tables::WORDS];
+    let done = path::path(
+        file,
+        n,
+        room,
+        state,
+        outcomes,
+        term,
+        list,
+        &mut words,
+        &mut tables,
+    );
+    let answer = done.answer;
+    PathCore {
+        words: words,
+        places: done.places,
+        answer: answer,
+    }
+}
+
+// Loads a file and executes its first n commands, or all if fewer, on lent buffers of any length.
+pub fn run(
+    file: &[u8],
+    n: usize,
+    state: &mut [u8],
+    ledger: &mut [Entry],
+    outcomes: &mut [u8],
+) -> RunAnswer
+    ensures { λ r. ⌜ (runInNumbers r ≡ runAnswer (now (file .entry)) n (lentWith (now (state .entry)) (now (ledger .entry)) (now (outcomes .entry))))
+        × (now (state .exit) ≡ runLeaves (now (file .entry)) n (lentWith (now (state .entry)) (now (ledger .entry)) (now (outcomes .entry))) .state)
+        × (now (ledger .exit) ≡ runLeaves (now (file .entry)) n (lentWith (now (state .entry)) (now (ledger .entry)) (now (outcomes .entry))) .ledger)
+        × (now (outcomes .exit) ≡ runLeaves (now (file .entry)) n (lentWith (now (state .entry)) (now (ledger .entry)) (now (outcomes .entry))) .outcomes) ⌝ }
+{
+    let room = ledger.len();
+    let done = execute(file, n, room, state, outcomes);
+    let words = done.words;
+    ledger::copy_out(ledger, &words, done.places);
+    done.answer
+}
+
+// The same, and the path of a certificate after these commands, in a lent list.
+pub fn path(
+    file: &[u8],
+    n: usize,
+    state: &mut [u8],
+    ledger: &mut [Entry],
+    outcomes: &mut [u8],
+    term: u16,
+    list: &mut [u16],
+) -> PathAnswer
+    ensures { λ r. ⌜ (pathInNumbers r ≡ pathAnswer (now (file .entry)) n (lentWith (now (state .entry)) (now (ledger .entry)) (now (outcomes .entry))) term (now (list .entry)))
+        × (now (state .exit) ≡ pathBuffers (now (file .entry)) n (lentWith (now (state .entry)) (now (ledger .entry)) (now (outcomes .entry))) term (now (list .entry)) .state)
+        × (now (ledger .exit) ≡ pathBuffers (now (file .entry)) n (lentWith (now (state .entry)) (now (ledger .entry)) (now (outcomes .entry))) term (now (list .entry)) .ledger)
+        × (now (outcomes .exit) ≡ pathBuffers (now (file .entry)) n (lentWith (now (state .entry)) (now (ledger .entry)) (now (outcomes .entry))) term (now (list .entry)) .outcomes)
+        × (now (list .exit) ≡ pathLeaves (now (file .entry)) n (lentWith (now (state .entry)) (now (ledger .entry)) (now (outcomes .entry))) term (now (list .entry))) ⌝ }
+{
+    let room = ledger.len();
+    let done = execute_path(file, n, room, state, outcomes, term, list);
+    let words = done.words;
+    ledger::copy_out(ledger, &words, done.places);
+    done.answer
+}
