@@ -4,9 +4,9 @@ use rules::LoadAnswer;
 use rules::PathAnswer;
 use rules::RunAnswer;
 ghost use mathlib.Core.Path.{_≡_};
-ghost use Rattle.rules.specs.Lent.{refusal, loadAnswer, loadLeaves, runAnswer, runLeaves, pathInNumbers, pathAnswer, pathBuffers, pathLeaves};
+ghost use Rattle.rules.specs.Lent.{runInNumbers, loadAnswer, loadLeaves, runAnswer, runLeaves, pathInNumbers, pathAnswer, pathBuffers, pathLeaves};
 ghost use Rattle.engine.specs.Runs.{lentWith};
-ghost use Rattle.birdweekly.specs.Numbers.{loadNumbers, runNumbers, ofRun, pathNumbers};
+ghost use Rattle.birdweekly.specs.Numbers.{loadNumbers, runNumbers, pathNumbers};
 
 // What loading answers: number 0 with the parties, terms and commands, or the refusal with its place.
 #[repr(C)]
@@ -62,7 +62,7 @@ pub struct PathNumbers {
 }
 
 fn run_numbers(answer: RunAnswer) -> RunNumbers
-    ensures { λ r. ⌜ r ≡ ofRun answer ⌝ }
+    ensures { λ r. ⌜ r ≡ runNumbers (runInNumbers answer) ⌝ }
 {
     match answer {
         RunAnswer::Ran(accepted, refused, issued) => RunNumbers {
@@ -82,7 +82,6 @@ fn run_numbers(answer: RunAnswer) -> RunNumbers
     }
 }
 
-// A refusal is never 0; in numbers that would be steps.
 fn path_numbers(answer: PathAnswer) -> PathNumbers
     ensures { λ r. ⌜ r ≡ pathNumbers (pathInNumbers answer) ⌝ }
 {
@@ -92,24 +91,11 @@ fn path_numbers(answer: PathAnswer) -> PathNumbers
             place: 0,
             steps: steps,
         },
-        PathAnswer::Refused(number, place) => refused_path(number, place),
-    }
-}
-
-fn refused_path(number: u32, place: u32) -> PathNumbers
-    ensures { λ r. ⌜ r ≡ pathNumbers (refusal number place) ⌝ }
-{
-    if number == 0 {
-        return PathNumbers {
-            number: 0,
-            place: 0,
-            steps: place,
-        };
-    }
-    PathNumbers {
-        number: number,
-        place: place,
-        steps: 0,
+        PathAnswer::Refused(number, place) => PathNumbers {
+            number: number,
+            place: place,
+            steps: 0,
+        },
     }
 }
 

@@ -1,12 +1,11 @@
 -- The numbers of a load answer are small.
 --     few-commands      a file has no more commands than bytes
 --     near-refusal      the place of a refusal is at most 8 times the length of the file
---     refusal-not-0     a refusal is not 0
 -- Assumes nothing.
 use mathlib.Core.Path.{_≡_, subst}
 use mathlib.Core.Bool.{Bool, true, false, cond}
 use mathlib.Core.List.{List, [], _∷_}
-use Prim.Native.Nat.{ℕ, zero, suc, _+_, _*_, _<_, _≤_}
+use Prim.Native.Nat.{ℕ, zero, suc, _+_, _*_, _≤_}
 use native.Mathlib.Omega.{arith}
 use lib.Dec.{eqb, ltb, leb}
 use lib.ListN.{length, getD, take, drop}
@@ -16,16 +15,16 @@ use Rattle.rules.specs.File.{File}
 use Rattle.rules.specs.Load.{termAt, setupAt, commandAt, recordFault, withParty, withTerm, withSetup, withCommand, enter, Load, loaded, refused, settle, step, feed, emptyFile, load}
 use Rattle.records.proofs.Lengths.{body-small}
 
--- every piece begins at m or before, and a fault has a number
+-- every piece begins at m or before
 abbrev Near : ℕ → List Piece → Type 0
 Near m [] = Unit {0}
 Near m (whole at k body ∷ ps) = (at ≤ m) × Near m ps
-Near m (fault r at ∷ ps) = (at ≤ m) × (0 < r) × Near m ps
+Near m (fault r at ∷ ps) = (at ≤ m) × Near m ps
 
 cut-near : (m : ℕ) (a b : Bool) (at k : ℕ) (body : List ℕ) (more : List Piece) → at ≤ m → Near m more → Near m (cut a b at k body more)
 unfolding cut
-cut-near m false b at k body more h near = (h, omega arith, tt)
-cut-near m true false at k body more h near = (h, omega arith, tt)
+cut-near m false b at k body more h near = (h, tt)
+cut-near m true false at k body more h near = (h, tt)
 cut-near m true true at k body more h near = (h, near)
 
 pieces-near : (m n at : ℕ) (bs : List ℕ) → at + 8 * n ≤ m → Near m (pieces n at bs)
@@ -64,23 +63,23 @@ entered-few f at k body = go (eqb (sectionOf k) partySection) (eqb (sectionOf k)
     go false false true = omega arith
     go false false false = omega arith
 
--- n commands at most, or a refusal at m or before, with a number
+-- n commands at most, or a refusal at m or before
 abbrev Within : ℕ → ℕ → Load → Type 0
 Within n m (loaded f) = length (f .commands) ≤ n
-Within n m (refused r at) = (at ≤ m) × (0 < r)
+Within n m (refused r at) = at ≤ m
 
 settled : (n m r at : ℕ) (f : File) → at ≤ m → length (f .commands) ≤ n → Within n m (settle r at f)
 unfolding settle
 settled n m zero at f h l = l
-settled n m (suc r) at f h l = (h, omega arith)
+settled n m (suc r) at f h l = h
 
 fed : (t m n : ℕ) (ps : List Piece) (l : Load) → n + length ps ≤ t → Near m ps → Within n m l → Within t m (feed l ps)
 unfolding feed step
 fed t m n [] (loaded f) h near w = omega arith
 fed t m n [] (refused r at) h near w = w
 fed t m n (whole place k body ∷ ps) (refused r at) h near w = fed t m n ps (refused r at) (omega arith) (near .1) w
-fed t m n (fault q place ∷ ps) (refused r at) h near w = fed t m n ps (refused r at) (omega arith) (near .2) w
-fed t m n (fault q place ∷ ps) (loaded f) h near w = fed t m n ps (refused q place) (omega arith) (near .2) (near .0, near .1)
+fed t m n (fault q place ∷ ps) (refused r at) h near w = fed t m n ps (refused r at) (omega arith) (near .1) w
+fed t m n (fault q place ∷ ps) (loaded f) h near w = fed t m n ps (refused q place) (omega arith) (near .1) (near .0)
 fed t m n (whole place k body ∷ ps) (loaded f) h near w =
     fed t m (suc n) ps (settle (recordFault f k body) place (enter f place k body)) (omega arith) (near .1)
     (settled (suc n) m (recordFault f k body) place (enter f place k body) (near .0) (omega (arith, entered-few f place k body)))
@@ -94,13 +93,10 @@ unfolding load emptyFile
 load-within bytes =
     either-within (length bytes) (8 * length bytes) (leb (length bytes) fileLimit) _ (refused 2 0)
     (fed (length bytes) (8 * length bytes) 0 (pieces (length bytes) 0 bytes) (loaded emptyFile) (omega (arith, pieces-few (length bytes) 0 bytes)) (pieces-near (8 * length bytes) (length bytes) 0 bytes (omega arith)) (omega arith))
-    (omega arith, omega arith)
+    (omega arith)
 
 pub few-commands : (bytes : List ℕ) (f : File) → load bytes ≡ loaded f → length (f .commands) ≤ length bytes
 few-commands bytes f e = subst (Within (length bytes) (8 * length bytes)) e (load-within bytes)
 
 pub near-refusal : (bytes : List ℕ) (r at : ℕ) → load bytes ≡ refused r at → at ≤ 8 * length bytes
-near-refusal bytes r at e = subst (Within (length bytes) (8 * length bytes)) e (load-within bytes) .0
-
-pub refusal-not-0 : (bytes : List ℕ) (r at : ℕ) → load bytes ≡ refused r at → 0 < r
-refusal-not-0 bytes r at e = subst (Within (length bytes) (8 * length bytes)) e (load-within bytes) .1
+near-refusal bytes r at e = subst (Within (length bytes) (8 * length bytes)) e (load-within bytes)

@@ -2,7 +2,6 @@
 --     final-state                                                  the state bytes of a described whole file
 --     final-leaves, refused-leaves, short-leaves, long-leaves      the buffer after loading
 --     final-answer, refused-answer, short-answer, long-answer      the answer
---     refused-not-0                                                a refusal is not 0
 --     inside-lower                                                 what lies inside a term is not higher
 --     unknown, unheld                                              at the start no term but a declared one is known, or in a table
 -- Assumes nothing.
@@ -19,7 +18,7 @@ use Rattle.rules.specs.Limits.{fileLimit, termLimit, rowWidth, stateBytes}
 use Rattle.rules.specs.File.{File, parts, holdsKey}
 use Rattle.rules.specs.Load.{Load, load, loaded, refused}
 use Rattle.rules.specs.State.{start, taught}
-use Rattle.rules.specs.Lent.{Answer, success, refusal, loadInNumbers, rows, firstPart, loadAnswered, loadAnswer, loadWritten, loadLeaves}
+use Rattle.rules.specs.Lent.{success, refusal, loadInNumbers, rows, firstPart, loadAnswered, loadAnswer, loadWritten, loadLeaves}
 use Rattle.theorems.specs.Residency.{Inside, itself, inPart}
 use Rattle.theorems.proofs.Learning.{taught-only}
 use Rattle.theorems.proofs.Loading.{Checked, checked}
@@ -28,7 +27,6 @@ use Rattle.state.specs.View.{view}
 use Rattle.state.proofs.Exact.{stateOf, ZeroAt, whole, rows-length, rows-same}
 use Rattle.loader.specs.declared.Tally.{Tally}
 use Rattle.loader.specs.Describes.{Describes}
-use Rattle.loader.proofs.Bounds.{refusal-not-0}
 use Rattle.loader.proofs.Entering.{learnt-declared}
 
 pub never-true : (b : Bool) → (b ≡ true → ⊥) → b ≡ false
@@ -154,17 +152,3 @@ too-long bytes h = rw (lt-leb (length bytes) fileLimit h) refl
 
 pub long-answer : (bytes old : List ℕ) → stateBytes ≤ length old → fileLimit < length bytes → loadInNumbers (Refused 2 0) ≡ loadAnswer bytes old
 long-answer bytes old r h = refused-answer bytes old 2 0 (too-long bytes h) r
-
--- an answer that is a refusal is not 0
-answered-not-0 : (bytes : List ℕ) (l : Load) → load bytes ≡ l → (n at : ℕ) → refusal n at ≡ loadAnswered l → 0 < n
-unfolding loadAnswered
-answered-not-0 bytes (loaded f) e n at q = absurd (let z : _≡_ {A = ℕ} 1 3 = ap (λ (x : Answer). length (x .values)) q in omega arith)
-answered-not-0 bytes (refused m place) e n at q = let z : n ≡ m = ap (λ (x : Answer). x .number) q in omega (arith, refusal-not-0 bytes m place e)
-
-pub refused-not-0 : (bytes old : List ℕ) (n at : ℕ) → loadInNumbers (Refused n at) ≡ loadAnswer bytes old → 0 < n
-unfolding loadInNumbers loadAnswer
-refused-not-0 bytes old n at q = go (leb stateBytes (length old)) q
-  where
-    go : (b : Bool) → refusal n at ≡ cond b (loadAnswered (load bytes)) (refusal 1 0) → 0 < n
-    go true e = answered-not-0 bytes (load bytes) refl n at e
-    go false e = let z : n ≡ 1 = ap (λ (x : Answer). x .number) e in omega arith

@@ -44,12 +44,12 @@ second-fails false b e = refl
 answered-ran : (n : ℕ) (l : Load) (a r i : ℕ) → success (a ∷ r ∷ i ∷ []) ≡ answered n l → (f : File) × (l ≡ loaded f) × (i ≡ issued f n)
 unfolding answered
 answered-ran n (loaded f) a r i e = (f, refl, ap (λ (x : Answer). getD (x .values) 2 0) e)
-answered-ran n (refused number place) a r i e = absurd (let z : _≡_ {A = ℕ} 3 1 = ap (λ (x : Answer). length (x .values)) e in omega arith)
+answered-ran n (refused number place) a r i e = absurd (let z : _≡_ {A = ℕ} 3 0 = ap (λ (x : Answer). length (x .values)) e in omega arith)
 
 -- and a refused one of a file that does not
 answered-refused : (n t : ℕ) (l : Load) (number place : ℕ) → refusal number place ≡ answered n l → (refusal number place ≡ pathAnswered n t l) × ((list : List ℕ) → list ≡ pathListed n t list l)
 unfolding answered pathAnswered pathListed
-answered-refused n t (loaded f) number place e = absurd (let z : _≡_ {A = ℕ} 1 3 = ap (λ (x : Answer). length (x .values)) e in omega arith)
+answered-refused n t (loaded f) number place e = absurd (let z : _≡_ {A = ℕ} 0 3 = ap (λ (x : Answer). length (x .values)) e in omega arith)
 answered-refused n t (refused m at) number place e = (e, λ list. refl)
 
 module _ (bs : List ℕ) (n : ℕ) (lent : Lent) (t : ℕ) (list : List ℕ) where
@@ -118,7 +118,7 @@ module _ (bs : List ℕ) (n : ℕ) (lent : Lent) (t : ℕ) (list : List ℕ) whe
       ran-by : (b : Bool) → longEnough lent ≡ b → success (a ∷ r ∷ i ∷ []) ≡ cond b (answered n (load bs)) (refusal 1 0)
           → (f : File) × (load bs ≡ loaded f) × (i ≡ issued f n) × (longEnough lent ≡ true)
       ran-by true e z = let (f, l, k) = answered-ran n (load bs) a r i z in (f, l, k, e)
-      ran-by false e z = absurd (let y : _≡_ {A = ℕ} 3 1 = ap (λ (x : Answer). length (x .values)) z in omega arith)
+      ran-by false e z = absurd (let y : _≡_ {A = ℕ} 3 0 = ap (λ (x : Answer). length (x .values)) z in omega arith)
 
       of-file : (f : File) × (load bs ≡ loaded f) × (i ≡ issued f n) × (longEnough lent ≡ true)
       unfolding runInNumbers
@@ -128,7 +128,7 @@ module _ (bs : List ℕ) (n : ℕ) (lent : Lent) (t : ℕ) (list : List ℕ) whe
       fits : (f : File) → load bs ≡ loaded f → (b : Bool) → leb (length bs) fileLimit ≡ b → b ≡ true
       unfolding answered
       fits f l true e = refl
-      fits f l false e = absurd (let z : _≡_ {A = ℕ} 1 3 = ap (λ (x : Load). length (answered n x .values)) (sym (too-long bs (leb-false (length bs) fileLimit e)) ∙ l) in omega arith)
+      fits f l false e = absurd (let z : _≡_ {A = ℕ} 0 3 = ap (λ (x : Load). length (answered n x .values)) (sym (too-long bs (leb-false (length bs) fileLimit e)) ∙ l) in omega arith)
 
       ledger-is : (f : File) → load bs ≡ loaded f → i ≡ issued f n → longEnough lent ≡ true → Enters tables w i (reached f n .ledger)
       unfolding gained entriesAfter issued

@@ -17,16 +17,17 @@ use Rattle.rules.specs.Load.{Load, loaded, refused, load as loadFile}
 use Rattle.rules.specs.State.{State, start, listed, depthOf, parentOf}
 use Rattle.rules.specs.Run.{reached, outcomesOf, accepted, refusals, issued}
 
--- An answer in numbers: 0 and its values, or a refusal and its place.
+-- An answer in numbers: its number and place, both 0 where it is no refusal, and its values, none where it is one.
 pub record Answer : Type 0 where
   pub number : ℕ
+  pub place : ℕ
   pub values : List ℕ
 
 abbrev pub success : List ℕ → Answer
-success values = record { number = 0; values = values }
+success values = record { number = 0; place = 0; values = values }
 
 abbrev pub refusal : ℕ → ℕ → Answer
-refusal number place = record { number = number; values = place ∷ [] }
+refusal number place = record { number = number; place = place; values = [] }
 
 -- What each answer of the code is in numbers. Of loading: parties, terms, commands; of a run: accepted, refused, issued; of a path: its steps.
 unfoldable pub loadInNumbers : LoadAnswer → Answer

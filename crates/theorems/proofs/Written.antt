@@ -66,12 +66,12 @@ answered-ran : (n : ℕ) (l : Load) (a r i : ℕ) → answered n l ≡ success (
 unfolding answered
 answered-ran n (loaded f) a r i e = (f, refl, ap (λ (x : Answer). getD (x .values) 2 0) (sym e))
 answered-ran n (refused number place) a r i e =
-    absurd (let z : _≡_ {A = ℕ} 1 3 = ap (λ (x : Answer). length (x .values)) e in omega arith)
+    absurd (let z : _≡_ {A = ℕ} 0 3 = ap (λ (x : Answer). length (x .values)) e in omega arith)
 
 long-ran : (b : Bool) (x : Answer) (a r i : ℕ) → cond b x (refusal 1 0) ≡ success (a ∷ r ∷ i ∷ []) → (b ≡ true) × (x ≡ success (a ∷ r ∷ i ∷ []))
 long-ran true x a r i e = (refl, e)
 long-ran false x a r i e =
-    absurd (let z : _≡_ {A = ℕ} 1 3 = ap (λ (y : Answer). length (y .values)) e in omega arith)
+    absurd (let z : _≡_ {A = ℕ} 0 3 = ap (λ (y : Answer). length (y .values)) e in omega arith)
 
 -- a file that loads is not too long
 loaded-fits : (bytes : List ℕ) (f : File) → load bytes ≡ loaded f → leb (length bytes) fileLimit ≡ true

@@ -1,14 +1,10 @@
 -- `birdweekly::birdweekly_load` meets its contract: the loader's answer, as numbers. Assumes nothing.
-use mathlib.Core.Path.{_≡_, refl, sym, ap, _∙_}
+use mathlib.Core.Path.{_≡_, sym, ap, _∙_}
 use borrow.Author.Needs.{needs}
-use Prim.Native.Nat.{ℕ, _<_}
-use native.Mathlib.Omega.{arith}
-use borrow.Author.Tests.{ne-eqb}
+use Prim.Native.Nat.{ℕ}
 use Rattle.rules.specs.declared.LoadAnswer.{LoadAnswer}
 use Rattle.rules.specs.declared.LoadAnswer.the-variants.{Loaded, Refused}
 use Rattle.rules.specs.Lent.{Answer, loadInNumbers}
-use Rattle.loader.proofs.Final.{refused-not-0}
-use Rattle.birdweekly.specs.declared.LoadNumbers.{LoadNumbers}
 use Rattle.birdweekly.specs.Numbers.{loadNumbers}
 use Rattle.birdweekly.proofs.birdweekly_load.Statement.{statement}
 use Rattle.birdweekly.proofs.birdweekly_load.Tie as tie
@@ -18,9 +14,9 @@ loaded-numbers : {x : LoadAnswer} {a : Answer} (p t c : ℕ) → loadInNumbers x
 unfolding loadInNumbers
 loaded-numbers p t c e q = ap (λ (y : LoadAnswer). loadNumbers (loadInNumbers y)) (sym q) ∙ ap loadNumbers e
 
-refused-numbers : {x : LoadAnswer} {a : Answer} (n at : ℕ) → loadInNumbers x ≡ a → x ≡ Refused n at → 0 < n → record { number = n; place = at; parties = 0; terms = 0; commands = 0 } ≡ loadNumbers a
+refused-numbers : {x : LoadAnswer} {a : Answer} (n at : ℕ) → loadInNumbers x ≡ a → x ≡ Refused n at → record { number = n; place = at; parties = 0; terms = 0; commands = 0 } ≡ loadNumbers a
 unfolding loadInNumbers
-refused-numbers n at e q z = rw (ne-eqb n 0 (λ w. omega arith)) refl ∙ ap (λ (y : LoadAnswer). loadNumbers (loadInNumbers y)) (sym q) ∙ ap loadNumbers e
+refused-numbers n at e q = ap (λ (y : LoadAnswer). loadNumbers (loadInNumbers y)) (sym q) ∙ ap loadNumbers e
 
 load-requires : tie.Need-load-requires
 load-requires c κs = search needs
@@ -45,8 +41,7 @@ same-length-2 c = search needs
 returns-2 : tie.Need-returns-2
 returns-2 c =
     let l = c .before .before .before .before .before .load .ensures in
-    let q = c .before .answer2 .given .1 in
-    (refused-numbers _ _ (l .0) q (refused-not-0 _ _ _ _ (ap loadInNumbers (sym q) ∙ l .0)), l .1)
+    (refused-numbers _ _ (l .0) (c .before .answer2 .given .1), l .1)
 
 pub birdweekly-load-spec : {M : Type 1} → statement M
 birdweekly-load-spec =

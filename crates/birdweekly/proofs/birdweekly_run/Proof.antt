@@ -1,6 +1,6 @@
 -- `birdweekly::birdweekly_run` meets its contract: a walk of its MIR, by hand, with no branch and no loop. Every parameter goes on to `running::run`, and its answer to `run_numbers`.
 -- Assumes nothing.
-use mathlib.Core.Path.{_≡_, refl, _∙_}
+use mathlib.Core.Path.{_≡_, refl, ap, _∙_}
 use Prim.Native.Nat.{ℕ, _<_, _^_}
 use mathlib.Core.List.{[], _∷_, List}
 use lib.ListN.{length}
@@ -41,8 +41,7 @@ use Rattle.rules.specs.declared.Entry.{Entry}
 use Rattle.rules.specs.declared.RunAnswer.{RunAnswer as Answer}
 use Rattle.rules.specs.Lent.{Lent, runInNumbers, runAnswer, runLeaves}
 use Rattle.engine.specs.Runs.{lentWith}
-use Rattle.birdweekly.specs.Numbers.{ofRun}
-use Rattle.birdweekly.proofs.Numbers.{run-numbers}
+use Rattle.birdweekly.specs.Numbers.{runNumbers}
 use Rattle.birdweekly.specs.declared.RunNumbers.{RunNumbers as Struct}
 use Rattle.rules.proofs.Entry as E
 use Rattle.rules.proofs.RunAnswer as N
@@ -115,12 +114,12 @@ module _ {M : Type 1} (𝓤 : URA M) (H : Heap 𝓤) (A : Atoms 𝓤) (W : Given
   abbrev Done : Answer → List ℕ → List Entry → List ℕ → Type 0
   Done r zs zl zo = (runInNumbers r ≡ runAnswer (xf .now) nn lent) × (zs ≡ runLeaves (xf .now) nn lent .state) × (zl ≡ runLeaves (xf .now) nn lent .ledger) × (zo ≡ runLeaves (xf .now) nn lent .outcomes)
 
-  exits : (r : Answer) (m : Struct) (v : Val) (zs : List ℕ) (zl : List Entry) (zo : List ℕ) → Done r zs zl zo → m ≡ ofRun r → length zs ≡ length (xs .now) → length zl ≡ length (xl .now) → length zo ≡ length (xo .now)
+  exits : (r : Answer) (m : Struct) (v : Val) (zs : List ℕ) (zl : List Entry) (zo : List ℕ) → Done r zs zl zo → m ≡ runNumbers (runInNumbers r) → length zs ≡ length (xs .now) → length zl ≡ length (xl .now) → length zo ≡ length (xo .now)
       → ent 𝓤 (⋆ 𝓤 H A ((‵ (flft κf qf) ⊛ ‵ (flft κs qs) ⊛ ‵ (flft κl ql) ⊛ ‵ (flft κo qo) ⊛ ‵ ftrue) ∷ ‵ File ∷ ‵ (finally u8 (xs .name) zs) ∷ ‵ (finally R (xl .name) zl) ∷ ‵ (finally u8 (xo .name) zo) ∷ ‵ (S.the-row .own m (v ∷ [])) ∷ [])) (Post v)
   exits r m v zs zl zo ok said lens lenl leno =
       qed W ((‵ (flft κf qf) ⊛ ‵ (flft κs qs) ⊛ ‵ (flft κl ql) ⊛ ‵ (flft κo qo) ⊛ ‵ ftrue) ∷ ‵ File ∷ ‵ (finally u8 (xs .name) zs) ∷ ‵ (finally R (xl .name) zl) ∷ ‵ (finally u8 (xo .name) zo) ∷ ‵ (S.the-row .own m (v ∷ [])) ∷ []) ∵
       suffices ! _ (ends-at 𝓤 H A outer.ended stayed (outer.clauses 𝓤 H A mem run) W y v m (tt, (tt, (zs, (zl, (zo, tt))))) (tt, (tt, (lens, (lenl, (leno, tt)))))) $
-      says ! (said ∙ run-numbers (xf .now) nn lent r (ok .0), ok .1, ok .2, ok .3) $
+      says ! (said ∙ ap runNumbers (ok .0), ok .1, ok .2, ok .3) $
       frame ! $
       nothing ! $
       move ! (4 ∷ 0 ∷ []) $
@@ -240,10 +239,10 @@ module _ {M : Type 1} (𝓤 : URA M) (H : Heap 𝓤) (A : Atoms 𝓤) (W : Given
         use1 W (later (some (λ (m : Struct). (‵ ftrue ⊛ ‵ (S.the-row .own m (w₁ ∷ []))) ⊛ raw (ensured 𝓤 H A numbers.ended (numbers.clauses 𝓤 H A mem run) tt (r, tt) tt m)))) (id⊢ 𝓤 _) $ await ! tt $ pick ! (λ m.
         split ! $
         move ! (1 ∷ []) $
-        use1 W (some (λ (us : Unit {0} × Unit {0}). ‵ (lasts numbers.ended tt (r, tt) us) ⊛ raw (fact 𝓤 (m ≡ ofRun r)))) (id⊢ 𝓤 _) $ pick ! (λ us.
+        use1 W (some (λ (us : Unit {0} × Unit {0}). ‵ (lasts numbers.ended tt (r, tt) us) ⊛ raw (fact 𝓤 (m ≡ runNumbers (runInNumbers r))))) (id⊢ 𝓤 _) $ pick ! (λ us.
         split ! $
         move ! (1 ∷ []) $
-        heard ! (m ≡ ofRun r) (λ said.
+        heard ! (m ≡ runNumbers (runInNumbers r)) (λ said.
         drop ! $
         split ! $
         move ! (1 ∷ []) $
