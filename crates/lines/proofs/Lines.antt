@@ -1,7 +1,7 @@
--- The listing by the answer of a run of all commands.
---     long-enough       buffers of the lengths that a run needs
---     answer-listable   what such a run answers and leaves can be listed
---     answer-listed     and is listed as the rules say
+-- The listing by the answer of a run.
+--     long-enough         buffers of the lengths that a run needs
+--     answer-listable     what a run leaves can be listed
+--     answer-listed       what a run of all commands leaves is listed as the rules say
 -- Assumes nothing.
 use mathlib.Core.Path.{_≡_, refl, sym, ap, subst, _∙_}
 use mathlib.Core.Bool.{true}
@@ -37,6 +37,24 @@ pub long-enough : (s out : List ℕ) (l : List Entry) → length s ≡ stateByte
 long-enough s out l es el eo =
     enough-is s out l (length l) refl
     ∙ rw (le-leb stateBytes (length s) (omega (arith, es)), le-leb termLimit (length l) (omega (arith, el)), le-leb commandLimit (length out) (omega (arith, eo))) refl
+
+-- what a run leaves can be listed
+module _ (bs : List ℕ) (n : ℕ) (lent : Lent) where
+  listable-by : (y : RunAnswer) (s tables out w text : List ℕ) → runInNumbers y ≡ runAnswer bs n lent → Left bs s tables w y → commandLimit ≤ length out → listingBytes ≤ length text → AnswerListable y out text
+  listable-by (ran.Ran a r i) s tables out w text q stands places room =
+      let ((f, l, ea, er, ei), e) = ran-loaded bs n lent a r i q in
+      let h = few-counted bs f l (loaded-short bs f l) n in
+      record {
+        recorded = omega (arith, h, ea, er, places);
+        fewCommands = omega (arith, h, ea, er);
+        fewEntries = stands a r i refl .enters .few;
+        room = room;
+      }
+  listable-by (ran.Refused number place) s tables out w text q stands places room = room
+
+  pub answer-listable : {s′ out w : List ℕ} {r : Answered} → Ran bs n lent s′ out w r → (s tables text : List ℕ) → Left bs s tables w (r .answer) → commandLimit ≤ length out → listingBytes ≤ length text
+      → AnswerListable (r .answer) out text
+  answer-listable {s′} {out} {w} {r} x s tables text stands places room = listable-by (r .answer) s tables out w text (x .answer) stands places room
 
 -- the lines of a file that loads, by any run of all its commands
 lines-of : (f : File) (n : ℕ) → firstCommands f n ≡ firstCommands f (length (f .commands))
@@ -88,22 +106,7 @@ module _ (bs : List ℕ) (lent : Lent) where
   answer-by (ran.Ran a r i) out w e q same left before after k h = subst (λ (t : List ℕ). Listed t before after k) (ran-listed same left a r i q) h
   answer-by (ran.Refused number place) out w e q same left before after k h = subst (λ (t : List ℕ). Listed t before after k) (refused-listed e number place q) h
 
-  listable-by : (y : RunAnswer) (s tables out w text : List ℕ) → runInNumbers y ≡ runAnswer bs n lent → Left bs s tables w y → commandLimit ≤ length out → listingBytes ≤ length text → AnswerListable y out text
-  listable-by (ran.Ran a r i) s tables out w text q stands places room =
-      let ((f, l, ea, er, ei), e) = ran-loaded bs n lent a r i q in
-      let h = few-counted bs f l (loaded-short bs f l) n in
-      record {
-        recorded = omega (arith, h, ea, er, places);
-        fewCommands = omega (arith, h, ea, er);
-        fewEntries = stands a r i refl .enters .few;
-        room = room;
-      }
-  listable-by (ran.Refused number place) s tables out w text q stands places room = room
-
-  -- what a run of all commands answers and leaves can be listed, and is listed as the rules say
+  -- what a run of all commands leaves is listed as the rules say
   module _ {s′ out w : List ℕ} {r : Answered} (x : Ran bs n lent s′ out w r) where
-    pub answer-listable : (s tables text : List ℕ) → Left bs s tables w (r .answer) → commandLimit ≤ length out → listingBytes ≤ length text → AnswerListable (r .answer) out text
-    answer-listable s tables text stands places room = listable-by (r .answer) s tables out w text (x .answer) stands places room
-
     pub answer-listed : longEnough lent ≡ true → (before after : List ℕ) (k : ℕ) → AnswerListed (r .answer) out w before after k → Listed (listing bs) before after k
     answer-listed e before after k h = answer-by (r .answer) out w e (x .answer) (x .words) (x .outcomes) before after k h

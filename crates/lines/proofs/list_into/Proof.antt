@@ -36,7 +36,7 @@ list-answer-requires c κs =
     let a = c .before .before .before .before .before .before .before .before .before .before .before .before .args in
     let u = c .before .before .before .before .before .run in
     let places : commandLimit ≤ length (u .last .1 .1 .1 .1 .0) = search needs in
-    answer-listable (now (a .file)) (lentWith _ ledger _) (u .ensures .0 ledger ledger-long) _ _ _ (u .ensures .1) places (c .before .before .before .before .before .before .before .before .before .before .before .before .pre)
+    answer-listable (now (a .file)) _ (lentWith _ ledger _) (u .ensures .0 ledger ledger-long) _ _ _ (u .ensures .1) places (c .before .before .before .before .before .before .before .before .before .before .before .before .pre)
 
 same-length : tie.Need-same-length
 same-length c = search needs
