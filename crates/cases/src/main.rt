@@ -18,19 +18,21 @@ fn is_cut(name: &[u8]) -> bool {
     name[3] == b'_'
 }
 
-// Lists a whole file: its name and its line.
+// Lists a whole file: a line with its name, then its listing.
 fn list_whole(name: &[u8], file: &[u8]) {
+    io::write_all(STDOUT_FILENO, b"# ");
     io::write_all(STDOUT_FILENO, name);
-    io::write_all(STDOUT_FILENO, b": ");
+    io::write_all(STDOUT_FILENO, b"\n");
     lines::list(file);
 }
 
-// Lists the first bytes of a file: its name, how many they are and their line.
+// Lists the first bytes of a file: a line with its name and how many they are, then their listing.
 fn list_part(name: &[u8], part: &[u8]) {
+    io::write_all(STDOUT_FILENO, b"# ");
     io::write_all(STDOUT_FILENO, name);
     io::write_all(STDOUT_FILENO, b" ");
     io::print_decimal(STDOUT_FILENO, part.len() as u64);
-    io::write_all(STDOUT_FILENO, b": ");
+    io::write_all(STDOUT_FILENO, b"\n");
     lines::list(part);
 }
 

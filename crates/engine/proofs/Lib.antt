@@ -2,3 +2,4 @@ pub mod Turns
 pub mod Started
 pub mod Ended
 pub mod Written
+pub mod Answers

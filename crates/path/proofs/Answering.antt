@@ -5,34 +5,32 @@
 --     path-ran       what a run and the path by its ledger leave is what the rules say
 -- Assumes nothing.
 use mathlib.Core.Path.{_≡_, refl, sym, ap, subst, _∙_}
-use mathlib.Core.Bool.{Bool, true, false, cond, _&&_, and-true}
-use mathlib.Core.List.{List, [], _∷_}
+use mathlib.Core.Bool.{Bool, true, false, cond, _&&_}
+use mathlib.Core.List.{List}
 use Prim.Native.Nat.{ℕ, _<_, _≤_}
 use native.Mathlib.Omega.{arith}
 use lib.Dec.{leb}
-use lib.ListN.{length, getD, replicate}
-use borrow.Author.Tests.{le-leb, lt-leb, leb-false}
+use lib.ListN.{length, replicate}
+use borrow.Author.Tests.{le-leb, lt-leb}
 use Rattle.rules.specs.declared.Entry.{Entry}
 use Rattle.rules.specs.declared.RunAnswer.{RunAnswer}
 use Rattle.rules.specs.declared.RunAnswer.the-variants as ran
 use Rattle.rules.specs.declared.PathAnswer.{PathAnswer}
 use Rattle.rules.specs.declared.PathAnswer.the-variants as path
-use Rattle.rules.specs.Limits.{fileLimit, depthLimit, pathPlaces}
+use Rattle.rules.specs.Limits.{pathPlaces}
 use Rattle.rules.specs.File.{File}
-use Rattle.rules.specs.Load.{Load, loaded, refused, load}
-use Rattle.rules.specs.State.{listed, depthOf}
+use Rattle.rules.specs.Load.{loaded, refused, load}
 use Rattle.rules.specs.Run.{reached, issued}
-use Rattle.rules.specs.Lent.{Answer, success, refusal, runInNumbers, pathInNumbers, Lent, longEnough, answered, runAnswer, runLeaves, found, pathAnswered, pathAnswer, pathBuffers, pathWritten, pathListed, pathLeaves}
+use Rattle.rules.specs.Lent.{refusal, runInNumbers, pathInNumbers, Lent, longEnough, answered, runAnswer, runLeaves, found, pathAnswered, pathAnswer, pathBuffers, pathWritten, pathListed, pathLeaves}
 use Rattle.theorems.proofs.Ledgers.{listed-found}
 use Rattle.entries.specs.Words.{ledgerWords, entriesIn, ledgerOf}
-use Rattle.entries.proofs.Read.{entries-ledger}
 use Rattle.loaded.specs.Entries.{Enters}
 use Rattle.commands.specs.Standing.{Stands}
 use Rattle.engine.specs.declared.Answered.{Answered}
-use Rattle.engine.specs.Runs.{writes, entriesAfter, gained, placesOf, Left, Ran}
+use Rattle.engine.specs.Runs.{gained, Left, Ran}
 use Rattle.engine.proofs.Ended.{ledger-none}
-use Rattle.engine.proofs.Written.{too-long}
-use Rattle.path.specs.Finding.{Findable, foundIn, listedIn}
+use Rattle.engine.proofs.Answers.{answered-refusal, run-by, ran-loaded, ledger-read}
+use Rattle.path.specs.Finding.{foundIn, listedIn}
 use Rattle.path.specs.Paths.{Askable, Answers, PathRan}
 
 -- a test that fails, behind another
@@ -40,17 +38,10 @@ second-fails : (a b : Bool) → b ≡ false → a && b ≡ false
 second-fails true b e = e
 second-fails false b e = refl
 
--- a run that is not refused is of a file that loads
-answered-ran : (n : ℕ) (l : Load) (a r i : ℕ) → success (a ∷ r ∷ i ∷ []) ≡ answered n l → (f : File) × (l ≡ loaded f) × (i ≡ issued f n)
-unfolding answered
-answered-ran n (loaded f) a r i e = (f, refl, ap (λ (x : Answer). getD (x .values) 2 0) e)
-answered-ran n (refused number place) a r i e = absurd (let z : _≡_ {A = ℕ} 3 0 = ap (λ (x : Answer). length (x .values)) e in omega arith)
-
--- and a refused one of a file that does not
-answered-refused : (n t : ℕ) (l : Load) (number place : ℕ) → refusal number place ≡ answered n l → (refusal number place ≡ pathAnswered n t l) × ((list : List ℕ) → list ≡ pathListed n t list l)
-unfolding answered pathAnswered pathListed
-answered-refused n t (loaded f) number place e = absurd (let z : _≡_ {A = ℕ} 0 3 = ap (λ (x : Answer). length (x .values)) e in omega arith)
-answered-refused n t (refused m at) number place e = (e, λ list. refl)
+-- a refusal of loading is Path's
+refused-is : (n t number place : ℕ) (list : List ℕ) → (refusal number place ≡ pathAnswered n t (refused number place)) × (list ≡ pathListed n t list (refused number place))
+unfolding pathAnswered pathListed
+refused-is n t number place list = (refl, refl)
 
 module _ (bs : List ℕ) (n : ℕ) (lent : Lent) (t : ℕ) (list : List ℕ) where
   -- too short a list
@@ -97,52 +88,30 @@ module _ (bs : List ℕ) (n : ℕ) (lent : Lent) (t : ℕ) (list : List ℕ) whe
     list-by true e = rw (e, long-is) refl
     list-by false e = rw e refl
 
-    run-by : (b : Bool) → longEnough lent ≡ b → runAnswer bs n lent ≡ cond b (answered n (load bs)) (refusal 1 0)
-    unfolding runAnswer
-    run-by b e = rw e refl
-
     -- the run's refusal is Path's
     refused-by : (b : Bool) → longEnough lent ≡ b → (number place : ℕ) → refusal number place ≡ cond b (answered n (load bs)) (refusal 1 0)
         → (refusal number place ≡ pathAnswer bs n lent t list) × (list ≡ pathLeaves bs n lent t list)
     refused-by true e number place q =
-        let w = answered-refused n t (load bs) number place q in
-        (w .0 ∙ sym (answer-by true e), w .1 list ∙ sym (list-by true e))
+        let l = answered-refusal n (load bs) number place q in
+        let w = refused-is n t number place list in
+        (w .0 ∙ sym (answer-by true e ∙ ap (pathAnswered n t) l), w .1 ∙ sym (list-by true e ∙ ap (pathListed n t list) l))
     refused-by false e number place q = (q ∙ sym (answer-by false e), sym (list-by false e))
 
     refused-path : (number place : ℕ) → runInNumbers (ran.Refused number place) ≡ runAnswer bs n lent → (refusal number place ≡ pathAnswer bs n lent t list) × (list ≡ pathLeaves bs n lent t list)
     unfolding runInNumbers
-    refused-path number place q = refused-by (longEnough lent) refl number place (q ∙ run-by (longEnough lent) refl)
+    refused-path number place q = refused-by (longEnough lent) refl number place (q ∙ run-by bs n lent (longEnough lent) refl)
 
     -- the ledger of a run
     module _ (tables w s : List ℕ) (a r i : ℕ) (q : runInNumbers (ran.Ran a r i) ≡ runAnswer bs n lent) (same : w ≡ ledgerOf (gained bs n lent)) (stands : Stands bs s tables w i) where
-      ran-by : (b : Bool) → longEnough lent ≡ b → success (a ∷ r ∷ i ∷ []) ≡ cond b (answered n (load bs)) (refusal 1 0)
-          → (f : File) × (load bs ≡ loaded f) × (i ≡ issued f n) × (longEnough lent ≡ true)
-      ran-by true e z = let (f, l, k) = answered-ran n (load bs) a r i z in (f, l, k, e)
-      ran-by false e z = absurd (let y : _≡_ {A = ℕ} 3 0 = ap (λ (x : Answer). length (x .values)) z in omega arith)
-
-      of-file : (f : File) × (load bs ≡ loaded f) × (i ≡ issued f n) × (longEnough lent ≡ true)
-      unfolding runInNumbers
-      of-file = ran-by (longEnough lent) refl (q ∙ run-by (longEnough lent) refl)
-
-      -- a file that loads is not too long
-      fits : (f : File) → load bs ≡ loaded f → (b : Bool) → leb (length bs) fileLimit ≡ b → b ≡ true
-      unfolding answered
-      fits f l true e = refl
-      fits f l false e = absurd (let z : _≡_ {A = ℕ} 0 3 = ap (λ (x : Load). length (answered n x .values)) (sym (too-long bs (leb-false (length bs) fileLimit e)) ∙ l) in omega arith)
-
       ledger-is : (f : File) → load bs ≡ loaded f → i ≡ issued f n → longEnough lent ≡ true → Enters tables w i (reached f n .ledger)
-      unfolding gained entriesAfter issued
-      ledger-is f l k e =
-          let g : w ≡ ledgerOf (reached f n .ledger) = rw (e, fits f l (leb (length bs) fileLimit) refl, l) at same in
-          let d : entriesIn w i ≡ reached f n .ledger = ap (λ (x : List ℕ). entriesIn x i) g ∙ ap (entriesIn (ledgerOf (reached f n .ledger))) k ∙ entries-ledger (reached f n .ledger) in
-          subst (Enters tables w i) d (stands .enters)
+      ledger-is f l k e = subst (Enters tables w i) (ledger-read bs n lent f l e same k) (stands .enters)
 
       -- Path finds it there
       ran-path : {list′ : List ℕ} (x : PathAnswer) → ((m : ℕ) (ledger : List Entry) → Enters tables w m ledger → (pathInNumbers x ≡ foundIn ledger t) × (list′ ≡ listedIn ledger t list))
           → (pathInNumbers x ≡ pathAnswer bs n lent t list) × (list′ ≡ pathLeaves bs n lent t list)
       unfolding pathAnswered found pathListed pathWritten
       ran-path x h =
-          let (f, l, k, e) = of-file in
+          let ((f, l, _, _, k), e) = ran-loaded bs n lent a r i q in
           let d = h i (reached f n .ledger) (ledger-is f l k e) in
           (d .0 ∙ sym (answer-by true e ∙ ap (pathAnswered n t) l), d .1 ∙ sym (list-by true e ∙ ap (pathListed n t list) l))
 
