@@ -1,27 +1,285 @@
-//! Safe calls of Birdweekly's static library (`rt staticlib birdweekly`).
+//! Birdweekly for Rust: safe calls of the proved engine (`rt staticlib birdweekly`).
+//!
+//! The engine takes a scenario file, a factory's enrolment procedure as symbolic commands, and says which commands a
+//! certificate desk accepts, which certificates come out and how each leads back to an endorsement key.
+//!
+//! [`load`], [`run`] and [`path`] take any bytes and lent buffers of any length: the answer is a result or one refusal
+//! with its number and place, and every byte of every buffer is fixed in each case. [`Buffers`] owns buffers of the
+//! right sizes, and reads them:
+//!
+//! ```
+//! use birdweekly::{Buffers, RunAnswer};
+//!
+//! // The paper's example: a key is hashed, and a signature refused, since the TPM does not hold the key.
+//! let file = [
+//!     0x01, 0x00, 0x10, 0x00, 0x05, 0x0B, 0x11, 0x00, 0x05, 0x0B, 0x12, 0x00, 0x00, 0x13, 0x00, 0x02, 0x00, 0x01, 0x20,
+//!     0x00, 0x00, 0x00, 0x30, 0x00, 0x00, 0x02, 0x31, 0x00, 0x00, 0x03,
+//! ];
+//! let mut buffers = Buffers::new();
+//! assert_eq!(buffers.run_all(&file), RunAnswer::Ran { accepted: 1, refused: 1, issued: 0 });
+//! assert_eq!(buffers.outcomes(), [0, 15]);
+//! assert_eq!(buffers.ledger().count(), 0);
+//! assert!(buffers.knows(0, 2));
+//! ```
+//!
+//! Calls share nothing: they may run on as many threads as there are, each with buffers of its own. Nothing is
+//! allocated but by `Buffers::new`, and no call panics.
 
-/// Number 0 with the parties, terms and commands of the file, or the refusal with its place.
+use std::error::Error;
+use std::fmt;
+
+/// The longest scenario file.
+pub const FILE_BYTES: usize = 32_768;
+/// State bytes that are written: 8 a term.
+pub const STATE_BYTES: usize = 8_192;
+/// Ledger entries that are written.
+pub const LEDGER_ENTRIES: usize = 1_024;
+/// Outcome bytes that are written: one a command.
+pub const OUTCOME_BYTES: usize = 8_192;
+/// Places that a path may need, and that [`path`] asks for.
+pub const PATH_PLACES: usize = 9;
+
+/// An issued certificate, its parent and its depth: how many steps lead to an endorsement certificate.
 #[repr(C)]
-#[derive(Debug, Clone, Copy, PartialEq, Eq)]
-pub struct LoadNumbers {
-    pub number: u32,
-    pub place: u32,
-    pub parties: u32,
-    pub terms: u32,
-    pub commands: u32,
+#[derive(Debug, Clone, Copy, Default, PartialEq, Eq)]
+pub struct Entry {
+    pub certificate: u16,
+    pub parent: u16,
+    pub depth: u16,
 }
 
-pub const STATE_BYTES: usize = 8192;
+/// Why a call gave no result: 1 (a buffer is short), 2 (the file is too long), 3 to 12 (the file does not load), 30
+/// (no issued certificate); and the place of the record, or for 30 the term.
+#[derive(Debug, Clone, Copy, PartialEq, Eq)]
+pub struct Refusal {
+    pub number: u32,
+    pub place: u32,
+}
 
-mod raw {
-    use super::LoadNumbers;
-    extern "C" {
-        pub fn birdweekly_load(file: *const u8, file_len: usize, state: *mut u8, state_len: usize) -> LoadNumbers;
+impl fmt::Display for Refusal {
+    fn fmt(&self, f: &mut fmt::Formatter) -> fmt::Result {
+        write!(f, "refused with {} at {}", self.number, self.place)
     }
 }
 
-/// Loads a scenario file of any bytes into a lent state buffer of any length.
-pub fn load(file: &[u8], state: &mut [u8]) -> LoadNumbers {
-    // The borrows rule out overlap, and each pointer comes with its own length.
-    unsafe { raw::birdweekly_load(file.as_ptr(), file.len(), state.as_mut_ptr(), state.len()) }
+impl Error for Refusal {}
+
+#[derive(Debug, Clone, Copy, PartialEq, Eq)]
+pub enum LoadAnswer {
+    Loaded { parties: u32, terms: u32, commands: u32 },
+    Refused(Refusal),
+}
+
+#[derive(Debug, Clone, Copy, PartialEq, Eq)]
+pub enum RunAnswer {
+    /// Commands accepted and refused, and certificates issued.
+    Ran { accepted: u32, refused: u32, issued: u32 },
+    Refused(Refusal),
+}
+
+#[derive(Debug, Clone, Copy, PartialEq, Eq)]
+pub enum PathAnswer {
+    /// The depth of the certificate; one place more is written.
+    Steps(u32),
+    Refused(Refusal),
+}
+
+mod raw {
+    use super::Entry;
+
+    #[repr(C)]
+    pub struct LoadNumbers {
+        pub number: u32,
+        pub place: u32,
+        pub parties: u32,
+        pub terms: u32,
+        pub commands: u32,
+    }
+
+    #[repr(C)]
+    pub struct RunNumbers {
+        pub number: u32,
+        pub place: u32,
+        pub accepted: u32,
+        pub refused: u32,
+        pub issued: u32,
+    }
+
+    #[repr(C)]
+    pub struct PathNumbers {
+        pub number: u32,
+        pub place: u32,
+        pub steps: u32,
+    }
+
+    extern "C" {
+        pub fn birdweekly_load(file: *const u8, file_len: usize, state: *mut u8, state_len: usize) -> LoadNumbers;
+
+        pub fn birdweekly_run(
+            file: *const u8,
+            file_len: usize,
+            n: usize,
+            state: *mut u8,
+            state_len: usize,
+            ledger: *mut Entry,
+            ledger_len: usize,
+            outcomes: *mut u8,
+            outcomes_len: usize,
+        ) -> RunNumbers;
+
+        pub fn birdweekly_path(
+            file: *const u8,
+            file_len: usize,
+            n: usize,
+            state: *mut u8,
+            state_len: usize,
+            ledger: *mut Entry,
+            ledger_len: usize,
+            outcomes: *mut u8,
+            outcomes_len: usize,
+            term: u16,
+            list: *mut u16,
+            list_len: usize,
+        ) -> PathNumbers;
+    }
+}
+
+/// Loads a scenario file into a lent state buffer.
+pub fn load(file: &[u8], state: &mut [u8]) -> LoadAnswer {
+    // Safety, here and below: each pointer comes with its own length, and the borrows rule out overlap.
+    let n = unsafe { raw::birdweekly_load(file.as_ptr(), file.len(), state.as_mut_ptr(), state.len()) };
+    match n.number {
+        0 => LoadAnswer::Loaded { parties: n.parties, terms: n.terms, commands: n.commands },
+        number => LoadAnswer::Refused(Refusal { number, place: n.place }),
+    }
+}
+
+/// Loads a scenario file and executes its first `n` commands, or all if fewer.
+pub fn run(file: &[u8], n: usize, state: &mut [u8], ledger: &mut [Entry], outcomes: &mut [u8]) -> RunAnswer {
+    let n = unsafe {
+        raw::birdweekly_run(
+            file.as_ptr(),
+            file.len(),
+            n,
+            state.as_mut_ptr(),
+            state.len(),
+            ledger.as_mut_ptr(),
+            ledger.len(),
+            outcomes.as_mut_ptr(),
+            outcomes.len(),
+        )
+    };
+    match n.number {
+        0 => RunAnswer::Ran { accepted: n.accepted, refused: n.refused, issued: n.issued },
+        number => RunAnswer::Refused(Refusal { number, place: n.place }),
+    }
+}
+
+/// Runs as [`run`] does, and writes the path of an issued certificate into the list: the certificate, its parents and
+/// the endorsement certificate.
+pub fn path(
+    file: &[u8],
+    n: usize,
+    state: &mut [u8],
+    ledger: &mut [Entry],
+    outcomes: &mut [u8],
+    term: u16,
+    list: &mut [u16],
+) -> PathAnswer {
+    let n = unsafe {
+        raw::birdweekly_path(
+            file.as_ptr(),
+            file.len(),
+            n,
+            state.as_mut_ptr(),
+            state.len(),
+            ledger.as_mut_ptr(),
+            ledger.len(),
+            outcomes.as_mut_ptr(),
+            outcomes.len(),
+            term,
+            list.as_mut_ptr(),
+            list.len(),
+        )
+    };
+    match n.number {
+        0 => PathAnswer::Steps(n.steps),
+        number => PathAnswer::Refused(Refusal { number, place: n.place }),
+    }
+}
+
+/// Buffers of the right sizes, and what the last call left in them.
+pub struct Buffers {
+    state: Box<[u8]>,
+    ledger: Box<[Entry]>,
+    outcomes: Box<[u8]>,
+    commands: usize,
+    issued: usize,
+}
+
+impl Buffers {
+    pub fn new() -> Buffers {
+        Buffers {
+            state: vec![0; STATE_BYTES].into(),
+            ledger: vec![Entry::default(); LEDGER_ENTRIES].into(),
+            outcomes: vec![0; OUTCOME_BYTES].into(),
+            commands: 0,
+            issued: 0,
+        }
+    }
+
+    fn note(&mut self, answer: RunAnswer) -> RunAnswer {
+        (self.commands, self.issued) = match answer {
+            RunAnswer::Ran { accepted, refused, issued } => ((accepted + refused) as usize, issued as usize),
+            RunAnswer::Refused(_) => (0, 0),
+        };
+        answer
+    }
+
+    /// Runs the first `n` commands of a file, or all if fewer.
+    pub fn run(&mut self, file: &[u8], n: usize) -> RunAnswer {
+        let answer = run(file, n, &mut self.state, &mut self.ledger, &mut self.outcomes);
+        self.note(answer)
+    }
+
+    /// Runs all commands of a file.
+    pub fn run_all(&mut self, file: &[u8]) -> RunAnswer {
+        self.run(file, usize::MAX)
+    }
+
+    /// The path of a certificate that the last run issued, from it to its endorsement certificate; none for another term.
+    pub fn path(&self, term: u16) -> Option<impl Iterator<Item = u16> + '_> {
+        let first = self.ledger().find(|entry| entry.certificate == term)?;
+        let parent = |entry: &Entry| self.ledger().find(|other| other.certificate == entry.parent);
+        let issued = std::iter::successors(Some(first), parent);
+        let last = std::iter::successors(Some(first), parent).last()?.parent;
+        Some(issued.map(|entry| entry.certificate).chain([last]))
+    }
+
+    /// One byte a command that was executed: 0, or the refusal 13 to 29.
+    pub fn outcomes(&self) -> &[u8] {
+        &self.outcomes[..self.commands]
+    }
+
+    /// The certificates that were issued, in order.
+    pub fn ledger(&self) -> impl Iterator<Item = Entry> + '_ {
+        self.ledger[..self.issued].iter().copied()
+    }
+
+    /// The state, 8 bytes a term (document 01, "Run and Path").
+    pub fn state(&self) -> &[u8] {
+        &self.state
+    }
+
+    /// Whether a party knows a term.
+    pub fn knows(&self, party: u8, term: u16) -> bool {
+        let byte = self.state.get(8 * term as usize).copied().unwrap_or(0);
+        party < 8 && byte >> party & 1 == 1
+    }
+}
+
+impl Default for Buffers {
+    fn default() -> Buffers {
+        Buffers::new()
+    }
 }

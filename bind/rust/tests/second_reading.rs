@@ -1,170 +1,227 @@
-//! Loading beside the second reading of document 01 (`../../reading`): on any file and any buffer the same answer
-//! and the same bytes.
+//! Load, Run and Path beside the second reading of document 01 (`../../reading`, written from the paper alone): on any
+//! file, count and buffers the same answer, and the same in every lent place, guard places beyond the first parts too.
 //!
-//! 4,000 seeds (about 3 seconds), four files each, unless BIRDWEEKLY_SEEDS says how many:
+//! 1,500 seeds (some seconds), unless BIRDWEEKLY_SEEDS says how many; BIRDWEEKLY_FIRST the first of them:
 //!
 //!     BIRDWEEKLY_SEEDS=1000000 cargo test --offline --release --test second_reading -- --nocapture
 
-use birdweekly::{load, LoadNumbers, STATE_BYTES};
+use birdweekly::{
+    load, path, run, Entry, LoadAnswer, PathAnswer, Refusal, RunAnswer, LEDGER_ENTRIES, OUTCOME_BYTES, PATH_PLACES,
+    STATE_BYTES,
+};
 use worlds::Rng;
-use reading::LoadAnswer;
 
-const SEEDS: u64 = 4_000;
-
-/// None, one byte short, just enough, one more, many more.
-const LENGTHS: [usize; 5] = [0, STATE_BYTES - 1, STATE_BYTES, STATE_BYTES + 1, 10_000];
+const SEEDS: u64 = 1_500;
 
 type Generator = fn(u64) -> Vec<u8>;
-const GENERATORS: [(&str, Generator); 4] =
-    [("any", worlds::any), ("damaged", worlds::damaged), ("faulty", faulty), ("crowded", crowded)];
+const GENERATORS: [(&str, Generator); 5] = [
+    ("any", worlds::any),
+    ("world", worlds::world),
+    ("damaged", worlds::damaged),
+    ("records", worlds::random_records),
+    ("bytes", random_bytes),
+];
 
-fn body_length(kind: u8) -> usize {
-    match kind {
-        0x01 => 1,
-        0x12 | 0x14 | 0x16 => 2,
-        0x10 | 0x11 | 0x20..=0x22 | 0x30..=0x37 | 0x3D => 3,
-        0x13 | 0x18 | 0x1A | 0x3B | 0x3C => 4,
-        0x38..=0x3A | 0x3E | 0x40 => 5,
-        0x15 | 0x3F => 6,
-        0x17 | 0x19 => 7,
-        _ => 0,
+fn random_bytes(seed: u64) -> Vec<u8> {
+    let mut rng = Rng::new(seed, 31);
+    let length = rng.below(200);
+    (0..length).map(|_| if rng.chance(50) { rng.byte() } else { rng.pick(&[0x01, 0x10, 0x20, 0x30, 0x00]) }).collect()
+}
+
+/// Short, just enough, one more, many more; mostly enough.
+fn length(rng: &mut Rng, enough: usize) -> usize {
+    match rng.below(20) {
+        0 => 0,
+        1 => enough - 1,
+        2 => enough + rng.below(500),
+        3..=5 => enough,
+        _ => enough + 3,
     }
 }
 
-/// Bytes of a body changed, so that several of its fields may be wrong at once.
-fn disturb(rng: &mut Rng, body: &mut [u8]) {
-    for byte in body {
-        if rng.chance(40) {
-            *byte = match rng.below(4) {
-                0 => rng.byte(),
-                1 => rng.below(4) as u8,
-                2 => rng.below(20) as u8,
-                _ => byte.wrapping_add(rng.below(3) as u8),
-            };
+fn count(rng: &mut Rng, file: &[u8]) -> usize {
+    match rng.below(4) {
+        0 => usize::MAX,
+        1 => rng.below(30),
+        2 => rng.below(file.len() / 4 + 2),
+        _ => file.len(),
+    }
+}
+
+/// What is lent, with marks in every place.
+#[derive(Clone, PartialEq)]
+struct Lent {
+    state: Vec<u8>,
+    ledger: Vec<(u16, u16, u16)>,
+    outcomes: Vec<u8>,
+    list: Vec<u16>,
+}
+
+impl Lent {
+    fn new(rng: &mut Rng) -> Lent {
+        Lent {
+            state: (0..length(rng, STATE_BYTES)).map(|i| i as u8 ^ 0xA5).collect(),
+            ledger: (0..length(rng, LEDGER_ENTRIES)).map(|i| (i as u16, !(i as u16), 7)).collect(),
+            outcomes: (0..length(rng, OUTCOME_BYTES)).map(|i| i as u8 ^ 0x5A).collect(),
+            list: (0..length(rng, PATH_PLACES)).map(|i| 40_000 + i as u16).collect(),
         }
     }
 }
 
-/// One record of which several things may be wrong at once: the first of them has to be the answer.
-fn faulty(seed: u64) -> Vec<u8> {
-    let mut rng = Rng::new(seed, 6);
-    let mut file = worlds::random_records(rng.next());
-    let mut records = Vec::new();
-    let mut at = 0;
-    while at < file.len() {
-        records.push(at);
-        at += 1 + body_length(file[at]);
-    }
-    let Some(at) = rng.try_pick(&records) else {
-        return file;
-    };
-    if rng.chance(15) {
-        file[at] = rng.below(0x42) as u8;
-    }
-    let end = file.len().min(at + 1 + body_length(file[at]));
-    disturb(&mut rng, &mut file[at + 1..end]);
-    if rng.chance(10) {
-        file.truncate(at + rng.below(9));
-    }
-    file
+fn ours(lent: &mut Lent, call: impl FnOnce(&mut Lent, &mut [Entry]) -> String) -> String {
+    let mut ledger: Vec<Entry> =
+        lent.ledger.iter().map(|&(certificate, parent, depth)| Entry { certificate, parent, depth }).collect();
+    let answer = call(lent, &mut ledger);
+    lent.ledger = ledger.iter().map(|e| (e.certificate, e.parent, e.depth)).collect();
+    answer
 }
 
-/// About as many parties or terms as there may be, and then any records.
-fn crowded(seed: u64) -> Vec<u8> {
-    let mut rng = Rng::new(seed, 7);
-    let mut file = Vec::new();
-    for _ in 0..6 + rng.below(3) {
-        file.extend([0x01, rng.below(4) as u8]);
-    }
-    if rng.chance(50) {
-        for id in 0..1_022 + rng.below(3) as u16 {
-            file.push(0x16);
-            file.extend(id.to_be_bytes());
-        }
-    }
-    for _ in 0..rng.below(5) {
-        let kind = if rng.chance(40) { 0x01 } else { rng.below(0x42) as u8 };
-        let mut body = vec![0; body_length(kind)];
-        disturb(&mut rng, &mut body);
-        file.push(kind);
-        file.extend(body);
-    }
-    if rng.chance(10) {
-        file.pop();
-    }
-    file
+fn theirs(lent: &mut Lent, call: impl FnOnce(&mut Lent, &mut [reading::Entry]) -> String) -> String {
+    let mut ledger: Vec<reading::Entry> =
+        lent.ledger.iter().map(|&(certificate, parent, depth)| reading::Entry { certificate, parent, depth }).collect();
+    let answer = call(lent, &mut ledger);
+    lent.ledger = ledger.iter().map(|e| (e.certificate, e.parent, e.depth)).collect();
+    answer
 }
 
-fn numbers(answer: LoadAnswer) -> LoadNumbers {
-    match answer {
-        LoadAnswer::Loaded { parties, terms, commands } => LoadNumbers { number: 0, place: 0, parties, terms, commands },
-        LoadAnswer::Refused { number, place } => LoadNumbers { number, place, parties: 0, terms: 0, commands: 0 },
-    }
+fn refused(refusal: Refusal) -> String {
+    format!("refused {} {}", refusal.number, refusal.place)
 }
 
-/// What stands in the lent buffers before a load; no byte of it is what the next seed has there.
-fn old_bytes(seed: u64) -> Vec<u8> {
-    (0..LENGTHS[4]).map(|i| (i as u8).wrapping_mul(31).wrapping_add(seed as u8)).collect()
-}
-
-/// What was seen over the files.
 #[derive(Default)]
 struct Seen {
-    files: u64,
-    bytes: u64,
-    terms: u64,
-    commands: u64,
-    /// By the answer's number, of a buffer long enough.
-    answers: [u64; 13],
+    runs: u64,
+    issued: u64,
+    depth_8: u64,
+    paths: u64,
+    refusals: [u64; 31],
+    outcomes: [u64; 31],
 }
 
-struct Lent {
-    ours: Vec<u8>,
-    theirs: Vec<u8>,
+fn compare(name: &str, seed: u64, file: &[u8], rng: &mut Rng, seen: &mut Seen) {
+    let n = count(rng, file);
+    let lent = Lent::new(rng);
+
+    let (mut mine, mut other) = (lent.clone(), lent.clone());
+    let a = match load(file, &mut mine.state) {
+        LoadAnswer::Loaded { parties, terms, commands } => format!("loaded {parties} {terms} {commands}"),
+        LoadAnswer::Refused(refusal) => refused(refusal),
+    };
+    let b = match reading::load(file, &mut other.state) {
+        reading::LoadAnswer::Loaded { parties, terms, commands } => format!("loaded {parties} {terms} {commands}"),
+        reading::LoadAnswer::Refused { number, place } => refused(Refusal { number, place }),
+    };
+    assert!(a == b && mine == other, "load: {name} {seed}: {a}, {b}");
+
+    let (mut mine, mut other) = (lent.clone(), lent.clone());
+    let a = ours(&mut mine, |lent, ledger| match run(file, n, &mut lent.state, ledger, &mut lent.outcomes) {
+        RunAnswer::Ran { accepted, refused, issued } => {
+            seen.runs += 1;
+            seen.issued += issued as u64;
+            seen.depth_8 += ledger[..issued as usize].iter().filter(|e| e.depth == 8).count() as u64;
+            lent.outcomes[..(accepted + refused) as usize].iter().for_each(|&o| seen.outcomes[o as usize] += 1);
+            format!("ran {accepted} {refused} {issued}")
+        }
+        RunAnswer::Refused(refusal) => {
+            seen.refusals[refusal.number as usize] += 1;
+            refused(refusal)
+        }
+    });
+    let b = theirs(&mut other, |lent, ledger| match reading::run(file, n, &mut lent.state, ledger, &mut lent.outcomes) {
+        reading::RunAnswer::Ran { accepted, refused, issued } => format!("ran {accepted} {refused} {issued}"),
+        reading::RunAnswer::Refused { number, place } => refused(Refusal { number, place }),
+    });
+    assert!(a == b && mine == other, "run: {name} {seed} n = {n}: {a}, {b}");
+
+    // an issued certificate if there is one, its parent, any term, any number
+    let issued: Vec<u16> = mine.ledger.iter().take(LEDGER_ENTRIES).filter(|e| e.2 > 0 && e.2 < 9).map(|e| e.0).collect();
+    let term = match rng.below(6) {
+        0 => rng.below(40) as u16,
+        1 => rng.next() as u16,
+        _ => rng.try_pick(&issued).unwrap_or(1_024),
+    };
+    let (mut mine, mut other) = (lent.clone(), lent);
+    let a = ours(&mut mine, |lent, ledger| {
+        match path(file, n, &mut lent.state, ledger, &mut lent.outcomes, term, &mut lent.list) {
+            PathAnswer::Steps(steps) => {
+                seen.paths += 1;
+                format!("steps {steps}")
+            }
+            PathAnswer::Refused(refusal) => {
+                seen.refusals[refusal.number as usize] += 1;
+                refused(refusal)
+            }
+        }
+    });
+    let b = theirs(&mut other, |lent, ledger| {
+        match reading::path(file, n, &mut lent.state, ledger, &mut lent.outcomes, term, &mut lent.list) {
+            reading::PathAnswer::Steps(steps) => format!("steps {steps}"),
+            reading::PathAnswer::Refused { number, place } => refused(Refusal { number, place }),
+        }
+    });
+    assert!(a == b && mine == other, "path: {name} {seed} n = {n} term {term}: {a}, {b}");
 }
 
-/// One file with buffers of all lengths.
-fn compare(file: &[u8], old: &[u8], lent: &mut Lent, seen: &mut Seen, name: &str) {
-    for length in LENGTHS {
-        lent.ours.copy_from_slice(old);
-        lent.theirs.copy_from_slice(old);
-        let ours = load(file, &mut lent.ours[..length]);
-        let theirs = numbers(reading::load(file, &mut lent.theirs[..length]));
-        assert_eq!(ours, theirs, "{name}, buffer of {length}: the answers of birdweekly and of the second reading");
-        if let Some(i) = (0..old.len()).find(|&i| lent.ours[i] != lent.theirs[i]) {
-            panic!("{name}, buffer of {length}: byte {i} is {} and in the second reading {}", lent.ours[i], lent.theirs[i]);
-        }
-        // 1 and 2 leave all untouched; past the first part, and past what was lent, nothing is ever touched.
-        let first = if ours.number == 1 || ours.number == 2 { 0 } else { STATE_BYTES };
-        assert!(lent.ours[first..] == old[first..], "{name}, buffer of {length}: a byte beyond was written");
-        if length == STATE_BYTES {
-            seen.files += 1;
-            seen.bytes += file.len() as u64;
-            seen.terms += ours.terms as u64;
-            seen.commands += ours.commands as u64;
-            seen.answers[ours.number as usize] += 1;
-        }
-    }
+fn setting(name: &str, default: u64) -> u64 {
+    std::env::var(name).ok().map_or(default, |value| value.parse().expect(name))
 }
 
 #[test]
-fn agrees_with_the_second_reading() {
-    let seeds = match std::env::var("BIRDWEEKLY_SEEDS") {
-        Ok(n) => n.parse().expect("BIRDWEEKLY_SEEDS is a number"),
-        Err(_) => SEEDS,
-    };
-    let mut lent = Lent { ours: old_bytes(0), theirs: old_bytes(0) };
+fn every_call_agrees() {
+    let first = setting("BIRDWEEKLY_FIRST", 0);
+    let seeds = setting("BIRDWEEKLY_SEEDS", SEEDS);
     let mut seen = Seen::default();
-    for seed in 0..seeds {
-        let old = old_bytes(seed);
-        for (generator, file_of) in GENERATORS {
-            compare(&file_of(seed), &old, &mut lent, &mut seen, &format!("{generator}({seed})"));
+    for seed in first..first + seeds {
+        for (i, (name, generate)) in GENERATORS.into_iter().enumerate() {
+            let file = generate(seed);
+            compare(name, seed, &file, &mut Rng::new(seed, 40 + i as u64), &mut seen);
         }
     }
-    println!("{} files of {} bytes in all, each with {} buffers", seen.files, seen.bytes, LENGTHS.len());
-    println!("loaded: {}, with {} terms and {} commands", seen.answers[0], seen.terms, seen.commands);
-    for number in 2..=12 {
-        println!("refused with {number}: {}", seen.answers[number]);
-        assert!(seeds < SEEDS || seen.answers[number] > 0, "no file was refused with {number}");
+    println!(
+        "{} files; {} runs, {} issued, {} at depth 8, {} paths; refusals {:?}; outcomes {:?}",
+        seeds * GENERATORS.len() as u64,
+        seen.runs,
+        seen.issued,
+        seen.depth_8,
+        seen.paths,
+        seen.refusals,
+        seen.outcomes
+    );
+    // The comparison is worth something: each refusal and each outcome but 22 occurred.
+    if seeds >= SEEDS && first == 0 {
+        for number in (1..=12).chain([30]) {
+            assert!(seen.refusals[number] > 0, "no refusal {number}");
+        }
+        for number in (13..=29).filter(|&number| number != 22) {
+            assert!(seen.outcomes[number] > 0, "no outcome {number}");
+        }
+        assert!(seen.issued > 1_000 && seen.depth_8 > 10 && seen.paths > 100);
+    }
+}
+
+/// Every n of one file, and every cut of it.
+#[test]
+fn every_count_and_every_cut() {
+    let file = (0..).map(worlds::world).find(|file| (300..1_200).contains(&file.len())).unwrap();
+    let mut seen = Seen::default();
+    for n in 0..file.len() / 4 + 2 {
+        let mut state = [vec![1; STATE_BYTES + 2], vec![1; STATE_BYTES + 2]];
+        let mut outcomes = [vec![2; OUTCOME_BYTES + 2], vec![2; OUTCOME_BYTES + 2]];
+        let mut ledger = vec![Entry { certificate: 3, parent: 3, depth: 3 }; LEDGER_ENTRIES + 2];
+        let mut other = vec![reading::Entry { certificate: 3, parent: 3, depth: 3 }; LEDGER_ENTRIES + 2];
+        let a = run(&file, n, &mut state[0], &mut ledger, &mut outcomes[0]);
+        let b = reading::run(&file, n, &mut state[1], &mut other, &mut outcomes[1]);
+        match (a, b) {
+            (RunAnswer::Ran { accepted: a, refused: b, issued: c }, reading::RunAnswer::Ran { accepted, refused, issued }) => {
+                assert_eq!((a, b, c), (accepted, refused, issued), "n = {n}")
+            }
+            (a, b) => panic!("n = {n}: {a:?}, {b:?}"),
+        }
+        assert_eq!(state[0], state[1], "n = {n}");
+        assert_eq!(outcomes[0], outcomes[1], "n = {n}");
+        assert!(ledger.iter().zip(&other).all(|(a, b)| (a.certificate, a.parent, a.depth) == (b.certificate, b.parent, b.depth)));
+    }
+    for cut in 0..=file.len() {
+        compare("cut", cut as u64, &file[..cut], &mut Rng::new(cut as u64, 50), &mut seen);
     }
 }

@@ -1,0 +1,93 @@
+//! What each call answers and leaves, on the paper's example and on an honest enrolment.
+
+use birdweekly::{load, path, run, Buffers, Entry, LoadAnswer, PathAnswer, Refusal, RunAnswer, STATE_BYTES};
+
+const EXAMPLE: [u8; 30] = [
+    0x01, 0x00, 0x10, 0x00, 0x05, 0x0B, 0x11, 0x00, 0x05, 0x0B, 0x12, 0x00, 0x00, 0x13, 0x00, 0x02, 0x00, 0x01, 0x20, 0x00,
+    0x00, 0x00, 0x30, 0x00, 0x00, 0x02, 0x31, 0x00, 0x00, 0x03,
+];
+
+/// Certificates up to depth 8, each the parent of the next.
+const CHAIN: &[u8] = include_bytes!("../../../crates/cases/data/s_depth_8");
+
+#[test]
+fn the_example_loads() {
+    let mut state = vec![0xFF; STATE_BYTES + 3];
+    assert_eq!(load(&EXAMPLE, &mut state), LoadAnswer::Loaded { parties: 1, terms: 4, commands: 2 });
+    // Party 0 knows term 0, whose record stands at place 2; what lies beyond the first part is untouched.
+    assert_eq!(state[..8], [1, 0, 0, 0, 0, 0, 0, 2]);
+    assert_eq!(state[8..16], [0, 0, 0, 0, 0, 0, 0, 6]);
+    assert!(state[32..STATE_BYTES].iter().all(|&b| b == 0));
+    assert_eq!(state[STATE_BYTES..], [0xFF; 3]);
+}
+
+#[test]
+fn refusals_leave_what_they_say() {
+    let mut short = vec![7; STATE_BYTES - 1];
+    assert_eq!(load(&EXAMPLE, &mut short), LoadAnswer::Refused(Refusal { number: 1, place: 0 }));
+    assert!(short.iter().all(|&b| b == 7));
+    let mut state = vec![7; STATE_BYTES + 1];
+    assert_eq!(load(&[0; 32_769], &mut state), LoadAnswer::Refused(Refusal { number: 2, place: 0 }));
+    assert!(state.iter().all(|&b| b == 7));
+    assert_eq!(load(&EXAMPLE[..29], &mut state), LoadAnswer::Refused(Refusal { number: 4, place: 26 }));
+    assert!(state[..STATE_BYTES].iter().all(|&b| b == 0));
+    assert_eq!(state[STATE_BYTES], 7);
+    assert_eq!(run(&EXAMPLE, 1, &mut state, &mut [], &mut []), RunAnswer::Refused(Refusal { number: 1, place: 0 }));
+    assert_eq!(state[STATE_BYTES], 7);
+}
+
+#[test]
+fn a_chain_of_certificates() {
+    let mut buffers = Buffers::new();
+    let RunAnswer::Ran { refused: 0, issued: 8, .. } = buffers.run_all(CHAIN) else {
+        panic!("the chain is issued")
+    };
+    let ledger: Vec<Entry> = buffers.ledger().collect();
+    assert_eq!(ledger.iter().map(|e| e.depth).collect::<Vec<_>>(), [1, 2, 3, 4, 5, 6, 7, 8]);
+    let last = ledger[7].certificate;
+    let steps: Vec<u16> = buffers.path(last).unwrap().collect();
+    assert_eq!(steps.len(), 9);
+    assert_eq!(steps[7], ledger[0].certificate);
+    assert_eq!(steps[8], ledger[0].parent);
+    assert!(buffers.path(steps[8]).is_none());
+
+    // The engine's own path is the same, and leaves the places beyond it.
+    let mut state = vec![0; STATE_BYTES];
+    let mut entries = vec![Entry::default(); 1_024];
+    let mut outcomes = vec![0; 8_192];
+    let mut list = [9_999; 11];
+    assert_eq!(
+        path(CHAIN, usize::MAX, &mut state, &mut entries, &mut outcomes, last, &mut list),
+        PathAnswer::Steps(8)
+    );
+    assert_eq!(list[..9], steps[..]);
+    assert_eq!(list[9..], [9_999; 2]);
+    assert_eq!(entries[..8], ledger[..]);
+    assert_eq!(
+        path(CHAIN, 5, &mut state, &mut entries, &mut outcomes, last, &mut list),
+        PathAnswer::Refused(Refusal { number: 30, place: last as u32 })
+    );
+}
+
+#[test]
+fn calls_on_many_threads_share_nothing() {
+    let expected = {
+        let mut buffers = Buffers::new();
+        (buffers.run_all(CHAIN), buffers.state().to_vec(), buffers.ledger().collect::<Vec<_>>())
+    };
+    std::thread::scope(|scope| {
+        for i in 0..8 {
+            let expected = &expected;
+            scope.spawn(move || {
+                let mut buffers = Buffers::new();
+                for round in 0..200 {
+                    // other work in between, in the same buffers
+                    buffers.run(if (i + round) % 2 == 0 { &EXAMPLE } else { CHAIN }, round);
+                    assert_eq!(buffers.run_all(CHAIN), expected.0);
+                    assert_eq!(buffers.state(), expected.1);
+                    assert!(buffers.ledger().eq(expected.2.iter().copied()));
+                }
+            });
+        }
+    });
+}
