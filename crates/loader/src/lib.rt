@@ -135,7 +135,7 @@ fn scan_commands(table: &[u32; 65], file: &[u8], state: &[u8], from: usize, n: T
                 tally: n,
             };
         }
-        let end = start + length;
+        let end = reader::next_place(file, at);
         let body = &file[start..end];
         let mut fields = records::fields_in(table, kind);
         let mut i: usize = 0;
@@ -209,7 +209,7 @@ fn scan(
                 tally: n,
             };
         }
-        let end = start + length;
+        let end = reader::next_place(file, at);
         let body = &file[start..end];
         let mut fields = records::fields_in(&table, kind);
         let mut i: usize = 0;

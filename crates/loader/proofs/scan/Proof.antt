@@ -16,6 +16,7 @@ use Rattle.state.specs.View.{view}
 use Rattle.learning.specs.There.{termThere}
 use Rattle.index.specs.Indexed.{Indexed}
 use Rattle.theorems.proofs.Pieces.{bodyAt}
+use Rattle.reader.proofs.Places.{place-is, place-later, record-at}
 use Rattle.loader.specs.declared.Tally.{Tally}
 use Rattle.loader.specs.Describes.{counted, At}
 use Rattle.loader.proofs.Scanning.{head-is, at-start, at-end, at-head, fits, fields-start, InFields, body-same, field-ready, field-small, field-refused, field-passed, enter-asks, last-refused, record-taken, counts-small}
@@ -79,31 +80,31 @@ sub-head-fault c = omega arith
 head-fault-requires : tie.Need-head-fault-requires Inv-loop μ-loop Inv-records μ-records
 head-fault-requires c κs = search needs
 
-add-end : tie.Need-add-end Inv-loop μ-loop Inv-records μ-records
-add-end c =
+next-place-requires : tie.Need-next-place-requires Inv-loop μ-loop Inv-records μ-records
+next-place-requires c κs =
     let a = c .before .before .before .before .before .before .before .records .inv .1 in
-    omega (arith, a .short, fits _ _ _ _ _ a (c .before .before .before .before .before .before .if1 .left) (sym (head-is _ _ _ _ _ (c .before .before .before .before .section-of .ensures) (c .before .before .body-length .ensures) (c .before .head-fault .ensures)) ∙ c .if3 .left), c .before .before .body-length .ensures)
+    record-at _ _ (fits _ _ _ _ _ a (c .before .before .before .before .before .before .if1 .left) (sym (head-is _ _ _ _ _ (c .before .before .before .before .section-of .ensures) (c .before .before .body-length .ensures) (c .before .head-fault .ensures)) ∙ c .if3 .left))
 
 sub-body : tie.Need-sub-body Inv-loop μ-loop Inv-records μ-records
-sub-body c = omega arith
+sub-body c = omega (arith, place-later _ _ _ (c .next-place .ensures))
 
 part-body-start : tie.Need-part-body-start Inv-loop μ-loop Inv-records μ-records
-part-body-start c = search needs
+part-body-start c = omega (arith, place-later _ _ _ (c .next-place .ensures))
 
 part-body-end : tie.Need-part-body-end Inv-loop μ-loop Inv-records μ-records
 part-body-end c =
-    let a = c .before .before .before .before .before .before .before .records .inv .1 in
-    omega (arith, fits _ _ _ _ _ a (c .before .before .before .before .before .before .if1 .left) (sym (head-is _ _ _ _ _ (c .before .before .before .before .section-of .ensures) (c .before .before .body-length .ensures) (c .before .head-fault .ensures)) ∙ c .if3 .left), c .before .before .body-length .ensures)
+    let a = c .before .before .before .before .before .before .before .before .records .inv .1 in
+    omega (arith, fits _ _ _ _ _ a (c .before .before .before .before .before .before .before .if1 .left) (sym (head-is _ _ _ _ _ (c .before .before .before .before .before .section-of .ensures) (c .before .before .before .body-length .ensures) (c .before .before .head-fault .ensures)) ∙ c .before .if3 .left), place-is _ _ _ (c .next-place .ensures))
 
 fields-in-requires : tie.Need-fields-in-requires Inv-loop μ-loop Inv-records μ-records
 fields-in-requires c κs = search needs
 
 loop-holds : tie.Need-loop-holds Inv-loop μ-loop Inv-records μ-records
 loop-holds c =
-    let a = c .before .before .before .before .before .before .before .before .before .before .records .inv .1 in
-    let l = c .before .before .before .before .before .before .before .before .before .if1 .left in
-    let z = sym (head-is _ _ _ _ _ (c .before .before .before .before .before .before .before .section-of .ensures) (c .before .before .before .before .before .body-length .ensures) (c .before .before .before .before .head-fault .ensures)) ∙ c .before .before .before .if3 .left in
-    (record { here = a; more = l; head = z; bodyIs = body-same _ _ _ (c .before .before .before .before .before .body-length .ensures); fields = fields-start _ _ _ _ _ a l z _ }, c .fields-in .ensures)
+    let a = c .before .before .before .before .before .before .before .before .before .before .before .records .inv .1 in
+    let l = c .before .before .before .before .before .before .before .before .before .before .if1 .left in
+    let z = sym (head-is _ _ _ _ _ (c .before .before .before .before .before .before .before .before .section-of .ensures) (c .before .before .before .before .before .before .body-length .ensures) (c .before .before .before .before .before .head-fault .ensures)) ∙ c .before .before .before .before .if3 .left in
+    (record { here = a; more = l; head = z; bodyIs = body-same _ _ _ (c .before .before .before .next-place .ensures); fields = fields-start _ _ _ _ _ a l z _ }, c .fields-in .ensures)
 
 low-field-requires : tie.Need-low-field-requires Inv-loop μ-loop Inv-records μ-records
 low-field-requires c κs = search needs
@@ -138,23 +139,23 @@ loop-again c =
 enter-requires : tie.Need-enter-requires Inv-loop μ-loop Inv-records μ-records
 enter-requires c κs =
     let w = c .before .before .before .before .before .before .loop .inv .0 in
-    let l : length (fieldsOf (getD (c .before .before .before .before .before .before .before .before .before .before .before .before .before .before .before .before .before .before .before .before .before .args .file .now) (c .before .before .before .before .before .before .before .before .before .before .before .before .before .before .before .before .before .records .at) 0)) ≤ c .before .before .before .before .before .before .loop .i = ⊎-elim (λ u. omega (arith, few-fields (getD (c .before .before .before .before .before .before .before .before .before .before .before .before .before .before .before .before .before .before .before .before .before .args .file .now) (c .before .before .before .before .before .before .before .before .before .before .before .before .before .before .before .before .before .records .at) 0), u .left)) (λ u. none-left _ _ _ (c .before .before .before .before .before .before .loop .inv .1) (u .0 .taken) (u .1 .taken)) (c .before .before .before .before .before .loop-test .came) in
-    (c .before .before .before .before .before .before .before .before .before .before .before .before .before .before .section-of .ensures, enter-asks _ _ _ _ _ _ _ _ w _ refl l, c .before .before .before .before .before .before .before .before .before .before .before .before .before .before .before .before .before .records .inv .2, refl, body-stands _ _ _ (w .bodyIs))
+    let l : length (fieldsOf (getD (c .before .before .before .before .before .before .before .before .before .before .before .before .before .before .before .before .before .before .before .before .before .before .args .file .now) (c .before .before .before .before .before .before .before .before .before .before .before .before .before .before .before .before .before .before .records .at) 0)) ≤ c .before .before .before .before .before .before .loop .i = ⊎-elim (λ u. omega (arith, few-fields (getD (c .before .before .before .before .before .before .before .before .before .before .before .before .before .before .before .before .before .before .before .before .before .before .args .file .now) (c .before .before .before .before .before .before .before .before .before .before .before .before .before .before .before .before .before .before .records .at) 0), u .left)) (λ u. none-left _ _ _ (c .before .before .before .before .before .before .loop .inv .1) (u .0 .taken) (u .1 .taken)) (c .before .before .before .before .before .loop-test .came) in
+    (c .before .before .before .before .before .before .before .before .before .before .before .before .before .before .before .section-of .ensures, enter-asks _ _ _ _ _ _ _ _ w _ refl l, c .before .before .before .before .before .before .before .before .before .before .before .before .before .before .before .before .before .before .records .inv .2, refl, body-stands _ _ _ (w .bodyIs))
 
 count-requires : tie.Need-count-requires Inv-loop μ-loop Inv-records μ-records
-count-requires c κs = counts-small _ _ _ _ _ (c .before .before .before .before .before .before .before .before .before .before .before .before .before .before .before .before .before .before .before .before .before .records .inv .1)
+count-requires c κs = counts-small _ _ _ _ _ (c .before .before .before .before .before .before .before .before .before .before .before .before .before .before .before .before .before .before .before .before .before .before .records .inv .1)
 
 records-less : tie.Need-records-less Inv-loop μ-loop Inv-records μ-records
-records-less c = omega (arith, c .before .before .before .before .before .before .before .before .before .before .before .before .before .before .before .before .before .before .before .before .before .if1 .left)
+records-less c = omega (arith, c .before .before .before .before .before .before .before .before .before .before .before .before .before .before .before .before .before .before .before .before .before .before .if1 .left, place-later _ _ _ (c .before .before .before .before .before .before .before .before .before .before .before .before .before .before .before .next-place .ensures))
 
 records-again : tie.Need-records-again Inv-loop μ-loop Inv-records μ-records
 records-again c =
     let w = c .before .before .before .before .before .before .before .before .before .before .before .loop .inv .0 in
-    let l : length (fieldsOf (getD (c .before .before .before .before .before .before .before .before .before .before .before .before .before .before .before .before .before .before .before .before .before .before .before .before .before .before .args .file .now) (c .before .before .before .before .before .before .before .before .before .before .before .before .before .before .before .before .before .before .before .before .before .before .records .at) 0)) ≤ c .before .before .before .before .before .before .before .before .before .before .before .loop .i = ⊎-elim (λ u. omega (arith, few-fields (getD (c .before .before .before .before .before .before .before .before .before .before .before .before .before .before .before .before .before .before .before .before .before .before .before .before .before .before .args .file .now) (c .before .before .before .before .before .before .before .before .before .before .before .before .before .before .before .before .before .before .before .before .before .before .records .at) 0), u .left)) (λ u. none-left _ _ _ (c .before .before .before .before .before .before .before .before .before .before .before .loop .inv .1) (u .0 .taken) (u .1 .taken)) (c .before .before .before .before .before .before .before .before .before .before .loop-test .came) in
+    let l : length (fieldsOf (getD (c .before .before .before .before .before .before .before .before .before .before .before .before .before .before .before .before .before .before .before .before .before .before .before .before .before .before .before .args .file .now) (c .before .before .before .before .before .before .before .before .before .before .before .before .before .before .before .before .before .before .before .before .before .before .before .records .at) 0)) ≤ c .before .before .before .before .before .before .before .before .before .before .before .loop .i = ⊎-elim (λ u. omega (arith, few-fields (getD (c .before .before .before .before .before .before .before .before .before .before .before .before .before .before .before .before .before .before .before .before .before .before .before .before .before .before .before .args .file .now) (c .before .before .before .before .before .before .before .before .before .before .before .before .before .before .before .before .before .before .before .before .before .before .before .records .at) 0), u .left)) (λ u. none-left _ _ _ (c .before .before .before .before .before .before .before .before .before .before .before .loop .inv .1) (u .0 .taken) (u .1 .taken)) (c .before .before .before .before .before .before .before .before .before .before .loop-test .came) in
     let e = c .before .before .before .before .enter in
-    let k = c .count .ensures ∙ ap (λ (own : ℕ). counted own (c .before .before .before .before .before .before .before .before .before .before .before .before .before .before .before .before .before .before .before .before .before .before .records .n)) (c .before .before .before .before .before .before .before .before .before .before .before .before .before .before .before .before .before .before .before .section-of .ensures) in (
-      e .kept .1 .0 ∙ c .before .before .before .before .before .before .before .before .before .before .before .before .before .before .before .before .before .before .before .before .before .before .records .inv .0,
-      record-taken _ _ _ _ _ _ _ _ w _ refl l _ _ _ (e .ensures .0) (c .before .if6 .left) (e .kept .1 .0) (e .ensures .1 .0) (e .ensures .1 .1 .0) _ k _ (c .before .before .before .before .before .before .before .before .before .before .before .before .before .before .before .before .before .body-length .ensures),
+    let k = c .count .ensures ∙ ap (λ (own : ℕ). counted own (c .before .before .before .before .before .before .before .before .before .before .before .before .before .before .before .before .before .before .before .before .before .before .before .records .n)) (c .before .before .before .before .before .before .before .before .before .before .before .before .before .before .before .before .before .before .before .before .section-of .ensures) in (
+      e .kept .1 .0 ∙ c .before .before .before .before .before .before .before .before .before .before .before .before .before .before .before .before .before .before .before .before .before .before .before .records .inv .0,
+      record-taken _ _ _ _ _ _ _ _ w _ refl l _ _ _ (e .ensures .0) (c .before .if6 .left) (e .kept .1 .0) (e .ensures .1 .0) (e .ensures .1 .1 .0) _ k _ (c .before .before .before .before .before .before .before .before .before .before .before .before .before .before .before .next-place .ensures),
       indexed-counted (c .count .ensures) (e .ensures .1 .1 .1 (c .before .if6 .left)),
     )
 
@@ -177,7 +178,7 @@ returns-3 : tie.Need-returns-3 Inv-loop μ-loop Inv-records μ-records
 returns-3 c = (at-head _ _ _ _ _ (c .before .before .before .before .before .before .before .records .inv .1) (c .before .before .before .before .before .before .if1 .left) _ (head-is _ _ _ _ _ (c .before .before .before .before .section-of .ensures) (c .before .before .body-length .ensures) (c .before .head-fault .ensures)) (c .if3 .taken), λ z. absurd (c .if3 .taken z))
 
 same-length-4 : tie.Need-same-length-4 Inv-loop μ-loop Inv-records μ-records
-same-length-4 c = c .before .before .before .before .before .before .before .before .before .before .before .before .before .before .before .before .before .records .inv .0
+same-length-4 c = c .before .before .before .before .before .before .before .before .before .before .before .before .before .before .before .before .before .before .records .inv .0
 
 returns-4 : tie.Need-returns-4 Inv-loop μ-loop Inv-records μ-records
 returns-4 c =
@@ -186,12 +187,12 @@ returns-4 c =
     (field-refused _ _ _ _ _ _ _ _ w _ refl (l .0) _ (c .before .before .before .low-field .ensures ∙ l .1) _ (c .before .field-fault .ensures) (c .if5 .taken), λ z. absurd (c .if5 .taken z))
 
 same-length-5 : tie.Need-same-length-5 Inv-loop μ-loop Inv-records μ-records
-same-length-5 c = c .before .before .before .enter .kept .1 .0 ∙ c .before .before .before .before .before .before .before .before .before .before .before .before .before .before .before .before .before .before .before .before .before .records .inv .0
+same-length-5 c = c .before .before .before .enter .kept .1 .0 ∙ c .before .before .before .before .before .before .before .before .before .before .before .before .before .before .before .before .before .before .before .before .before .before .records .inv .0
 
 returns-5 : tie.Need-returns-5 Inv-loop μ-loop Inv-records μ-records
 returns-5 c =
     let w = c .before .before .before .before .before .before .before .before .before .before .loop .inv .0 in
-    let l : length (fieldsOf (getD (c .before .before .before .before .before .before .before .before .before .before .before .before .before .before .before .before .before .before .before .before .before .before .before .before .before .args .file .now) (c .before .before .before .before .before .before .before .before .before .before .before .before .before .before .before .before .before .before .before .before .before .records .at) 0)) ≤ c .before .before .before .before .before .before .before .before .before .before .loop .i = ⊎-elim (λ u. omega (arith, few-fields (getD (c .before .before .before .before .before .before .before .before .before .before .before .before .before .before .before .before .before .before .before .before .before .before .before .before .before .args .file .now) (c .before .before .before .before .before .before .before .before .before .before .before .before .before .before .before .before .before .before .before .before .before .records .at) 0), u .left)) (λ u. none-left _ _ _ (c .before .before .before .before .before .before .before .before .before .before .loop .inv .1) (u .0 .taken) (u .1 .taken)) (c .before .before .before .before .before .before .before .before .before .loop-test .came) in
+    let l : length (fieldsOf (getD (c .before .before .before .before .before .before .before .before .before .before .before .before .before .before .before .before .before .before .before .before .before .before .before .before .before .before .args .file .now) (c .before .before .before .before .before .before .before .before .before .before .before .before .before .before .before .before .before .before .before .before .before .before .records .at) 0)) ≤ c .before .before .before .before .before .before .before .before .before .before .loop .i = ⊎-elim (λ u. omega (arith, few-fields (getD (c .before .before .before .before .before .before .before .before .before .before .before .before .before .before .before .before .before .before .before .before .before .before .before .before .before .before .args .file .now) (c .before .before .before .before .before .before .before .before .before .before .before .before .before .before .before .before .before .before .before .before .before .before .records .at) 0), u .left)) (λ u. none-left _ _ _ (c .before .before .before .before .before .before .before .before .before .before .loop .inv .1) (u .0 .taken) (u .1 .taken)) (c .before .before .before .before .before .before .before .before .before .loop-test .came) in
     (last-refused _ _ _ _ _ _ _ _ w _ refl l _ _ _ (c .before .before .before .enter .ensures .0) (c .if6 .taken), λ z. absurd (c .if6 .taken z))
 
 pub scan-spec : {M : Type 1} → statement M
@@ -211,7 +212,7 @@ scan-spec =
     body-length-requires
     sub-head-fault
     head-fault-requires
-    add-end
+    next-place-requires
     sub-body
     part-body-start
     part-body-end
