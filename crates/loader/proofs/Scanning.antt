@@ -34,7 +34,7 @@ abbrev pub none : Tally
 none = record { section = 0; parties = 0; terms = 0; commands = 0 }
 
 abbrev pub refusal : ℕ → ℕ → Tally → Scanned
-refusal x at n = record { number = x; place = at; tally = n }
+refusal x at n = record { number = x; place = at; first = 0; tally = n }
 
 -- a refusal says nothing of the counts
 pub any-tally : {bs s signers : List ℕ} {x at : ℕ} (n m : Tally) → (x ≡ 0 → ⊥) → ScanResult bs s signers (refusal x at n) → ScanResult bs s signers (refusal x at m)

@@ -126,17 +126,17 @@ records-again c =
     standing-next (w .0) l k _ (place-is _ _ _ (c .before .before .before .before .next-place .ensures))
 
 returns : tie.Need-returns Inv-loop μ-loop Inv-records μ-records
-returns c = (standing-end (c .before .records .inv) (c .if1 .taken), refl)
+returns c = (standing-end (c .before .records .inv) (c .if1 .taken), (refl, refl))
 
 returns-2 : tie.Need-returns-2 Inv-loop μ-loop Inv-records μ-records
-returns-2 c = (standing-head (c .before .before .before .before .before .before .records .inv) (c .before .before .before .before .before .if1 .left) (c .before .before .before .section-of .ensures) (c .before .before .body-length .ensures) (c .before .head-fault .ensures) _ (c .if2 .taken), refl)
+returns-2 c = (standing-head (c .before .before .before .before .before .before .records .inv) (c .before .before .before .before .before .if1 .left) (c .before .before .before .section-of .ensures) (c .before .before .body-length .ensures) (c .before .head-fault .ensures) _ (c .if2 .taken), (refl, refl))
 
 returns-3 : tie.Need-returns-3 Inv-loop μ-loop Inv-records μ-records
 returns-3 c =
     let w = c .before .before .before .before .before .loop .inv .0 in
     let a = c .before .before .before .before .before .before .before .before .before .before .before .before .before .before .before .before .before .before .pre .here in
     let l = field-left _ _ _ (c .before .before .before .before .before .loop .inv .1) (c .before .before .before .before .loop-test .taken) (c .before .before .before .if3 .left) in
-    (field-stops w a (l .0) (c .before .before .low-field .ensures ∙ l .1) (c .before .command-fault .ensures) _ (c .if4 .taken), refl)
+    (field-stops w a (l .0) (c .before .before .low-field .ensures ∙ l .1) (c .before .command-fault .ensures) _ (c .if4 .taken), (refl, refl))
 
 pub scan-commands-spec : {M : Type 1} → statement M
 scan-commands-spec =
