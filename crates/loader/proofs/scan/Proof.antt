@@ -186,8 +186,10 @@ returns-2 c =
     let bs = c .before .before .before .before .before .before .before .before .before .before .before .args .file .now in
     let place = c .before .before .before .before .before .before .before .records .at in (
       c .scan-commands .ensures .0 _ (c .before .before .before .before .before .before .before .records .inv .1),
-      (λ _. c .scan-commands .ensures .1 .0 ∙ sym (commands-here bs place (c .before .before .before .before .before .before .if1 .left) (sym (c .before .before .before .before .section-of .ensures) ∙ c .before .before .before .if2 .taken)) ∙ c .before .before .before .before .before .before .before .records .inv .3,
-        λ _. indexed-terms (c .scan-commands .ensures .1 .1) (c .before .before .before .before .before .before .before .records .inv .2)),
+      (
+        λ _. c .scan-commands .ensures .1 .0 ∙ sym (commands-here bs place (c .before .before .before .before .before .before .if1 .left) (sym (c .before .before .before .before .section-of .ensures) ∙ c .before .before .before .if2 .taken)) ∙ c .before .before .before .before .before .before .before .records .inv .3,
+        λ _. indexed-terms (c .scan-commands .ensures .1 .1) (c .before .before .before .before .before .before .before .records .inv .2),
+      ),
     )
 
 same-length-3 : tie.Need-same-length-3 Inv-loop μ-loop Inv-records μ-records
