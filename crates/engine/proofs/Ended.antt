@@ -220,23 +220,22 @@ module _ {bs s tables : List ℕ} {r : Scanned} (short : length bs ≤ fileLimit
         left = λ a b i q. absurd (let y : _≡_ {A = ℕ} 0 1 = cc in omega arith);
       }
 
-  module _ (h : r .number ≡ 0) (n : ℕ) {words out : List ℕ} {first : ℕ} {s′ tables′ words′ out′ : List ℕ} {t : Totals}
-      (zo : out ≡ replicate commandLimit 0) (ef : first ≡ commandsFrom (length bs) bs 0) (x : Executes bs s words out first n s′ tables′ words′ out′ t) where
-    x′ : Executes bs s words (replicate commandLimit 0) (commandsFrom (length bs) bs 0) n s′ tables′ words′ out′ t
-    x′ =
+  module _ (h : r .number ≡ 0) (n : ℕ) {words out s′ tables′ words′ out′ : List ℕ} {t : Totals} (zo : out ≡ replicate commandLimit 0) (x : Executes bs s words out (r .first) n s′ tables′ words′ out′ t) where
+    from-first : Filled bs s tables r → Executes bs s words (replicate commandLimit 0) (commandsFrom (length bs) bs 0) n s′ tables′ words′ out′ t
+    from-first w =
         subst (λ (l : List ℕ). Executes bs s words l (commandsFrom (length bs) bs 0) n s′ tables′ words′ out′ t) zo
-        (subst (λ (k : ℕ). Executes bs s words out k n s′ tables′ words′ out′ t) ef x)
+        (subst (λ (k : ℕ). Executes bs s words out k n s′ tables′ words′ out′ t) (w .firstIs) x)
 
     pub parts-ran : Bytes s′ → PartsRan bs n s′ out′ words′ tables′ (Ran (t .accepted) (t .refused) (t .issued))
     parts-ran b = go g
       where
         go : FillResult bs s tables r → PartsRan bs n s′ out′ words′ tables′ (Ran (t .accepted) (t .refused) (t .issued))
-        go (inl (z, w)) = ran w n x′ short b
+        go (inl (z, w)) = ran w n (from-first w) short b
         go (inr (m, z, e, k)) = absurd (omega arith)
 
     pub counts-fit : t .accepted + t .refused ≤ commandLimit
     counts-fit = go g
       where
         go : FillResult bs s tables r → t .accepted + t .refused ≤ commandLimit
-        go (inl (z, w)) = counted w n x′ short
+        go (inl (z, w)) = counted w n (from-first w) short
         go (inr (m, z, e, k)) = absurd (omega arith)

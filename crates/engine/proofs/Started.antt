@@ -16,7 +16,7 @@ use Rattle.theorems.proofs.Loading.{Wellformed, checked}
 use Rattle.tables.specs.Regions.{tablesIn}
 use Rattle.entries.specs.Words.{ledgerWords, entriesIn}
 use Rattle.entries.proofs.Words.{zeros-at, entries-none}
-use Rattle.lookup.specs.Commands.{commandsFrom, Commands}
+use Rattle.lookup.specs.Commands.{Commands}
 use Rattle.lookup.proofs.Left.{commands-wellformed}
 use Rattle.loader.specs.declared.Scanned.{Scanned}
 use Rattle.loader.specs.Tabled.{Filled, FillResult}
@@ -60,17 +60,17 @@ module _ {bs s tables : List ℕ} {r : Scanned} (w : Filled bs s tables r) where
       }
 
   ready : length bs ≤ fileLimit → length s ≡ stateBytes → (words : List ℕ) → words ≡ replicate ledgerWords 0 → (out : List ℕ) → commandLimit ≤ length out
-      → (first : ℕ) → first ≡ commandsFrom (length bs) bs 0 → RunReady bs s tables words out (r .tally .parties) first
-  ready short room words z out long first e = record {
+      → RunReady bs s tables words out (r .tally .parties) (r .first)
+  ready short room words z out long = record {
     stands = stands-start room words z;
     short = short;
     places = long;
     partiesAre = sym (w .describes .partiesAre) ∙ ap (λ (f : File). length (f .roles)) (sym (file-is w));
-    commands = subst⁻¹ (Commands (Wellformed (fileIn bs)) bs) e (commands-wellformed bs (fileIn bs) (filled-holds w room .loads));
+    commands = subst⁻¹ (Commands (Wellformed (fileIn bs)) bs) (w .firstIs) (commands-wellformed bs (fileIn bs) (filled-holds w room .loads));
   }
 
 pub run-ready : {bs s tables : List ℕ} {r : Scanned} → FillResult bs s tables r → r .number ≡ 0 → length bs ≤ fileLimit → length s ≡ stateBytes
     → (words : List ℕ) → words ≡ replicate ledgerWords 0 → (out : List ℕ) → commandLimit ≤ length out
-    → (first : ℕ) → first ≡ commandsFrom (length bs) bs 0 → RunReady bs s tables words out (r .tally .parties) first
-run-ready (inl (z, w)) h short room words zw out long first e = ready w short room words zw out long first e
-run-ready (inr (m, z, l, k)) h short room words zw out long first e = absurd (omega arith)
+    → RunReady bs s tables words out (r .tally .parties) (r .first)
+run-ready (inl (z, w)) h short room words zw out long = ready w short room words zw out long
+run-ready (inr (m, z, l, k)) h short room words zw out long = absurd (omega arith)

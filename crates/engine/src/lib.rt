@@ -99,7 +99,7 @@ fn run_parts(
         return RunAnswer::Refused(number as u32, place as u32);
     }
     let tally = found.tally;
-    let first = lookup::first_command(file);
+    let first = found.first;
     let t = run_commands(
         file,
         state,

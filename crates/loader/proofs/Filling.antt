@@ -16,6 +16,7 @@ use Rattle.state.specs.View.{view}
 use Rattle.tables.specs.Regions.{Tables, tablesIn}
 use Rattle.index.specs.Indexed.{Indexed, passes}
 use Rattle.index.proofs.Halves.{half-follows}
+use Rattle.lookup.specs.Commands.{commandsFrom}
 use Rattle.loader.specs.declared.Tally.{Tally}
 use Rattle.loader.specs.declared.Scanned.{Scanned}
 use Rattle.loader.specs.Describes.{Describes, ScanReady, ScanResult}
@@ -63,9 +64,9 @@ module _ (bytes s signers : List ℕ) (r : Scanned) (found : ScanResult bytes s 
       words = signed .words ∙ indexed .words;
     }
 
-    pub fill-loaded : r .number ≡ 0 → FillResult bytes s tables r
-    fill-loaded z = go found
+    pub fill-loaded : (r .number ≡ 0 → r .first ≡ commandsFrom (length bytes) bytes 0) → r .number ≡ 0 → FillResult bytes s tables r
+    fill-loaded first z = go found
       where
         go : ScanResult bytes s signers r → FillResult bytes s tables r
-        go (inl (q, (f, e, i, d))) = inl (q, record { file = f; loads = e; signers = signers; describes = d; tabled = tabled f d })
+        go (inl (q, (f, e, i, d))) = inl (q, record { file = f; loads = e; signers = signers; describes = d; tabled = tabled f d; firstIs = first z })
         go (inr (m, q, e)) = absurd (omega arith)

@@ -22,6 +22,8 @@ use Rattle.setup.specs.Allowed.{signersLeave}
 use Rattle.records.proofs.Lengths.{section-most}
 use Rattle.theorems.proofs.Loading.{entered, empty-good}
 use Rattle.theorems.proofs.Pieces.{from, bodyAt, body-length, load-from, feed-end}
+use Rattle.reader.specs.Place.{nextPlace}
+use Rattle.reader.proofs.Places.{next-record}
 use Rattle.loader.specs.declared.Tally.{Tally}
 use Rattle.loader.specs.declared.Scanned.{Scanned}
 use Rattle.loader.specs.Describes.{Describes, counted, lastFault, columnsAfter, signersAfter, EnterReady, At, ScanReady, ScanResult}
@@ -32,7 +34,7 @@ abbrev pub none : Tally
 none = record { section = 0; parties = 0; terms = 0; commands = 0 }
 
 abbrev pub refusal : ℕ → ℕ → Tally → Scanned
-refusal x at n = record { number = x; place = at; tally = n }
+refusal x at n = record { number = x; place = at; first = 0; tally = n }
 
 -- a refusal says nothing of the counts
 pub any-tally : {bs s signers : List ℕ} {x at : ℕ} (n m : Tally) → (x ≡ 0 → ⊥) → ScanResult bs s signers (refusal x at n) → ScanResult bs s signers (refusal x at m)
@@ -224,9 +226,9 @@ pub head-is : {x own size : ℕ} (k left section parties terms : ℕ) → own �
 head-is k left section parties terms eo es e = rw (← eo, ← es) e
 
 -- the part of the file that is handed on is the record's body
-pub body-same : (bs : List ℕ) (at x : ℕ) → x ≡ bodyLength (getD bs at 0) → take (at + 1 + x - (at + 1)) (drop (at + 1) bs) ≡ bodyAt bs at
+pub body-same : (bs : List ℕ) (at x : ℕ) → x ≡ nextPlace bs at → take (x - (at + 1)) (drop (at + 1) bs) ≡ bodyAt bs at
 unfolding bodyAt
-body-same bs at x e = let q : at + 1 + x - (at + 1) ≡ bodyLength (getD bs at 0) = omega arith in ap (λ (m : ℕ). take m (drop (at + 1) bs)) q
+body-same bs at x e = let q : x - (at + 1) ≡ bodyLength (getD bs at 0) = omega (arith, next-record bs at) in ap (λ (m : ℕ). take m (drop (at + 1) bs)) q
 
 -- what holds where the scan stands at a field
 pub record InFields (bs s signers : List ℕ) (n : Tally) (at : ℕ) (body : List ℕ) (i offset : ℕ) : Type 0 where
@@ -301,9 +303,9 @@ module _ (bs s signers : List ℕ) (n : Tally) (at : ℕ) (body : List ℕ) (i o
     pub record-taken : (x : ℕ) (s′ signers′ : List ℕ) → x ≡ lastFault bs (view s) signers n (getD bs at 0) body → x ≡ 0 → length s′ ≡ length s
         → view s′ ≡ cond (eqb x 0) (columnsAfter bs (view s) n (getD bs at 0) body at) (view s)
         → signers′ ≡ cond (eqb x 0) (signersAfter signers (getD bs at 0) body) signers
-        → (n′ : Tally) → n′ ≡ counted (sectionOf (getD bs at 0)) n → (y : ℕ) → y ≡ bodyLength (getD bs at 0) → At bs s′ signers′ n′ (at + 1 + y)
+        → (n′ : Tally) → n′ ≡ counted (sectionOf (getD bs at 0)) n → (y : ℕ) → y ≡ nextPlace bs at → At bs s′ signers′ n′ y
     record-taken x s′ signers′ f z ls v k n′ c y b =
-        subst⁻¹ (λ (u : ℕ). At bs s′ signers′ n′ (at + 1 + u)) b
+        subst⁻¹ (At bs s′ signers′ n′) (b ∙ next-record bs at)
         (subst⁻¹ (λ (t : Tally). At bs s′ signers′ t (at + 1 + bodyLength (getD bs at 0))) c
         (at-next bs s signers n at (w .here) (w .more) (w .head) body i offset (w .bodyIs) (w .fields) all x s′ signers′ f z ls (ap length k ∙ keys-length (eqb x 0) signers (getD bs at 0) body) v k))
 

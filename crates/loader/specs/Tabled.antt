@@ -10,6 +10,7 @@ use Rattle.rules.specs.File.{File, halfIn}
 use Rattle.rules.specs.Load.{load, loaded, refused}
 use Rattle.tables.specs.Regions.{tableWords, Tables, tablesIn}
 use Rattle.index.specs.Indexed.{passes}
+use Rattle.lookup.specs.Commands.{commandsFrom}
 use Rattle.loader.specs.declared.Scanned.{Scanned}
 use Rattle.loader.specs.Describes.{signerOf, Describes}
 
@@ -26,13 +27,14 @@ pub record FillReady (bs s : List ℕ) : Type 0 where
   pub short : length bs ≤ fileLimit
   pub room : length s ≡ stateBytes
 
--- a file that loads: the state and the tables describe it
+-- a file that loads: the state and the tables describe it, and the first command's place is known
 pub record Filled (bs s tables : List ℕ) (r : Scanned) : Type 0 where
   pub file : File
   pub loads : load bs ≡ loaded file
   pub signers : List ℕ
   pub describes : Describes file bs s signers (r .tally) (length bs)
   pub tabled : Tabled file (tablesIn tables)
+  pub firstIs : r .first ≡ commandsFrom (length bs) bs 0
 
 -- what filling leaves: that, or the refusal with the state cleared
 abbrev pub FillResult : List ℕ → List ℕ → List ℕ → Scanned → Type 0

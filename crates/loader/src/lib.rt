@@ -13,6 +13,7 @@ ghost use Rattle.state.specs.View.{view};
 ghost use Rattle.tables.specs.Regions.{tableWords, tablesIn};
 ghost use Rattle.learning.specs.There.{termThere};
 ghost use Rattle.index.specs.Indexed.{Indexed};
+ghost use Rattle.lookup.specs.Commands.{commandsFrom};
 ghost use Rattle.loader.specs.Describes.{counted, EnterReady, lastFault, columnsAfter, signersAfter, ScanReady, ScanResult, CommandsReady, CommandsResult};
 ghost use Rattle.loader.specs.Tabled.{FillReady, FillResult, Signed};
 
@@ -24,10 +25,11 @@ pub struct Tally {
     pub commands: usize,
 }
 
-// What the scan of a file found: the refusal and its place, or 0; and the counts.
+// What the scan of a file found: the refusal and its place, or 0; the place of the first command's record, or the file's end; and the counts.
 pub struct Scanned {
     pub number: u8,
     pub place: usize,
+    pub first: usize,
     pub tally: Tally,
 }
 
@@ -104,6 +106,7 @@ fn enter(
 fn scan_commands(table: &[u32; 65], file: &[u8], state: &[u8], from: usize, n: Tally) -> Scanned
     requires { ⌜ CommandsReady (now file) (now state) (now table) n from ⌝ }
     ensures result { λ r. ⌜ CommandsResult (now (file .entry)) (now (state .entry)) n from r ⌝ }
+    ensures first { λ r. ⌜ r .first ≡ from ⌝ }
     ensures terms { λ r. ⌜ r .tally .terms ≡ n .terms ⌝ }
 {
     let parties = n.parties;
@@ -115,6 +118,7 @@ fn scan_commands(table: &[u32; 65], file: &[u8], state: &[u8], from: usize, n: T
             break 'records Scanned {
                 number: 0,
                 place: 0,
+                first: from,
                 tally: Tally {
                     section: 4,
                     parties: parties,
@@ -132,10 +136,11 @@ fn scan_commands(table: &[u32; 65], file: &[u8], state: &[u8], from: usize, n: T
             break 'records Scanned {
                 number: head,
                 place: at,
+                first: from,
                 tally: n,
             };
         }
-        let end = start + length;
+        let end = reader::next_place(file, at);
         let body = &file[start..end];
         let mut fields = records::fields_in(table, kind);
         let mut i: usize = 0;
@@ -150,6 +155,7 @@ fn scan_commands(table: &[u32; 65], file: &[u8], state: &[u8], from: usize, n: T
                 break 'records Scanned {
                     number: bad,
                     place: at,
+                    first: from,
                     tally: n,
                 };
             }
@@ -173,6 +179,7 @@ fn scan(
 ) -> Scanned
     requires { ⌜ ScanReady (now file) (now state) (now signers) × Indexed (now file) (view (now state) .place) (now links) (now keys) (now tables) 0 ⌝ }
     ensures result { λ r. ⌜ ScanResult (now (file .entry)) (now (state .exit)) (now (signers .exit)) r ⌝ }
+    ensures first { λ r. ⌜ (r .number ≡ 0 → r .first ≡ commandsFrom (length (now (file .entry))) (now (file .entry)) 0) ⌝ }
     ensures indexed { λ r. ⌜ (r .number ≡ 0 → Indexed (now (file .entry)) (view (now (state .exit)) .place) (now (links .exit)) (now (keys .exit)) (now (tables .exit)) (r .tally .terms)) ⌝ }
 {
     let table = records::field_table();
@@ -188,6 +195,7 @@ fn scan(
             break 'records Scanned {
                 number: 0,
                 place: 0,
+                first: at,
                 tally: n,
             };
         }
@@ -206,10 +214,11 @@ fn scan(
             break 'records Scanned {
                 number: head,
                 place: at,
+                first: 0,
                 tally: n,
             };
         }
-        let end = start + length;
+        let end = reader::next_place(file, at);
         let body = &file[start..end];
         let mut fields = records::fields_in(&table, kind);
         let mut i: usize = 0;
@@ -224,6 +233,7 @@ fn scan(
                 break 'records Scanned {
                     number: bad,
                     place: at,
+                    first: 0,
                     tally: n,
                 };
             }
@@ -248,6 +258,7 @@ fn scan(
             break 'records Scanned {
                 number: last,
                 place: at,
+                first: 0,
                 tally: n,
             };
         }

@@ -33,25 +33,22 @@ returns c =
     let p = c .before .before .before .before .before .before .before .before .before .before .before .before .before .pre in
     parts-refused (p .short) (c .before .before .before .fill .ensures) (c .before .before .before .before .before .before .before .before .before .before .before .before .before .args .n) _ _ _ (c .if1 .taken) (c .before .before .before .before .before .before .before .before .clear .ensures ∙ ap (λ (k : ℕ). replicate {A = ℕ} k 0) (p .places)) (p .clear)
 
-first-command-requires : tie.Need-first-command-requires
-first-command-requires c κs = search needs
-
 run-commands-requires : tie.Need-run-commands-requires
 run-commands-requires c κs =
-    let p = c .before .before .before .before .before .before .before .before .before .before .before .before .before .before .before .before .before .before .before .pre in
-    let x = c .before .before .before .before .before .before .before .before .before .fill in
-    let y = c .before .before .before .before .before .before .before .before .before .before .before .before .before .before .clear in
-    run-ready (x .ensures) (c .before .before .before .before .before .before .if1 .left) (p .short) (x .kept .1 .0 ∙ p .room) (now (c .before .before .before .before .before .before .before .before .before .before .before .before .before .before .before .before .before .before .before .args .words)) (p .clear) (y .last .0) (omega (arith, y .kept .0, p .places)) _ (c .before .before .before .before .first-command .ensures)
+    let p = c .before .before .before .before .before .before .before .before .before .before .before .before .before .before .before .before .before .before .pre in
+    let x = c .before .before .before .before .before .before .before .before .fill in
+    let y = c .before .before .before .before .before .before .before .before .before .before .before .before .before .clear in
+    run-ready (x .ensures) (c .before .before .before .before .before .if1 .left) (p .short) (x .kept .1 .0 ∙ p .room) (now (c .before .before .before .before .before .before .before .before .before .before .before .before .before .before .before .before .before .before .args .words)) (p .clear) (y .last .0) (omega (arith, y .kept .0, p .places))
 
 cast-t28 : tie.Need-cast-t28
 cast-t28 c =
-    let p = c .before .before .before .before .before .before .before .before .before .before .before .before .before .before .before .before .before .before .before .before .before .before .before .before .before .pre in
-    omega (arith, counts-fit (p .short) (c .before .before .before .before .before .before .before .before .before .before .before .before .before .before .before .fill .ensures) (c .before .before .before .before .before .before .before .before .before .before .before .before .if1 .left) (c .before .before .before .before .before .before .before .before .before .before .before .before .before .before .before .before .before .before .before .before .before .before .before .before .before .args .n) (c .before .before .before .before .before .before .before .before .before .before .before .before .before .before .before .before .before .before .before .before .clear .ensures ∙ ap (λ (k : ℕ). replicate {A = ℕ} k 0) (p .places)) (c .before .before .before .before .before .before .before .before .before .before .first-command .ensures) (c .before .before .before .before .before .run-commands .ensures))
+    let p = c .before .before .before .before .before .before .before .before .before .before .before .before .before .before .before .before .before .before .before .before .before .before .before .before .pre in
+    omega (arith, counts-fit (p .short) (c .before .before .before .before .before .before .before .before .before .before .before .before .before .before .fill .ensures) (c .before .before .before .before .before .before .before .before .before .before .before .if1 .left) (c .before .before .before .before .before .before .before .before .before .before .before .before .before .before .before .before .before .before .before .before .before .before .before .before .args .n) (c .before .before .before .before .before .before .before .before .before .before .before .before .before .before .before .before .before .before .before .clear .ensures ∙ ap (λ (k : ℕ). replicate {A = ℕ} k 0) (p .places)) (c .before .before .before .before .before .run-commands .ensures))
 
 cast-t29 : tie.Need-cast-t29
 cast-t29 c =
-    let p = c .before .before .before .before .before .before .before .before .before .before .before .before .before .before .before .before .before .before .before .before .before .before .before .before .before .before .pre in
-    omega (arith, counts-fit (p .short) (c .before .before .before .before .before .before .before .before .before .before .before .before .before .before .before .before .fill .ensures) (c .before .before .before .before .before .before .before .before .before .before .before .before .before .if1 .left) (c .before .before .before .before .before .before .before .before .before .before .before .before .before .before .before .before .before .before .before .before .before .before .before .before .before .before .args .n) (c .before .before .before .before .before .before .before .before .before .before .before .before .before .before .before .before .before .before .before .before .before .clear .ensures ∙ ap (λ (k : ℕ). replicate {A = ℕ} k 0) (p .places)) (c .before .before .before .before .before .before .before .before .before .before .before .first-command .ensures) (c .before .before .before .before .before .before .run-commands .ensures))
+    let p = c .before .before .before .before .before .before .before .before .before .before .before .before .before .before .before .before .before .before .before .before .before .before .before .before .before .pre in
+    omega (arith, counts-fit (p .short) (c .before .before .before .before .before .before .before .before .before .before .before .before .before .before .before .fill .ensures) (c .before .before .before .before .before .before .before .before .before .before .before .before .if1 .left) (c .before .before .before .before .before .before .before .before .before .before .before .before .before .before .before .before .before .before .before .before .before .before .before .before .before .args .n) (c .before .before .before .before .before .before .before .before .before .before .before .before .before .before .before .before .before .before .before .before .clear .ensures ∙ ap (λ (k : ℕ). replicate {A = ℕ} k 0) (p .places)) (c .before .before .before .before .before .before .run-commands .ensures))
 
 cast-t30 : tie.Need-cast-t30
 cast-t30 c = search needs
@@ -64,8 +61,8 @@ same-length-4 c = search needs
 
 returns-2 : tie.Need-returns-2
 returns-2 c =
-    let p = c .before .before .before .before .before .before .before .before .before .before .before .before .before .before .before .before .before .before .before .before .before .before .before .before .before .before .before .pre in
-    parts-ran (p .short) (c .before .before .before .before .before .before .before .before .before .before .before .before .before .before .before .before .before .fill .ensures) (c .before .before .before .before .before .before .before .before .before .before .before .before .before .before .if1 .left) (c .before .before .before .before .before .before .before .before .before .before .before .before .before .before .before .before .before .before .before .before .before .before .before .before .before .before .before .args .n) (c .before .before .before .before .before .before .before .before .before .before .before .before .before .before .before .before .before .before .before .before .before .before .clear .ensures ∙ ap (λ (k : ℕ). replicate {A = ℕ} k 0) (p .places)) (c .before .before .before .before .before .before .before .before .before .before .before .before .first-command .ensures) (c .before .before .before .before .before .before .before .run-commands .ensures)
+    let p = c .before .before .before .before .before .before .before .before .before .before .before .before .before .before .before .before .before .before .before .before .before .before .before .before .before .before .pre in
+    parts-ran (p .short) (c .before .before .before .before .before .before .before .before .before .before .before .before .before .before .before .before .fill .ensures) (c .before .before .before .before .before .before .before .before .before .before .before .before .before .if1 .left) (c .before .before .before .before .before .before .before .before .before .before .before .before .before .before .before .before .before .before .before .before .before .before .before .before .before .before .args .n) (c .before .before .before .before .before .before .before .before .before .before .before .before .before .before .before .before .before .before .before .before .before .clear .ensures ∙ ap (λ (k : ℕ). replicate {A = ℕ} k 0) (p .places)) (c .before .before .before .before .before .before .before .run-commands .ensures)
     (λ i. c .before .before .before .before .before .slice-known5 .given i .fits)
 
 pub run-parts-spec : {M : Type 1} → statement M
@@ -79,7 +76,6 @@ run-parts-spec =
     same-length
     same-length-2
     returns
-    first-command-requires
     run-commands-requires
     cast-t28
     cast-t29

@@ -26,7 +26,7 @@ returns c =
     fill-refused _ _ _ _ (t .ensures .0) (now (c .before .before .before .before .before .before .before .before .before .before .before .before .before .before .before .before .before .before .before .before .args .state)) _ _ (c .before .before .before .before .if1 .taken) (c .before .before .clear2 .ensures) (t .kept .1 .0 ∙ c .before .before .before .before .before .before .before .before .before .before .before .before .before .before .before .clear .kept .0) (c .before .before .before .before .before .before .before .before .before .before .before .before .before .before .before .before .before .before .before .before .pre .room)
 
 note-signers-requires : tie.Need-note-signers-requires
-note-signers-requires c κs = c .before .before .before .before .before .scan .ensures .1 (c .before .before .if1 .left) .words
+note-signers-requires c κs = c .before .before .before .before .before .scan .ensures .1 .1 (c .before .before .if1 .left) .words
 
 same-length-2 : tie.Need-same-length-2
 same-length-2 c = search needs
@@ -35,7 +35,7 @@ returns-2 : tie.Need-returns-2
 returns-2 c =
     let t = c .before .before .before .before .before .before .scan in
     let z = c .before .before .before .if1 .left in
-    fill-loaded _ _ _ _ (t .ensures .0) _ _ _ _ (t .ensures .1 z) (c .note-signers .ensures) z
+    fill-loaded _ _ _ _ (t .ensures .0) _ _ _ _ (t .ensures .1 .1 z) (c .note-signers .ensures) (t .ensures .1 .0) z
 
 pub fill-spec : {M : Type 1} → statement M
 fill-spec =

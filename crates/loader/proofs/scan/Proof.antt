@@ -1,13 +1,13 @@
--- `loader::scan` meets its contract. The outer invariant: the file declared by the records before `at` is described, its terms are indexed, and feeding it
--- the pieces from `at` on is loading the file. The inner one: the fields so far are right, and the rest is what is left. Assumes nothing.
+-- `loader::scan` meets its contract. The outer invariant: the file declared by the records before `at` is described, its terms are indexed, feeding it
+-- the pieces from `at` on is loading the file, and the first command is the first from `at` on. The inner one: the fields so far are right, and the rest is what is left. Assumes nothing.
 use mathlib.Core.Path.{_≡_, refl, sym, ap, subst⁻¹, _∙_}
 use mathlib.Core.Logic.{⊎-elim}
 use mathlib.Core.List.{List}
-use Prim.Native.Nat.{ℕ, _+_, _-_, _≤_}
+use Prim.Native.Nat.{ℕ, _+_, _-_, _<_, _≤_}
 use native.Mathlib.Omega.{arith}
 use borrow.Author.Needs.{needs}
 use lib.ListN.{length, getD, drop}
-use Rattle.rules.specs.Record.{fieldsOf}
+use Rattle.rules.specs.Record.{sectionOf, fieldsOf, commandSection}
 use Rattle.rules.specs.Load.{termAt}
 use Rattle.records.specs.Codes.{packed}
 use Rattle.records.proofs.Lengths.{few-fields}
@@ -16,6 +16,10 @@ use Rattle.state.specs.View.{view}
 use Rattle.learning.specs.There.{termThere}
 use Rattle.index.specs.Indexed.{Indexed}
 use Rattle.theorems.proofs.Pieces.{bodyAt}
+use Rattle.reader.specs.Place.{nextPlace}
+use Rattle.reader.proofs.Places.{place-is, place-later, record-at}
+use Rattle.lookup.specs.Commands.{commandsFrom}
+use Rattle.lookup.proofs.Commands.{commands-end, commands-here, commands-later}
 use Rattle.loader.specs.declared.Tally.{Tally}
 use Rattle.loader.specs.Describes.{counted, At}
 use Rattle.loader.proofs.Scanning.{head-is, at-start, at-end, at-head, fits, fields-start, InFields, body-same, field-ready, field-small, field-refused, field-passed, enter-asks, last-refused, record-taken, counts-small}
@@ -36,6 +40,15 @@ indexed-terms {bs} {place} {links} {keys} {tables} e i = subst⁻¹ (Indexed bs 
 indexed-counted : {bs : List ℕ} {place : ℕ → ℕ} {links keys tables : List ℕ} {n m : Tally} → m ≡ n → Indexed bs place links keys tables (n .terms) → Indexed bs place links keys tables (m .terms)
 indexed-counted e i = indexed-terms (ap (λ (t : Tally). t .terms) e) i
 
+-- the first command's place, where the file ends
+at-the-end : (bs : List ℕ) (at : ℕ) → at ≤ length bs → length bs ≤ at → commandsFrom (length bs) bs at ≡ commandsFrom (length bs) bs 0 → at ≡ commandsFrom (length bs) bs 0
+at-the-end bs at i h e = let q : at ≡ length bs = omega arith in q ∙ sym (commands-end bs at h) ∙ e
+
+-- and where a record that is no command's is passed
+passed : (bs : List ℕ) (at : ℕ) {next own : ℕ} → next ≡ nextPlace bs at → at < length bs → own ≡ sectionOf (getD bs at 0) → (own ≡ commandSection → ⊥)
+    → commandsFrom (length bs) bs at ≡ commandsFrom (length bs) bs 0 → commandsFrom (length bs) bs next ≡ commandsFrom (length bs) bs 0
+passed bs at n h o s e = ap (commandsFrom (length bs) bs) n ∙ sym (commands-later bs at h (λ q. s (o ∙ q))) ∙ e
+
 abbrev Inv-loop : tie.InvT-loop
 Inv-loop file state signers links keys tables table at n kind start own section parties terms length head end body fields₀ i₀ offset₀ fields i offset =
     InFields file state signers n at body i offset × (fields ≡ packed (drop i (fieldsOf (getD file at 0))))
@@ -45,7 +58,7 @@ abbrev μ-loop : tie.MeasureT-loop
 
 abbrev Inv-records : tie.InvT-records
 Inv-records file state₀ signers₀ links₀ keys₀ tables₀ table at₀ n₀ state signers links keys tables at n =
-    (length state ≡ length state₀) × At file state signers n at × Indexed file (view state .place) links keys tables (n .terms)
+    (length state ≡ length state₀) × At file state signers n at × Indexed file (view state .place) links keys tables (n .terms) × (commandsFrom (length file) file at ≡ commandsFrom (length file) file 0)
 
 abbrev μ-records : tie.MeasureT-records
 μ-records file state₀ signers₀ links₀ keys₀ tables₀ table at₀ n₀ state signers links keys tables at n = length file - at
@@ -54,7 +67,7 @@ field-table-requires : tie.Need-field-table-requires Inv-loop μ-loop Inv-record
 field-table-requires c κs = search needs
 
 records-holds : tie.Need-records-holds Inv-loop μ-loop Inv-records μ-records
-records-holds c = (refl, at-start _ _ _ (c .before .before .before .pre .0), c .before .before .before .pre .1)
+records-holds c = (refl, at-start _ _ _ (c .before .before .before .pre .0), c .before .before .before .pre .1, refl)
 
 shared-slice-read-kind : tie.Need-shared-slice-read-kind Inv-loop μ-loop Inv-records μ-records
 shared-slice-read-kind c = search needs
@@ -79,31 +92,31 @@ sub-head-fault c = omega arith
 head-fault-requires : tie.Need-head-fault-requires Inv-loop μ-loop Inv-records μ-records
 head-fault-requires c κs = search needs
 
-add-end : tie.Need-add-end Inv-loop μ-loop Inv-records μ-records
-add-end c =
+next-place-requires : tie.Need-next-place-requires Inv-loop μ-loop Inv-records μ-records
+next-place-requires c κs =
     let a = c .before .before .before .before .before .before .before .records .inv .1 in
-    omega (arith, a .short, fits _ _ _ _ _ a (c .before .before .before .before .before .before .if1 .left) (sym (head-is _ _ _ _ _ (c .before .before .before .before .section-of .ensures) (c .before .before .body-length .ensures) (c .before .head-fault .ensures)) ∙ c .if3 .left), c .before .before .body-length .ensures)
+    record-at _ _ (fits _ _ _ _ _ a (c .before .before .before .before .before .before .if1 .left) (sym (head-is _ _ _ _ _ (c .before .before .before .before .section-of .ensures) (c .before .before .body-length .ensures) (c .before .head-fault .ensures)) ∙ c .if3 .left))
 
 sub-body : tie.Need-sub-body Inv-loop μ-loop Inv-records μ-records
-sub-body c = omega arith
+sub-body c = omega (arith, place-later _ _ _ (c .next-place .ensures))
 
 part-body-start : tie.Need-part-body-start Inv-loop μ-loop Inv-records μ-records
-part-body-start c = search needs
+part-body-start c = omega (arith, place-later _ _ _ (c .next-place .ensures))
 
 part-body-end : tie.Need-part-body-end Inv-loop μ-loop Inv-records μ-records
 part-body-end c =
-    let a = c .before .before .before .before .before .before .before .records .inv .1 in
-    omega (arith, fits _ _ _ _ _ a (c .before .before .before .before .before .before .if1 .left) (sym (head-is _ _ _ _ _ (c .before .before .before .before .section-of .ensures) (c .before .before .body-length .ensures) (c .before .head-fault .ensures)) ∙ c .if3 .left), c .before .before .body-length .ensures)
+    let a = c .before .before .before .before .before .before .before .before .records .inv .1 in
+    omega (arith, fits _ _ _ _ _ a (c .before .before .before .before .before .before .before .if1 .left) (sym (head-is _ _ _ _ _ (c .before .before .before .before .before .section-of .ensures) (c .before .before .before .body-length .ensures) (c .before .before .head-fault .ensures)) ∙ c .before .if3 .left), place-is _ _ _ (c .next-place .ensures))
 
 fields-in-requires : tie.Need-fields-in-requires Inv-loop μ-loop Inv-records μ-records
 fields-in-requires c κs = search needs
 
 loop-holds : tie.Need-loop-holds Inv-loop μ-loop Inv-records μ-records
 loop-holds c =
-    let a = c .before .before .before .before .before .before .before .before .before .before .records .inv .1 in
-    let l = c .before .before .before .before .before .before .before .before .before .if1 .left in
-    let z = sym (head-is _ _ _ _ _ (c .before .before .before .before .before .before .before .section-of .ensures) (c .before .before .before .before .before .body-length .ensures) (c .before .before .before .before .head-fault .ensures)) ∙ c .before .before .before .if3 .left in
-    (record { here = a; more = l; head = z; bodyIs = body-same _ _ _ (c .before .before .before .before .before .body-length .ensures); fields = fields-start _ _ _ _ _ a l z _ }, c .fields-in .ensures)
+    let a = c .before .before .before .before .before .before .before .before .before .before .before .records .inv .1 in
+    let l = c .before .before .before .before .before .before .before .before .before .before .if1 .left in
+    let z = sym (head-is _ _ _ _ _ (c .before .before .before .before .before .before .before .before .section-of .ensures) (c .before .before .before .before .before .before .body-length .ensures) (c .before .before .before .before .before .head-fault .ensures)) ∙ c .before .before .before .before .if3 .left in
+    (record { here = a; more = l; head = z; bodyIs = body-same _ _ _ (c .before .before .before .next-place .ensures); fields = fields-start _ _ _ _ _ a l z _ }, c .fields-in .ensures)
 
 low-field-requires : tie.Need-low-field-requires Inv-loop μ-loop Inv-records μ-records
 low-field-requires c κs = search needs
@@ -138,61 +151,70 @@ loop-again c =
 enter-requires : tie.Need-enter-requires Inv-loop μ-loop Inv-records μ-records
 enter-requires c κs =
     let w = c .before .before .before .before .before .before .loop .inv .0 in
-    let l : length (fieldsOf (getD (c .before .before .before .before .before .before .before .before .before .before .before .before .before .before .before .before .before .before .before .before .before .args .file .now) (c .before .before .before .before .before .before .before .before .before .before .before .before .before .before .before .before .before .records .at) 0)) ≤ c .before .before .before .before .before .before .loop .i = ⊎-elim (λ u. omega (arith, few-fields (getD (c .before .before .before .before .before .before .before .before .before .before .before .before .before .before .before .before .before .before .before .before .before .args .file .now) (c .before .before .before .before .before .before .before .before .before .before .before .before .before .before .before .before .before .records .at) 0), u .left)) (λ u. none-left _ _ _ (c .before .before .before .before .before .before .loop .inv .1) (u .0 .taken) (u .1 .taken)) (c .before .before .before .before .before .loop-test .came) in
-    (c .before .before .before .before .before .before .before .before .before .before .before .before .before .before .section-of .ensures, enter-asks _ _ _ _ _ _ _ _ w _ refl l, c .before .before .before .before .before .before .before .before .before .before .before .before .before .before .before .before .before .records .inv .2, refl, body-stands _ _ _ (w .bodyIs))
+    let l : length (fieldsOf (getD (c .before .before .before .before .before .before .before .before .before .before .before .before .before .before .before .before .before .before .before .before .before .before .args .file .now) (c .before .before .before .before .before .before .before .before .before .before .before .before .before .before .before .before .before .before .records .at) 0)) ≤ c .before .before .before .before .before .before .loop .i = ⊎-elim (λ u. omega (arith, few-fields (getD (c .before .before .before .before .before .before .before .before .before .before .before .before .before .before .before .before .before .before .before .before .before .before .args .file .now) (c .before .before .before .before .before .before .before .before .before .before .before .before .before .before .before .before .before .before .records .at) 0), u .left)) (λ u. none-left _ _ _ (c .before .before .before .before .before .before .loop .inv .1) (u .0 .taken) (u .1 .taken)) (c .before .before .before .before .before .loop-test .came) in
+    (c .before .before .before .before .before .before .before .before .before .before .before .before .before .before .before .section-of .ensures, enter-asks _ _ _ _ _ _ _ _ w _ refl l, c .before .before .before .before .before .before .before .before .before .before .before .before .before .before .before .before .before .before .records .inv .2, refl, body-stands _ _ _ (w .bodyIs))
 
 count-requires : tie.Need-count-requires Inv-loop μ-loop Inv-records μ-records
-count-requires c κs = counts-small _ _ _ _ _ (c .before .before .before .before .before .before .before .before .before .before .before .before .before .before .before .before .before .before .before .before .before .records .inv .1)
+count-requires c κs = counts-small _ _ _ _ _ (c .before .before .before .before .before .before .before .before .before .before .before .before .before .before .before .before .before .before .before .before .before .before .records .inv .1)
 
 records-less : tie.Need-records-less Inv-loop μ-loop Inv-records μ-records
-records-less c = omega (arith, c .before .before .before .before .before .before .before .before .before .before .before .before .before .before .before .before .before .before .before .before .before .if1 .left)
+records-less c = omega (arith, c .before .before .before .before .before .before .before .before .before .before .before .before .before .before .before .before .before .before .before .before .before .before .if1 .left, place-later _ _ _ (c .before .before .before .before .before .before .before .before .before .before .before .before .before .before .before .next-place .ensures))
 
 records-again : tie.Need-records-again Inv-loop μ-loop Inv-records μ-records
 records-again c =
     let w = c .before .before .before .before .before .before .before .before .before .before .before .loop .inv .0 in
-    let l : length (fieldsOf (getD (c .before .before .before .before .before .before .before .before .before .before .before .before .before .before .before .before .before .before .before .before .before .before .before .before .before .before .args .file .now) (c .before .before .before .before .before .before .before .before .before .before .before .before .before .before .before .before .before .before .before .before .before .before .records .at) 0)) ≤ c .before .before .before .before .before .before .before .before .before .before .before .loop .i = ⊎-elim (λ u. omega (arith, few-fields (getD (c .before .before .before .before .before .before .before .before .before .before .before .before .before .before .before .before .before .before .before .before .before .before .before .before .before .before .args .file .now) (c .before .before .before .before .before .before .before .before .before .before .before .before .before .before .before .before .before .before .before .before .before .before .records .at) 0), u .left)) (λ u. none-left _ _ _ (c .before .before .before .before .before .before .before .before .before .before .before .loop .inv .1) (u .0 .taken) (u .1 .taken)) (c .before .before .before .before .before .before .before .before .before .before .loop-test .came) in
+    let l : length (fieldsOf (getD (c .before .before .before .before .before .before .before .before .before .before .before .before .before .before .before .before .before .before .before .before .before .before .before .before .before .before .before .args .file .now) (c .before .before .before .before .before .before .before .before .before .before .before .before .before .before .before .before .before .before .before .before .before .before .before .records .at) 0)) ≤ c .before .before .before .before .before .before .before .before .before .before .before .loop .i = ⊎-elim (λ u. omega (arith, few-fields (getD (c .before .before .before .before .before .before .before .before .before .before .before .before .before .before .before .before .before .before .before .before .before .before .before .before .before .before .before .args .file .now) (c .before .before .before .before .before .before .before .before .before .before .before .before .before .before .before .before .before .before .before .before .before .before .before .records .at) 0), u .left)) (λ u. none-left _ _ _ (c .before .before .before .before .before .before .before .before .before .before .before .loop .inv .1) (u .0 .taken) (u .1 .taken)) (c .before .before .before .before .before .before .before .before .before .before .loop-test .came) in
     let e = c .before .before .before .before .enter in
-    let k = c .count .ensures ∙ ap (λ (own : ℕ). counted own (c .before .before .before .before .before .before .before .before .before .before .before .before .before .before .before .before .before .before .before .before .before .before .records .n)) (c .before .before .before .before .before .before .before .before .before .before .before .before .before .before .before .before .before .before .before .section-of .ensures) in (
-      e .kept .1 .0 ∙ c .before .before .before .before .before .before .before .before .before .before .before .before .before .before .before .before .before .before .before .before .before .before .records .inv .0,
-      record-taken _ _ _ _ _ _ _ _ w _ refl l _ _ _ (e .ensures .0) (c .before .if6 .left) (e .kept .1 .0) (e .ensures .1 .0) (e .ensures .1 .1 .0) _ k _ (c .before .before .before .before .before .before .before .before .before .before .before .before .before .before .before .before .before .body-length .ensures),
+    let k = c .count .ensures ∙ ap (λ (own : ℕ). counted own (c .before .before .before .before .before .before .before .before .before .before .before .before .before .before .before .before .before .before .before .before .before .before .before .records .n)) (c .before .before .before .before .before .before .before .before .before .before .before .before .before .before .before .before .before .before .before .before .section-of .ensures) in (
+      e .kept .1 .0 ∙ c .before .before .before .before .before .before .before .before .before .before .before .before .before .before .before .before .before .before .before .before .before .before .before .records .inv .0,
+      record-taken _ _ _ _ _ _ _ _ w _ refl l _ _ _ (e .ensures .0) (c .before .if6 .left) (e .kept .1 .0) (e .ensures .1 .0) (e .ensures .1 .1 .0) _ k _ (c .before .before .before .before .before .before .before .before .before .before .before .before .before .before .before .next-place .ensures),
       indexed-counted (c .count .ensures) (e .ensures .1 .1 .1 (c .before .if6 .left)),
+      passed (c .before .before .before .before .before .before .before .before .before .before .before .before .before .before .before .before .before .before .before .before .before .before .before .before .before .before .before .args .file .now) (c .before .before .before .before .before .before .before .before .before .before .before .before .before .before .before .before .before .before .before .before .before .before .before .records .at) (c .before .before .before .before .before .before .before .before .before .before .before .before .before .before .before .next-place .ensures) (c .before .before .before .before .before .before .before .before .before .before .before .before .before .before .before .before .before .before .before .before .before .before .if1 .left) (c .before .before .before .before .before .before .before .before .before .before .before .before .before .before .before .before .before .before .before .before .section-of .ensures) (c .before .before .before .before .before .before .before .before .before .before .before .before .before .before .before .before .before .before .before .if2 .left) (c .before .before .before .before .before .before .before .before .before .before .before .before .before .before .before .before .before .before .before .before .before .before .before .records .inv .3),
     )
 
 same-length : tie.Need-same-length Inv-loop μ-loop Inv-records μ-records
 same-length c = c .before .records .inv .0
 
 returns : tie.Need-returns Inv-loop μ-loop Inv-records μ-records
-returns c = (at-end _ _ _ _ _ (c .before .records .inv .1) (c .if1 .taken), λ _. c .before .records .inv .2)
+returns c = (at-end _ _ _ _ _ (c .before .records .inv .1) (c .if1 .taken), (λ _. at-the-end (c .before .before .before .before .before .args .file .now) (c .before .records .at) (c .before .records .inv .1 .inside) (c .if1 .taken) (c .before .records .inv .3), λ _. c .before .records .inv .2))
 
 same-length-2 : tie.Need-same-length-2 Inv-loop μ-loop Inv-records μ-records
 same-length-2 c = c .before .before .before .before .before .before .before .records .inv .0
 
 returns-2 : tie.Need-returns-2 Inv-loop μ-loop Inv-records μ-records
-returns-2 c = (c .scan-commands .ensures .0 _ (c .before .before .before .before .before .before .before .records .inv .1), λ _. indexed-terms (c .scan-commands .ensures .1) (c .before .before .before .before .before .before .before .records .inv .2))
+returns-2 c =
+    let bs = c .before .before .before .before .before .before .before .before .before .before .before .args .file .now in
+    let place = c .before .before .before .before .before .before .before .records .at in (
+      c .scan-commands .ensures .0 _ (c .before .before .before .before .before .before .before .records .inv .1),
+      (
+        λ _. c .scan-commands .ensures .1 .0 ∙ sym (commands-here bs place (c .before .before .before .before .before .before .if1 .left) (sym (c .before .before .before .before .section-of .ensures) ∙ c .before .before .before .if2 .taken)) ∙ c .before .before .before .before .before .before .before .records .inv .3,
+        λ _. indexed-terms (c .scan-commands .ensures .1 .1) (c .before .before .before .before .before .before .before .records .inv .2),
+      ),
+    )
 
 same-length-3 : tie.Need-same-length-3 Inv-loop μ-loop Inv-records μ-records
 same-length-3 c = c .before .before .before .before .before .before .before .records .inv .0
 
 returns-3 : tie.Need-returns-3 Inv-loop μ-loop Inv-records μ-records
-returns-3 c = (at-head _ _ _ _ _ (c .before .before .before .before .before .before .before .records .inv .1) (c .before .before .before .before .before .before .if1 .left) _ (head-is _ _ _ _ _ (c .before .before .before .before .section-of .ensures) (c .before .before .body-length .ensures) (c .before .head-fault .ensures)) (c .if3 .taken), λ z. absurd (c .if3 .taken z))
+returns-3 c = (at-head _ _ _ _ _ (c .before .before .before .before .before .before .before .records .inv .1) (c .before .before .before .before .before .before .if1 .left) _ (head-is _ _ _ _ _ (c .before .before .before .before .section-of .ensures) (c .before .before .body-length .ensures) (c .before .head-fault .ensures)) (c .if3 .taken), (λ z. absurd (c .if3 .taken z), λ z. absurd (c .if3 .taken z)))
 
 same-length-4 : tie.Need-same-length-4 Inv-loop μ-loop Inv-records μ-records
-same-length-4 c = c .before .before .before .before .before .before .before .before .before .before .before .before .before .before .before .before .before .records .inv .0
+same-length-4 c = c .before .before .before .before .before .before .before .before .before .before .before .before .before .before .before .before .before .before .records .inv .0
 
 returns-4 : tie.Need-returns-4 Inv-loop μ-loop Inv-records μ-records
 returns-4 c =
     let w = c .before .before .before .before .before .before .loop .inv .0 in
     let l = field-left _ _ _ (c .before .before .before .before .before .before .loop .inv .1) (c .before .before .before .before .before .loop-test .taken) (c .before .before .before .before .if4 .left) in
-    (field-refused _ _ _ _ _ _ _ _ w _ refl (l .0) _ (c .before .before .before .low-field .ensures ∙ l .1) _ (c .before .field-fault .ensures) (c .if5 .taken), λ z. absurd (c .if5 .taken z))
+    (field-refused _ _ _ _ _ _ _ _ w _ refl (l .0) _ (c .before .before .before .low-field .ensures ∙ l .1) _ (c .before .field-fault .ensures) (c .if5 .taken), (λ z. absurd (c .if5 .taken z), λ z. absurd (c .if5 .taken z)))
 
 same-length-5 : tie.Need-same-length-5 Inv-loop μ-loop Inv-records μ-records
-same-length-5 c = c .before .before .before .enter .kept .1 .0 ∙ c .before .before .before .before .before .before .before .before .before .before .before .before .before .before .before .before .before .before .before .before .before .records .inv .0
+same-length-5 c = c .before .before .before .enter .kept .1 .0 ∙ c .before .before .before .before .before .before .before .before .before .before .before .before .before .before .before .before .before .before .before .before .before .before .records .inv .0
 
 returns-5 : tie.Need-returns-5 Inv-loop μ-loop Inv-records μ-records
 returns-5 c =
     let w = c .before .before .before .before .before .before .before .before .before .before .loop .inv .0 in
-    let l : length (fieldsOf (getD (c .before .before .before .before .before .before .before .before .before .before .before .before .before .before .before .before .before .before .before .before .before .before .before .before .before .args .file .now) (c .before .before .before .before .before .before .before .before .before .before .before .before .before .before .before .before .before .before .before .before .before .records .at) 0)) ≤ c .before .before .before .before .before .before .before .before .before .before .loop .i = ⊎-elim (λ u. omega (arith, few-fields (getD (c .before .before .before .before .before .before .before .before .before .before .before .before .before .before .before .before .before .before .before .before .before .before .before .before .before .args .file .now) (c .before .before .before .before .before .before .before .before .before .before .before .before .before .before .before .before .before .before .before .before .before .records .at) 0), u .left)) (λ u. none-left _ _ _ (c .before .before .before .before .before .before .before .before .before .before .loop .inv .1) (u .0 .taken) (u .1 .taken)) (c .before .before .before .before .before .before .before .before .before .loop-test .came) in
-    (last-refused _ _ _ _ _ _ _ _ w _ refl l _ _ _ (c .before .before .before .enter .ensures .0) (c .if6 .taken), λ z. absurd (c .if6 .taken z))
+    let l : length (fieldsOf (getD (c .before .before .before .before .before .before .before .before .before .before .before .before .before .before .before .before .before .before .before .before .before .before .before .before .before .before .args .file .now) (c .before .before .before .before .before .before .before .before .before .before .before .before .before .before .before .before .before .before .before .before .before .before .records .at) 0)) ≤ c .before .before .before .before .before .before .before .before .before .before .loop .i = ⊎-elim (λ u. omega (arith, few-fields (getD (c .before .before .before .before .before .before .before .before .before .before .before .before .before .before .before .before .before .before .before .before .before .before .before .before .before .before .args .file .now) (c .before .before .before .before .before .before .before .before .before .before .before .before .before .before .before .before .before .before .before .before .before .before .records .at) 0), u .left)) (λ u. none-left _ _ _ (c .before .before .before .before .before .before .before .before .before .before .loop .inv .1) (u .0 .taken) (u .1 .taken)) (c .before .before .before .before .before .before .before .before .before .loop-test .came) in
+    (last-refused _ _ _ _ _ _ _ _ w _ refl l _ _ _ (c .before .before .before .enter .ensures .0) (c .if6 .taken), (λ z. absurd (c .if6 .taken z), λ z. absurd (c .if6 .taken z)))
 
 pub scan-spec : {M : Type 1} → statement M
 scan-spec =
@@ -211,7 +233,7 @@ scan-spec =
     body-length-requires
     sub-head-fault
     head-fault-requires
-    add-end
+    next-place-requires
     sub-body
     part-body-start
     part-body-end

@@ -9,6 +9,7 @@ use Rattle.rules.specs.Record.{fieldsOf}
 use Rattle.records.specs.Codes.{packed}
 use Rattle.records.proofs.Lengths.{few-fields}
 use Rattle.records.proofs.Packed.{field-left, field-next, none-left}
+use Rattle.reader.proofs.Places.{place-is, place-later, record-at}
 use Rattle.loader.proofs.Scanning.{body-same}
 use Rattle.loader.proofs.Commands.{Standing, standing-start, standing-end, standing-head, command-here, AtField, field-first, command-fits, terms-there, field-inside, field-near, field-stops, field-passes, standing-next}
 use Rattle.loader.proofs.scan_commands.Statement.{statement}
@@ -50,30 +51,29 @@ sub-head-fault c = omega arith
 head-fault-requires : tie.Need-head-fault-requires Inv-loop μ-loop Inv-records μ-records
 head-fault-requires c κs = search needs
 
-add-end : tie.Need-add-end Inv-loop μ-loop Inv-records μ-records
-add-end c =
+next-place-requires : tie.Need-next-place-requires Inv-loop μ-loop Inv-records μ-records
+next-place-requires c κs =
     let r = c .before .before .before .before .before .before .before .before .before .pre in
-    let f = command-fits (c .before .before .before .before .before .before .records .inv) (c .before .before .before .before .before .if1 .left) (c .before .before .before .section-of .ensures) (c .before .before .body-length .ensures) (c .before .head-fault .ensures) (c .if2 .left) (r .signers) (r .here) in
-    omega (arith, r .here .short, f, c .before .before .body-length .ensures)
+    record-at _ _ (command-fits (c .before .before .before .before .before .before .records .inv) (c .before .before .before .before .before .if1 .left) (c .before .before .before .section-of .ensures) (c .before .before .body-length .ensures) (c .before .head-fault .ensures) (c .if2 .left) (r .signers) (r .here))
 
 sub-body : tie.Need-sub-body Inv-loop μ-loop Inv-records μ-records
-sub-body c = omega arith
+sub-body c = omega (arith, place-later _ _ _ (c .next-place .ensures))
 
 part-body-start : tie.Need-part-body-start Inv-loop μ-loop Inv-records μ-records
-part-body-start c = search needs
+part-body-start c = omega (arith, place-later _ _ _ (c .next-place .ensures))
 
 part-body-end : tie.Need-part-body-end Inv-loop μ-loop Inv-records μ-records
 part-body-end c =
-    let r = c .before .before .before .before .before .before .before .before .before .pre in
-    let f = command-fits (c .before .before .before .before .before .before .records .inv) (c .before .before .before .before .before .if1 .left) (c .before .before .before .section-of .ensures) (c .before .before .body-length .ensures) (c .before .head-fault .ensures) (c .if2 .left) (r .signers) (r .here) in
-    omega (arith, f, c .before .before .body-length .ensures)
+    let r = c .before .before .before .before .before .before .before .before .before .before .pre in
+    let f = command-fits (c .before .before .before .before .before .before .before .records .inv) (c .before .before .before .before .before .before .if1 .left) (c .before .before .before .before .section-of .ensures) (c .before .before .before .body-length .ensures) (c .before .before .head-fault .ensures) (c .before .if2 .left) (r .signers) (r .here) in
+    omega (arith, f, place-is _ _ _ (c .next-place .ensures))
 
 fields-in-requires : tie.Need-fields-in-requires Inv-loop μ-loop Inv-records μ-records
 fields-in-requires c κs = search needs
 
 loop-holds : tie.Need-loop-holds Inv-loop μ-loop Inv-records μ-records
 loop-holds c =
-    (field-first (c .before .before .before .before .before .before .before .before .records .inv) (c .before .before .before .before .before .before .before .if1 .left) (c .before .before .before .before .before .section-of .ensures) (c .before .before .before .before .body-length .ensures) (c .before .before .before .head-fault .ensures) (c .before .before .if2 .left) (body-same _ _ _ (c .before .before .before .before .body-length .ensures)), c .fields-in .ensures)
+    (field-first (c .before .before .before .before .before .before .before .before .before .records .inv) (c .before .before .before .before .before .before .before .before .if1 .left) (c .before .before .before .before .before .before .section-of .ensures) (c .before .before .before .before .before .body-length .ensures) (c .before .before .before .before .head-fault .ensures) (c .before .before .before .if2 .left) (body-same _ _ _ (c .before .before .next-place .ensures)), c .fields-in .ensures)
 
 low-field-requires : tie.Need-low-field-requires Inv-loop μ-loop Inv-records μ-records
 low-field-requires c κs = search needs
@@ -81,7 +81,7 @@ low-field-requires c κs = search needs
 command-fault-requires : tie.Need-command-fault-requires Inv-loop μ-loop Inv-records μ-records
 command-fault-requires c κs =
     let w = c .before .before .before .loop .inv .0 in
-    let a = c .before .before .before .before .before .before .before .before .before .before .before .before .before .before .before .pre .here in
+    let a = c .before .before .before .before .before .before .before .before .before .before .before .before .before .before .before .before .pre .here in
     let l = field-left _ _ _ (c .before .before .before .loop .inv .1) (c .before .before .loop-test .taken) (c .before .if3 .left) in
     (terms-there w a, field-inside w a (l .0) (c .low-field .ensures ∙ l .1))
 
@@ -91,7 +91,7 @@ width-requires c κs = search needs
 add-offset : tie.Need-add-offset Inv-loop μ-loop Inv-records μ-records
 add-offset c =
     let w = c .before .before .before .before .before .before .loop .inv .0 in
-    let a = c .before .before .before .before .before .before .before .before .before .before .before .before .before .before .before .before .before .before .pre .here in
+    let a = c .before .before .before .before .before .before .before .before .before .before .before .before .before .before .before .before .before .before .before .pre .here in
     let l = field-left _ _ _ (c .before .before .before .before .before .before .loop .inv .1) (c .before .before .before .before .before .loop-test .taken) (c .before .before .before .before .if3 .left) in
     omega (arith, field-near w a (l .0) (c .before .before .before .low-field .ensures ∙ l .1), c .width .ensures)
 
@@ -104,40 +104,39 @@ loop-less c = omega arith
 loop-again : tie.Need-loop-again Inv-loop μ-loop Inv-records μ-records
 loop-again c =
     let w = c .before .before .before .before .before .before .loop .inv in
-    let a = c .before .before .before .before .before .before .before .before .before .before .before .before .before .before .before .before .before .before .pre .here in
+    let a = c .before .before .before .before .before .before .before .before .before .before .before .before .before .before .before .before .before .before .before .pre .here in
     let l = field-left _ _ _ (c .before .before .before .before .before .before .loop .inv .1) (c .before .before .before .before .before .loop-test .taken) (c .before .before .before .before .if3 .left) in
     (field-passes (w .0) a (l .0) (c .before .before .before .low-field .ensures ∙ l .1) (c .before .before .command-fault .ensures) (c .before .if4 .left) _ (c .width .ensures), field-next _ _ _ (w .1) (c .before .before .before .before .before .loop-test .taken))
 
 add-commands : tie.Need-add-commands Inv-loop μ-loop Inv-records μ-records
 add-commands c =
-    let r = c .before .before .before .before .before .before .before .before .before .before .before .before .before .pre in
-    let w = c .before .before .before .before .before .before .before .before .before .before .records .inv in
+    let r = c .before .before .before .before .before .before .before .before .before .before .before .before .before .before .pre in
+    let w = c .before .before .before .before .before .before .before .before .before .before .before .records .inv in
     let a = w .carried (r .signers) (r .here) in
     omega (arith, a .few, a .inside, a .short, w .commandsAre)
 
 records-less : tie.Need-records-less Inv-loop μ-loop Inv-records μ-records
-records-less c =
-    omega (arith, c .before .before .before .before .before .before .before .before .before .if1 .left)
+records-less c = omega (arith, c .before .before .before .before .before .before .before .before .before .before .if1 .left, place-later _ _ _ (c .before .before .before .before .next-place .ensures))
 
 records-again : tie.Need-records-again Inv-loop μ-loop Inv-records μ-records
 records-again c =
     let w = c .before .loop .inv in
-    let k = command-here (c .before .before .before .before .before .before .before .before .before .before .records .inv) (c .before .before .before .before .before .before .before .before .before .if1 .left) (c .before .before .before .before .before .before .before .section-of .ensures) (c .before .before .before .before .before .before .body-length .ensures) (c .before .before .before .before .before .head-fault .ensures) (c .before .before .before .before .if2 .left) in
-    let l = ⊎-elim (λ u. omega (arith, few-fields (getD (c .before .before .before .before .before .before .before .before .before .before .before .before .before .args .file .now) (c .before .before .before .before .before .before .before .before .before .before .records .at) 0), u .left)) (λ u. none-left _ _ _ (w .1) (u .0 .taken) (u .1 .taken)) (c .loop-test .came) in
-    standing-next (w .0) l k _ (let e = c .before .before .before .before .before .before .body-length .ensures in omega arith)
+    let k = command-here (c .before .before .before .before .before .before .before .before .before .before .before .records .inv) (c .before .before .before .before .before .before .before .before .before .before .if1 .left) (c .before .before .before .before .before .before .before .before .section-of .ensures) (c .before .before .before .before .before .before .before .body-length .ensures) (c .before .before .before .before .before .before .head-fault .ensures) (c .before .before .before .before .before .if2 .left) in
+    let l = ⊎-elim (λ u. omega (arith, few-fields (getD (c .before .before .before .before .before .before .before .before .before .before .before .before .before .before .args .file .now) (c .before .before .before .before .before .before .before .before .before .before .before .records .at) 0), u .left)) (λ u. none-left _ _ _ (w .1) (u .0 .taken) (u .1 .taken)) (c .loop-test .came) in
+    standing-next (w .0) l k _ (place-is _ _ _ (c .before .before .before .before .next-place .ensures))
 
 returns : tie.Need-returns Inv-loop μ-loop Inv-records μ-records
-returns c = (standing-end (c .before .records .inv) (c .if1 .taken), refl)
+returns c = (standing-end (c .before .records .inv) (c .if1 .taken), (refl, refl))
 
 returns-2 : tie.Need-returns-2 Inv-loop μ-loop Inv-records μ-records
-returns-2 c = (standing-head (c .before .before .before .before .before .before .records .inv) (c .before .before .before .before .before .if1 .left) (c .before .before .before .section-of .ensures) (c .before .before .body-length .ensures) (c .before .head-fault .ensures) _ (c .if2 .taken), refl)
+returns-2 c = (standing-head (c .before .before .before .before .before .before .records .inv) (c .before .before .before .before .before .if1 .left) (c .before .before .before .section-of .ensures) (c .before .before .body-length .ensures) (c .before .head-fault .ensures) _ (c .if2 .taken), (refl, refl))
 
 returns-3 : tie.Need-returns-3 Inv-loop μ-loop Inv-records μ-records
 returns-3 c =
     let w = c .before .before .before .before .before .loop .inv .0 in
-    let a = c .before .before .before .before .before .before .before .before .before .before .before .before .before .before .before .before .before .pre .here in
+    let a = c .before .before .before .before .before .before .before .before .before .before .before .before .before .before .before .before .before .before .pre .here in
     let l = field-left _ _ _ (c .before .before .before .before .before .loop .inv .1) (c .before .before .before .before .loop-test .taken) (c .before .before .before .if3 .left) in
-    (field-stops w a (l .0) (c .before .before .low-field .ensures ∙ l .1) (c .before .command-fault .ensures) _ (c .if4 .taken), refl)
+    (field-stops w a (l .0) (c .before .before .low-field .ensures ∙ l .1) (c .before .command-fault .ensures) _ (c .if4 .taken), (refl, refl))
 
 pub scan-commands-spec : {M : Type 1} → statement M
 scan-commands-spec =
@@ -154,7 +153,7 @@ scan-commands-spec =
     body-length-requires
     sub-head-fault
     head-fault-requires
-    add-end
+    next-place-requires
     sub-body
     part-body-start
     part-body-end
