@@ -1,7 +1,7 @@
-/* The bytes of stack that loading standard input takes: how much deeper a thread writes into its stack that loads.
+/* The bytes of stack that a run of standard input takes: how much deeper a thread writes into its stack that runs.
 
        rt staticlib birdweekly
-       gcc -O2 -pthread -Ibind/c bench/stack.c target/staticlib/libbirdweekly.a -o target/stack && target/stack < crates/listing/stdin */
+       gcc -O2 -pthread -Ibind/c bench/stack.c target/staticlib/libbirdweekly.a -o target/stack && target/stack < crates/cases/data/s_nested_pairs */
 #include <pthread.h>
 #include <stdint.h>
 #include <stdio.h>
@@ -10,13 +10,28 @@
 
 enum { SIZE = 1 << 20 };
 static uint8_t stack[SIZE] __attribute__((aligned(4096)));
-static uint8_t file[32769], state[BIRDWEEKLY_STATE_BYTES];
+static uint8_t file[BIRDWEEKLY_FILE_BYTES + 1], state[BIRDWEEKLY_STATE_BYTES], outcomes[BIRDWEEKLY_OUTCOME_BYTES];
+static birdweekly_entry ledger[BIRDWEEKLY_LEDGER_ENTRIES];
+static uint16_t list[BIRDWEEKLY_PATH_PLACES];
 static size_t length;
 
 static void *idle(void *answer) { return answer; }
 
 static void *loads(void *answer) {
-    *(birdweekly_load_numbers *)answer = birdweekly_load(file, length, state, sizeof state);
+    *(uint32_t *)answer = birdweekly_load(file, length, state, sizeof state).number;
+    return answer;
+}
+
+static void *runs(void *answer) {
+    *(uint32_t *)answer =
+        birdweekly_run(file, length, SIZE_MAX, state, sizeof state, ledger, BIRDWEEKLY_LEDGER_ENTRIES, outcomes, sizeof outcomes).number;
+    return answer;
+}
+
+static void *paths(void *answer) {
+    *(uint32_t *)answer = birdweekly_path(file, length, SIZE_MAX, state, sizeof state, ledger, BIRDWEEKLY_LEDGER_ENTRIES, outcomes,
+                                          sizeof outcomes, 0, list, BIRDWEEKLY_PATH_PLACES)
+                              .number;
     return answer;
 }
 
@@ -33,10 +48,16 @@ static size_t written(void *(*what)(void *), void *answer) {
 }
 
 int main(void) {
-    birdweekly_load_numbers answer;
+    static const struct {
+        const char *name;
+        void *(*what)(void *);
+    } calls[] = {{"load", loads}, {"run", runs}, {"path", paths}};
+    uint32_t number = 0;
     length = fread(file, 1, sizeof file, stdin);
-    size_t without = written(idle, &answer);
-    size_t with = written(loads, &answer);
-    printf("refusal %u, %u terms, %u commands: %zu bytes of stack\n", answer.number, answer.terms, answer.commands, with - without);
+    size_t bare = written(idle, &number);
+    for (int i = 0; i < 3; i++) {
+        size_t all = written(calls[i].what, &number);
+        printf("%s: number %u, %zu bytes of stack\n", calls[i].name, number, all - bare);
+    }
     return 0;
 }

@@ -9,8 +9,10 @@ const TERM_LIMIT: u16 = 1_024;
 const DEVICE: u8 = 0;
 const MAKER: u8 = 1;
 
-/// Attributes of an attestation key, and of a signing key of a desk or maker.
+/// Attributes of an attestation key, an endorsement key, a key that signs anything, and a signing key of a desk or maker.
 const AK: u8 = 0x0B;
+const EK: u8 = 0x0D;
+const SIGN: u8 = 0x02;
 const DESK_KEY: u8 = 0x0A;
 
 /// Subject byte.
@@ -283,13 +285,81 @@ fn deepest_and_learning() -> Draft {
     f
 }
 
+fn stored(bytes: &[u8]) -> Draft {
+    Draft { bytes: bytes.to_vec(), terms: 0 }
+}
+
+/// A device that makes the same terms again and again; where it may not, it holds no key and knows nothing.
+fn maker(accepted: bool, shuffled: bool) -> Draft {
+    let mut f = Draft::default();
+    f.party(DEVICE);
+    let [key, key_] = [f.public(0, AK), f.private(0, AK)];
+    let [ek, ek_] = [f.public(1, EK), f.private(1, EK)];
+    let free = f.private(2, SIGN);
+    let number = f.number(0);
+    let hash = f.hash(key);
+    let signature = f.term(0x13, &[hash, key_]);
+    let attest = f.term(0x14, &[key]);
+    let certified = f.term(0x13, &[attest, key_]);
+    let credential = f.term(0x15, &[hash, number, ek]);
+    let certificate = f.certificate(key, BOARD, 1, free);
+    f.word(u16::from_be_bytes([0x17, BOARD]));
+    [1, certificate, key].into_iter().for_each(|word| f.word(word));
+    let request = f.terms;
+    f.terms += 1;
+    let next = f.term(0x18, &[certified, certificate]);
+    let pair = f.pair(request, signature);
+    let made = [hash, signature, certified, credential, credential, request, next, pair];
+    if accepted {
+        [key_, ek_, free].into_iter().for_each(|k| f.act(0x21, 0, k));
+        [key, ek, number].into_iter().for_each(|t| f.act(0x20, 0, t));
+        f.act(0x3D, 0, certificate);
+        made.iter().enumerate().for_each(|(i, &t)| f.act(0x30 + i as u8, 0, t));
+    }
+    let mut rng = Rng::new(4, 20);
+    f.fill(|_| {
+        let kind = if shuffled { rng.below(8) } else { 0 };
+        (0x30 + kind as u8, 0, made[kind])
+    });
+    f
+}
+
+/// An honest enrolment, and then its 3F again and again (25: the credential is closed).
+fn issuing() -> Draft {
+    let mut f = stored(include_bytes!("../../crates/cases/data/s_honest_iak"));
+    let last = f.bytes[f.bytes.len() - 7..].to_vec();
+    while f.bytes.len() + 7 <= FILE_LIMIT {
+        f.bytes.extend(&last);
+    }
+    f
+}
+
+fn nested_and_sent() -> Draft {
+    let mut f = Draft::default();
+    (0..8).for_each(|_| f.party(DEVICE));
+    let number = f.number(0);
+    let pairs: Vec<u16> = (0..1_023).scan(number, |t, _| { *t = f.pair(*t, *t); Some(*t) }).collect();
+    f.act(0x20, 0, number);
+    pairs.iter().for_each(|&t| f.act(0x37, 0, t));
+    for receiver in 1..8 {
+        f.bytes.extend([0x3C, 0, receiver]);
+        f.word(pairs[1_022]);
+    }
+    f
+}
+
 pub struct File {
     pub name: &'static str,
     pub bytes: Vec<u8>,
 }
 
-pub fn all() -> Vec<File> {
-    let files: [(&str, Draft); 16] = [
+fn named<const N: usize>(files: [(&'static str, Draft); N]) -> Vec<File> {
+    files.into_iter().map(|(name, draft)| File { name, bytes: draft.bytes }).collect()
+}
+
+/// The files whose loading is timed.
+pub fn loaded() -> Vec<File> {
+    named([
         ("empty", Draft::default()),
         ("1,024 numbers", numbers(1)),
         ("1,024 numbers, scattered", numbers(40_503)),
@@ -306,6 +376,22 @@ pub fn all() -> Vec<File> {
         ("made against the index: common beginnings", common_beginnings()),
         ("made against the index: both", deepest_alone()),
         ("both, and set-up 20 shuffled", deepest_and_learning()),
-    ];
-    files.into_iter().map(|(name, draft)| File { name, bytes: draft.bytes }).collect()
+    ])
+}
+
+/// The files whose run is timed.
+pub fn run() -> Vec<File> {
+    named([
+        ("empty", Draft::default()),
+        ("honest IAK", stored(include_bytes!("../../crates/cases/data/s_honest_iak"))),
+        ("honest IAK and LAK", stored(include_bytes!("../../crates/cases/data/s_honest_lak"))),
+        ("certificates up to depth 8", stored(include_bytes!("../../crates/cases/data/s_depth_8"))),
+        ("accepted: commands 30", maker(true, false)),
+        ("accepted: commands 30 to 37, shuffled", maker(true, true)),
+        ("refused: commands 30", maker(false, false)),
+        ("refused: commands 30 to 37, shuffled", maker(false, true)),
+        ("commands 3F", issuing()),
+        ("1,023 pairs inside each other, sent to seven parties", nested_and_sent()),
+        ("set-up 20, of 1,022 certificates in turn to 8 parties", learning_in_turn()),
+    ])
 }

@@ -1,49 +1,81 @@
-//! `bench/run`: loading timed beside the second reading, on the same files and in the same run.
+//! `bench/run`: loading and runs timed beside the second reading, on the same files and in the same run.
 //!
-//! The two are called in turn on one file, and the shortest of 4,000 timings of each counts; these come in 40 rounds over
-//! all files, so that a busy second of the machine does not fall on one row. The buffers are those that the call before
+//! The two are called in turn on one file, and the shortest of all timings of each counts; these come in rounds over all
+//! files, so that a busy second of the machine does not fall on one row. The buffers are those that the call before
 //! has written; nobody clears them in between, since each call clears what it has to itself.
 
 mod files;
 mod walk;
 
-use birdweekly::{LoadNumbers, STATE_BYTES};
-use reading::LoadAnswer;
+use birdweekly::{LoadAnswer, Refusal, RunAnswer, LEDGER_ENTRIES, OUTCOME_BYTES, STATE_BYTES};
 use std::hint::black_box;
 use std::time::Instant;
 
 const ROUNDS: usize = 40;
-const TIMINGS: usize = 100;
+const TIMINGS: usize = 50;
 
-/// A timing takes as many calls as fill this, so that reading the clock does not show: one, but for the empty file.
+/// A timing takes as many calls as fill this, so that reading the clock does not show.
 const TIMING_NS: f64 = 4_000.0;
 
-fn second_reading(file: &[u8], state: &mut [u8]) -> LoadNumbers {
-    match reading::load(file, state) {
-        LoadAnswer::Loaded { parties, terms, commands } => LoadNumbers { number: 0, place: 0, parties, terms, commands },
-        LoadAnswer::Refused { number, place } => LoadNumbers { number, place, parties: 0, terms: 0, commands: 0 },
+/// The buffers of both.
+struct Buffers {
+    state: Vec<u8>,
+    outcomes: Vec<u8>,
+    ours: Vec<birdweekly::Entry>,
+    theirs: Vec<reading::Entry>,
+}
+
+impl Buffers {
+    fn new() -> Buffers {
+        Buffers {
+            state: vec![0xA5; STATE_BYTES],
+            outcomes: vec![0xA5; OUTCOME_BYTES],
+            ours: vec![birdweekly::Entry::default(); LEDGER_ENTRIES],
+            theirs: vec![reading::Entry::default(); LEDGER_ENTRIES],
+        }
     }
 }
 
-type Load = fn(&[u8], &mut [u8]) -> LoadNumbers;
-const LOADS: [Load; 2] = [second_reading, birdweekly::load];
+/// What a call answers, in words.
+type Call = fn(&[u8], &mut Buffers) -> [u32; 3];
 
-/// What both answer; they have to agree in it and in every byte.
-fn answer(file: &files::File) -> LoadNumbers {
-    let [theirs, ours] = LOADS.map(|load| {
-        let mut state = vec![0xA5; STATE_BYTES + 8];
-        let answer = load(&file.bytes, &mut state);
-        (answer, state)
-    });
-    assert!(ours == theirs, "{}: the two readings differ: {:?}, {:?}", file.name, theirs.0, ours.0);
-    ours.0
+fn refused(refusal: Refusal) -> [u32; 3] {
+    panic!("a timed file loads: {refusal}")
+}
+
+fn our_load(file: &[u8], b: &mut Buffers) -> [u32; 3] {
+    match birdweekly::load(file, &mut b.state) {
+        LoadAnswer::Loaded { parties, terms, commands } => [parties, terms, commands],
+        LoadAnswer::Refused(refusal) => refused(refusal),
+    }
+}
+
+fn their_load(file: &[u8], b: &mut Buffers) -> [u32; 3] {
+    match reading::load(file, &mut b.state) {
+        reading::LoadAnswer::Loaded { parties, terms, commands } => [parties, terms, commands],
+        reading::LoadAnswer::Refused { number, place } => refused(Refusal { number, place }),
+    }
+}
+
+fn our_run(file: &[u8], b: &mut Buffers) -> [u32; 3] {
+    match birdweekly::run(file, usize::MAX, &mut b.state, &mut b.ours, &mut b.outcomes) {
+        RunAnswer::Ran { accepted, refused, issued } => [accepted, refused, issued],
+        RunAnswer::Refused(refusal) => refused(refusal),
+    }
+}
+
+fn their_run(file: &[u8], b: &mut Buffers) -> [u32; 3] {
+    match reading::run(file, usize::MAX, &mut b.state, &mut b.theirs, &mut b.outcomes) {
+        reading::RunAnswer::Ran { accepted, refused, issued } => [accepted, refused, issued],
+        reading::RunAnswer::Refused { number, place } => refused(Refusal { number, place }),
+    }
 }
 
 /// Nanoseconds a call.
-fn timing(load: Load, file: &[u8], state: &mut [u8], calls: usize) -> f64 {
+fn timing(call: Call, file: &[u8], buffers: &mut Buffers, calls: usize) -> f64 {
     let start = Instant::now();
     for _ in 0..calls {
-        black_box(load(black_box(file), state));
+        black_box(call(black_box(file), buffers));
     }
     start.elapsed().as_nanos() as f64 / calls as f64
 }
@@ -51,24 +83,22 @@ fn timing(load: Load, file: &[u8], state: &mut [u8], calls: usize) -> f64 {
 /// A file, and the shortest timings so far of the second reading and of birdweekly.
 struct Row {
     file: files::File,
+    answer: [u32; 3],
     calls: usize,
     shortest: [f64; 2],
 }
 
 impl Row {
-    fn new(file: files::File) -> Row {
-        assert_eq!(answer(&file).number, 0, "{} is to load", file.name);
-        let once = timing(LOADS[0], &file.bytes, &mut [0; STATE_BYTES], 10);
-        Row { file, calls: (TIMING_NS / once).ceil() as usize, shortest: [f64::INFINITY; 2] }
-    }
-
-    fn round(&mut self, states: &mut [[u8; STATE_BYTES]; 2]) {
-        for _ in 0..TIMINGS {
-            for i in 0..2 {
-                let ns = timing(LOADS[i], &self.file.bytes, &mut states[i], self.calls);
-                self.shortest[i] = self.shortest[i].min(ns);
-            }
-        }
+    fn new(file: files::File, calls: [Call; 2]) -> Row {
+        let mut buffers = [Buffers::new(), Buffers::new()];
+        let answers = [0, 1].map(|i| calls[i](&file.bytes, &mut buffers[i]));
+        assert_eq!(answers[0], answers[1], "{}", file.name);
+        assert!(buffers[0].state == buffers[1].state, "{}: state", file.name);
+        assert!(buffers[0].outcomes == buffers[1].outcomes, "{}: outcomes", file.name);
+        let ledger = buffers[0].theirs.iter().map(|e| (e.certificate, e.parent, e.depth));
+        assert!(ledger.eq(buffers[1].ours.iter().map(|e| (e.certificate, e.parent, e.depth))), "{}: ledger", file.name);
+        let once = timing(calls[1], &file.bytes, &mut buffers[1], 10);
+        Row { file, answer: answers[0], calls: (TIMING_NS / once).ceil() as usize, shortest: [f64::INFINITY; 2] }
     }
 }
 
@@ -81,36 +111,41 @@ fn microseconds(ns: f64) -> String {
     }
 }
 
-/// With a comma after the thousands.
-fn commas(n: usize) -> String {
-    if n < 1_000 {
-        n.to_string()
-    } else {
-        format!("{},{:03}", n / 1_000, n % 1_000)
+fn table(title: &str, files: Vec<files::File>, calls: [Call; 2], answer: fn([u32; 3]) -> String) {
+    let mut rows: Vec<Row> = files.into_iter().map(|file| Row::new(file, calls)).collect();
+    let mut buffers = [Buffers::new(), Buffers::new()];
+    for _ in 0..ROUNDS {
+        for row in &mut rows {
+            for _ in 0..TIMINGS {
+                for i in 0..2 {
+                    let ns = timing(calls[i], &row.file.bytes, &mut buffers[i], row.calls);
+                    row.shortest[i] = row.shortest[i].min(ns);
+                }
+            }
+        }
     }
+    println!("| {title} | bytes | answer | second reading | birdweekly | ratio |\n|---|---|---|---|---|---|");
+    for row in rows {
+        let [theirs, ours] = row.shortest;
+        println!(
+            "| {} | {} | {} | {} | {} | {:.2} |",
+            row.file.name,
+            row.file.bytes.len(),
+            answer(row.answer),
+            microseconds(theirs),
+            microseconds(ours),
+            ours / theirs
+        );
+    }
+    println!();
 }
 
 fn main() {
-    let mut rows: Vec<Row> = files::all().into_iter().map(Row::new).collect();
-    let mut states = [[0xA5; STATE_BYTES]; 2];
-    for _ in 0..ROUNDS {
-        rows.iter_mut().for_each(|row| row.round(&mut states));
-    }
-    println!("| file | second reading | birdweekly_load | ratio |");
-    println!("|---|---|---|---|");
-    let mut longest = 0.0f64;
-    for row in &rows {
-        let [theirs, ours] = row.shortest;
-        longest = longest.max(ours);
-        println!("| {} | {} | {} | {:.2} |", row.file.name, microseconds(theirs), microseconds(ours), ours / theirs);
-    }
-    println!();
-    println!("Answers and all state bytes agree on the {} files. The longest load took {}.", rows.len(), microseconds(longest));
-    println!();
-    println!("| file | bytes | terms passed by all walks | by the longest |");
-    println!("|---|---|---|---|");
-    for Row { file, .. } in &rows {
+    table("loading", files::loaded(), [their_load, our_load], |[p, t, c]| format!("{p} parties, {t} terms, {c} commands"));
+    table("a run", files::run(), [their_run, our_run], |[a, r, i]| format!("T {a} {r} {i}"));
+    println!("| index of terms | terms passed by all walks | by the longest |\n|---|---|---|");
+    for file in files::loaded() {
         let steps = walk::steps(&file.bytes);
-        println!("| {} | {} | {} | {} |", file.name, commas(file.bytes.len()), commas(steps.all), steps.longest);
+        println!("| {} | {} | {} |", file.name, steps.all, steps.longest);
     }
 }

@@ -315,6 +315,20 @@ def s_pair_of_a_term_with_itself():
 
 
 @case
+def s_nested_pairs():
+    """1,023 pairs inside each other, sent to seven parties: the deepest learning."""
+    w = World(*[DEVICE] * 8)
+    t = w.number(7)
+    w.learns(0, t)
+    for i in range(1023):
+        t = w.pair(t, t)
+        w.do(0x37, 0, t)
+    for p in range(1, 8):
+        w.send(0, p, t)
+    return w
+
+
+@case
 def s_honest_lak():
     w = enrolled()
     lak_request(w)
