@@ -141,6 +141,8 @@ mod raw {
             list: *mut u16,
             list_len: usize,
         ) -> PathNumbers;
+
+        pub fn birdweekly_entry_at(ledger: *const Entry, ledger_len: usize, i: usize) -> Entry;
     }
 }
 
@@ -206,6 +208,11 @@ pub fn path(
         0 => PathAnswer::Steps(n.steps),
         number => PathAnswer::Refused(Refusal { number, place: n.place }),
     }
+}
+
+/// The entry at a place of a ledger; zeros beyond its end.
+pub fn entry_at(ledger: &[Entry], i: usize) -> Entry {
+    unsafe { raw::birdweekly_entry_at(ledger.as_ptr(), ledger.len(), i) }
 }
 
 /// Buffers of the right sizes, and what the last call left in them.

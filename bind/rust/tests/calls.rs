@@ -1,6 +1,6 @@
 //! What each call answers and leaves, on the paper's example and on an honest enrolment.
 
-use birdweekly::{load, path, run, Buffers, Entry, LoadAnswer, PathAnswer, Refusal, RunAnswer, STATE_BYTES};
+use birdweekly::{entry_at, load, path, run, Buffers, Entry, LoadAnswer, PathAnswer, Refusal, RunAnswer, STATE_BYTES};
 
 const EXAMPLE: [u8; 30] = [
     0x01, 0x00, 0x10, 0x00, 0x05, 0x0B, 0x11, 0x00, 0x05, 0x0B, 0x12, 0x00, 0x00, 0x13, 0x00, 0x02, 0x00, 0x01, 0x20, 0x00,
@@ -67,6 +67,19 @@ fn a_chain_of_certificates() {
         path(CHAIN, 5, &mut state, &mut entries, &mut outcomes, last, &mut list),
         PathAnswer::Refused(Refusal { number: 30, place: last as u32 })
     );
+}
+
+#[test]
+fn an_entry_at_a_place() {
+    let ledger = [1, 2, 3].map(|k| Entry { certificate: 1_000 * k, parent: 0xFF00 + k, depth: k });
+    for i in 0..3 {
+        assert_eq!(entry_at(&ledger, i), ledger[i]);
+    }
+    for i in [3, 4, 1_024, usize::MAX] {
+        assert_eq!(entry_at(&ledger, i), Entry::default());
+    }
+    assert_eq!(entry_at(&ledger[..2], 2), Entry::default());
+    assert_eq!(entry_at(&[], 0), Entry::default());
 }
 
 #[test]

@@ -4,7 +4,8 @@ use rules::LoadAnswer;
 use rules::PathAnswer;
 use rules::RunAnswer;
 ghost use mathlib.Core.Path.{_≡_};
-ghost use Rattle.rules.specs.Lent.{runInNumbers, loadAnswer, loadLeaves, runAnswer, runLeaves, pathInNumbers, pathAnswer, pathBuffers, pathLeaves};
+ghost use lib.ListN.{getD};
+ghost use Rattle.rules.specs.Lent.{noEntry, runInNumbers, loadAnswer, loadLeaves, runAnswer, runLeaves, pathInNumbers, pathAnswer, pathBuffers, pathLeaves};
 ghost use Rattle.engine.specs.Runs.{lentWith};
 ghost use Rattle.birdweekly.specs.Numbers.{loadNumbers, runNumbers, pathNumbers};
 
@@ -136,4 +137,12 @@ pub extern "C" fn birdweekly_path(
 {
     let answer = running::path(file, n, state, ledger, outcomes, term, list);
     path_numbers(answer)
+}
+
+// The entry at a place of a ledger of any length; zeros beyond its end.
+#[no_mangle]
+pub extern "C" fn birdweekly_entry_at(ledger: &[Entry], i: usize) -> Entry
+    ensures { λ r. ⌜ r ≡ getD (now (ledger .entry)) i noEntry ⌝ }
+{
+    running::entry(ledger, i)
 }

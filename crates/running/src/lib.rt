@@ -1,9 +1,10 @@
-// Run and Path: the engine runs on plain slices, and its entries go to the ledger.
+// Run and Path: the engine runs on plain slices, and its entries go to the ledger. `entry` reads one of them.
 use rules::Entry;
 use rules::PathAnswer;
 use rules::RunAnswer;
 ghost use mathlib.Core.Path.{_≡_};
-ghost use Rattle.rules.specs.Lent.{runInNumbers, runAnswer, runLeaves, pathInNumbers, pathAnswer, pathBuffers, pathLeaves};
+ghost use lib.ListN.{getD};
+ghost use Rattle.rules.specs.Lent.{noEntry, runInNumbers, runAnswer, runLeaves, pathInNumbers, pathAnswer, pathBuffers, pathLeaves};
 ghost use Rattle.engine.specs.Runs.{lentWith, Runs};
 ghost use Rattle.path.specs.Paths.{Paths};
 
@@ -110,4 +111,18 @@ pub fn path(
     let words = done.words;
     ledger::copy_out(ledger, &words, done.places);
     done.answer
+}
+
+// The entry at a place of a ledger; zeros beyond its end.
+pub fn entry(ledger: &[Entry], i: usize) -> Entry
+    ensures { λ r. ⌜ r ≡ getD (now (ledger .entry)) i noEntry ⌝ }
+{
+    if i >= ledger.len() {
+        return Entry {
+            certificate: 0,
+            parent: 0,
+            depth: 0,
+        };
+    }
+    ledger::read_one(ledger, i)
 }
