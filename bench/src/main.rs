@@ -140,7 +140,22 @@ fn table(title: &str, files: Vec<files::File>, calls: [Call; 2], answer: fn([u32
     println!();
 }
 
+/// Writes the files of both tables into a folder, in their order.
+fn write(folder: &str) {
+    let mut names = std::collections::HashSet::new();
+    let files = files::run().into_iter().chain(files::loaded()).filter(|file| names.insert(file.name));
+    for (i, file) in files.enumerate() {
+        std::fs::write(format!("{folder}/{i:02} {}", file.name), file.bytes).expect(file.name);
+    }
+}
+
 fn main() {
+    let words: Vec<String> = std::env::args().collect();
+    if let [_, option, folder] = &words[..] {
+        assert_eq!(option, "--write");
+        return write(folder);
+    }
+    println!("The shortest of {} timings. Buffers are not cleared between calls.\n", ROUNDS * TIMINGS);
     table("loading", files::loaded(), [their_load, our_load], |[p, t, c]| format!("{p} parties, {t} terms, {c} commands"));
     table("a run", files::run(), [their_run, our_run], |[a, r, i]| format!("T {a} {r} {i}"));
     println!("| index of terms | terms passed by all walks | by the longest |\n|---|---|---|");
