@@ -15,11 +15,11 @@ use Rattle.rules.specs.Load.{first, refuseUnless}
 use Rattle.state.specs.View.{view}
 use Rattle.learning.specs.There.{TermRecord, kindThere, termThere, partsThere}
 
--- 3 to 6 at a record: its section and the length of its body, how many bytes follow its kind byte, the section and the counts so far
+-- 3 to 6 at a record: its section and the place where it ends, the file's length, the section and the counts so far
 unfoldable pub headFault : ℕ → ℕ → ℕ → ℕ → ℕ → ℕ → ℕ
-headFault own size left section parties terms =
+headFault own end length section parties terms =
     cond (eqb own 0) 3
-    (cond (ltb left size) 4
+    (cond (ltb length end) 4
     (cond (ltb own section) 5
     (cond (eqb own partySection) (refuseUnless 6 (ltb parties partyLimit))
     (cond (eqb own termSection) (refuseUnless 6 (ltb terms termLimit))

@@ -13,21 +13,21 @@ ghost use Rattle.state.specs.View.{view};
 ghost use Rattle.learning.specs.There.{kindThere};
 ghost use Rattle.checks.specs.There.{headFault, roleThere, TermsThere, fieldFaultThere};
 
-// 3 to 6 at a record, by its kind's section and the length of its body: 0, or the refusal.
+// 3 to 6 at a record, by its kind's section and the place where it ends: 0, or the refusal.
 pub fn head_fault(
     own: u8,
+    end: usize,
     length: usize,
-    left: usize,
     section: u8,
     parties: usize,
     terms: usize,
 ) -> u8
-    ensures { λ r. ⌜ r ≡ headFault own length left section parties terms ⌝ }
+    ensures { λ r. ⌜ r ≡ headFault own end length section parties terms ⌝ }
 {
     if own == 0 {
         return 3;
     }
-    if left < length {
+    if length < end {
         return 4;
     }
     if own < section {

@@ -17,15 +17,17 @@ use Rattle.state.specs.View.{view}
 use Rattle.checks.specs.There.{headFault, TermsThere, fieldFaultThere}
 use Rattle.records.proofs.Lengths.{section-most}
 use Rattle.theorems.proofs.Pieces.{bodyAt}
+use Rattle.reader.specs.Place.{nextPlace}
+use Rattle.reader.proofs.Places.{place-is}
 use Rattle.loader.specs.declared.Tally.{Tally}
 use Rattle.loader.specs.declared.Scanned.{Scanned}
 use Rattle.loader.specs.Describes.{counted, At, ScanResult, CommandsReady, CommandsResult}
 use Rattle.loader.proofs.Scanning.{refusal, InFields, at-end, at-head, any-tally, fits, fields-start, field-ready, field-small, field-refused, field-passed, command-taken}
 
 -- a head that is not refused is in order
-pub head-low : (own size left section parties terms : ℕ) → headFault own size left section parties terms ≡ 0 → section ≤ own
+pub head-low : (own end size section parties terms : ℕ) → headFault own end size section parties terms ≡ 0 → section ≤ own
 unfolding headFault
-head-low own size left section parties terms e = go (eqb own 0) (ltb left size) (ltb own section) _ refl e
+head-low own end size section parties terms e = go (eqb own 0) (ltb size end) (ltb own section) _ refl e
   where
     go : (a b c : Bool) (x : ℕ) → ltb own section ≡ c → cond a 3 (cond b 4 (cond c 5 x)) ≡ 0 → section ≤ own
     go true b c x o e = absurd (omega arith)
@@ -37,10 +39,10 @@ head-low own size left section parties terms e = go (eqb own 0) (ltb left size) 
 abbrev Begun : ℕ → ℕ → Type 0
 Begun section own = (section ≡ commandSection) ⊎ ((section ≤ commandSection) × (own ≡ commandSection))
 
-head-same : (own size left section parties terms : ℕ) → Begun section own → headFault own size left commandSection parties terms ≡ headFault own size left section parties terms
+head-same : (own end size section parties terms : ℕ) → Begun section own → headFault own end size commandSection parties terms ≡ headFault own end size section parties terms
 unfolding headFault
-head-same own size left section parties terms (inl e) = rw e refl
-head-same own size left section parties terms (inr (l, e)) = rw (e, le-ltb commandSection section l) refl
+head-same own end size section parties terms (inl e) = rw e refl
+head-same own end size section parties terms (inr (l, e)) = rw (e, le-ltb commandSection section l) refl
 
 tally-is : (t : Tally) {a b c d : ℕ} → t .section ≡ a → t .parties ≡ b → t .terms ≡ c → t .commands ≡ d → t ≡ (record { section = a; parties = b; terms = c; commands = d })
 tally-is t p q r u = rw (← p, ← q, ← r, ← u) refl
@@ -76,17 +78,17 @@ module _ {bs s : List ℕ} {n : Tally} {from at commands : ℕ} (w : Standing bs
           (at-end bs s signers (w .tally) at (w .carried signers a) h)
       go (inr (l, o, e)) = absurd (omega arith)
 
-  module _ (h : at < length bs) {x own size : ℕ} (eo : own ≡ sectionOf (getD bs at 0)) (es : size ≡ bodyLength (getD bs at 0)) (e : x ≡ headFault own size (length bs - (at + 1)) commandSection (n .parties) (n .terms)) where
-    head-is : x ≡ headFault (sectionOf (getD bs at 0)) (bodyLength (getD bs at 0)) (length bs - (at + 1)) (w .tally .section) (w .tally .parties) (w .tally .terms)
+  module _ (h : at < length bs) {x own end : ℕ} (eo : own ≡ sectionOf (getD bs at 0)) (en : end ≡ nextPlace bs at) (e : x ≡ headFault own end (length bs) commandSection (n .parties) (n .terms)) where
+    head-is : x ≡ headFault (sectionOf (getD bs at 0)) (at + 1 + bodyLength (getD bs at 0)) (length bs) (w .tally .section) (w .tally .parties) (w .tally .terms)
     head-is =
-        e ∙ rw (eo, es, w .partiesAre, w .termsAre) (head-same (sectionOf (getD bs at 0)) (bodyLength (getD bs at 0)) (length bs - (at + 1)) (w .tally .section) (n .parties) (n .terms) begun-here)
+        e ∙ rw (eo, place-is bs at end en, w .partiesAre, w .termsAre) (head-same (sectionOf (getD bs at 0)) (at + 1 + bodyLength (getD bs at 0)) (length bs) (w .tally .section) (n .parties) (n .terms) begun-here)
 
     -- 3 to 5
     pub standing-head : (m : Tally) → (x ≡ 0 → ⊥) → CommandsResult bs s n from (refusal x at m)
     standing-head m z signers a = any-tally (w .tally) m z (at-head bs s signers (w .tally) at (w .carried signers a) h x head-is z)
 
     pub command-here : x ≡ 0 → sectionOf (getD bs at 0) ≡ commandSection
-    command-here z = omega (arith, head-low own size (length bs - (at + 1)) commandSection (n .parties) (n .terms) (sym e ∙ z), section-most (getD bs at 0))
+    command-here z = omega (arith, head-low own end (length bs) commandSection (n .parties) (n .terms) (sym e ∙ z), section-most (getD bs at 0))
 
 -- where it stands at a field
 pub record AtField (bs s : List ℕ) (n : Tally) (from at commands : ℕ) (body : List ℕ) (i offset : ℕ) : Type 0 where
@@ -94,17 +96,17 @@ pub record AtField (bs s : List ℕ) (n : Tally) (from at commands : ℕ) (body 
   pub fields : (signers : List ℕ) → At bs s signers n from → InFields bs s signers (standing .tally) at body i offset
 
 -- at the first field of a command whose head is right
-module _ {bs s : List ℕ} {n : Tally} {from at commands : ℕ} (w : Standing bs s n from at commands) (h : at < length bs) {x own size : ℕ} (eo : own ≡ sectionOf (getD bs at 0)) (es : size ≡ bodyLength (getD bs at 0)) (e : x ≡ headFault own size (length bs - (at + 1)) commandSection (n .parties) (n .terms)) (z : x ≡ 0) where
+module _ {bs s : List ℕ} {n : Tally} {from at commands : ℕ} (w : Standing bs s n from at commands) (h : at < length bs) {x own end : ℕ} (eo : own ≡ sectionOf (getD bs at 0)) (en : end ≡ nextPlace bs at) (e : x ≡ headFault own end (length bs) commandSection (n .parties) (n .terms)) (z : x ≡ 0) where
   pub field-first : {body : List ℕ} → body ≡ bodyAt bs at → AtField bs s n from at commands body 0 0
   field-first {body} b = record {
     standing = w;
     fields = λ signers a.
-        let head = sym (head-is w h eo es e) ∙ z in
+        let head = sym (head-is w h eo en e) ∙ z in
         record { here = w .carried signers a; more = h; head = head; bodyIs = b; fields = fields-start bs s signers (w .tally) at (w .carried signers a) h head body };
   }
 
   pub command-fits : (signers : List ℕ) → At bs s signers n from → at + 1 + bodyLength (getD bs at 0) ≤ length bs
-  command-fits signers a = fits bs s signers (w .tally) at (w .carried signers a) h (sym (head-is w h eo es e) ∙ z)
+  command-fits signers a = fits bs s signers (w .tally) at (w .carried signers a) h (sym (head-is w h eo en e) ∙ z)
 
 -- the same as the code's results give it, where the signing keys are these
 module _ {bs s : List ℕ} {n : Tally} {from at commands : ℕ} {body : List ℕ} {i offset : ℕ} (w : AtField bs s n from at commands body i offset) {signers : List ℕ} (a : At bs s signers n from) where

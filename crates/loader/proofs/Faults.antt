@@ -410,19 +410,19 @@ module _ (f : File) (bs s signers : List ℕ) (n : Tally) (at : ℕ) (d : Descri
       (λ e. allowed-same (setupAt k body) (right-fields (setupAt k body) (setup-passed f body k (eqb-true _ _ e) h)))
       (λ a b. omega (arith, eqb-true (sectionOf k) termSection a, eqb-true (sectionOf k) setupSection b))
 
-  head-same : (k left : ℕ)
-      → headFault (sectionOf k) (bodyLength k) left (n .section) (n .parties) (n .terms)
-      ≡ cond (eqb (sectionOf k) 0) 3 (cond (ltb left (bodyLength k)) 4 (first (sectionFault f k) (countFault f k)))
+  head-same : (k end : ℕ)
+      → headFault (sectionOf k) end (length bs) (n .section) (n .parties) (n .terms)
+      ≡ cond (eqb (sectionOf k) 0) 3 (cond (ltb (length bs) end) 4 (first (sectionFault f k) (countFault f k)))
   unfolding headFault sectionFault countFault
-  head-same k left = rw (← d .sectionIs, ← d .partiesAre, ← d .termsAre, order-same)
+  head-same k end = rw (← d .sectionIs, ← d .partiesAre, ← d .termsAre, order-same)
 
   -- 3 to 6
-  pub head-zero : (k left : ℕ) → headFault (sectionOf k) (bodyLength k) left (n .section) (n .parties) (n .terms) ≡ 0 → (0 < sectionOf k) × (bodyLength k ≤ left) × (sectionFault f k ≡ 0) × (countFault f k ≡ 0)
-  head-zero k left e =
-      let h = head-none (eqb (sectionOf k) 0) (ltb left (bodyLength k)) _ (sym (head-same k left) ∙ e) in
+  pub head-zero : (k end : ℕ) → headFault (sectionOf k) end (length bs) (n .section) (n .parties) (n .terms) ≡ 0 → (0 < sectionOf k) × (end ≤ length bs) × (sectionFault f k ≡ 0) × (countFault f k ≡ 0)
+  head-zero k end e =
+      let h = head-none (eqb (sectionOf k) 0) (ltb (length bs) end) _ (sym (head-same k end) ∙ e) in
       let known : sectionOf k ≡ 0 → ⊥ = eqb-false (sectionOf k) 0 (h .0) in
       let z = first-zero _ _ (h .2) in
-      (omega arith, ltb-false left (bodyLength k) (h .1), z .0, z .1)
+      (omega arith, ltb-false (length bs) end (h .1), z .0, z .1)
 
   -- 7, 8: one field after the other
   pub fields-next :
@@ -437,43 +437,43 @@ module _ (f : File) (bs s signers : List ℕ) (n : Tally) (at : ℕ) (d : Descri
 
   -- the record at the place
   module _ (inside : at < length bs) where
-    pub refuse-head : (r : ℕ) → headFault (sectionOf (getD bs at 0)) (bodyLength (getD bs at 0)) (length bs - (at + 1)) (n .section) (n .parties) (n .terms) ≡ suc r → feed (loaded f) (from bs at) ≡ refused (suc r) at
-    refuse-head r e = go (eqb (sectionOf (getD bs at 0)) 0) (ltb (length bs - (at + 1)) (bodyLength (getD bs at 0))) refl refl (sym (head-same (getD bs at 0) (length bs - (at + 1))) ∙ e)
+    pub refuse-head : (r : ℕ) → headFault (sectionOf (getD bs at 0)) (at + 1 + bodyLength (getD bs at 0)) (length bs) (n .section) (n .parties) (n .terms) ≡ suc r → feed (loaded f) (from bs at) ≡ refused (suc r) at
+    refuse-head r e = go (eqb (sectionOf (getD bs at 0)) 0) (ltb (length bs) (at + 1 + bodyLength (getD bs at 0))) refl refl (sym (head-same (getD bs at 0) (at + 1 + bodyLength (getD bs at 0))) ∙ e)
       where
-        go : (a b : Bool) → eqb (sectionOf (getD bs at 0)) 0 ≡ a → ltb (length bs - (at + 1)) (bodyLength (getD bs at 0)) ≡ b
+        go : (a b : Bool) → eqb (sectionOf (getD bs at 0)) 0 ≡ a → ltb (length bs) (at + 1 + bodyLength (getD bs at 0)) ≡ b
             → cond a 3 (cond b 4 (first (sectionFault f (getD bs at 0)) (countFault f (getD bs at 0)))) ≡ suc r → feed (loaded f) (from bs at) ≡ refused (suc r) at
         go true b p q h = feed-unknown bs at inside f (eqb-true (sectionOf (getD bs at 0)) 0 p) ∙ ap (λ (x : ℕ). refused x at) h
         go false true p q h =
             let known : sectionOf (getD bs at 0) ≡ 0 → ⊥ = eqb-false (sectionOf (getD bs at 0)) 0 p in
-            feed-short bs at inside f (omega arith) (ltb-true _ _ q) ∙ ap (λ (x : ℕ). refused x at) h
+            feed-short bs at inside f (omega arith) (omega (arith, ltb-true (length bs) (at + 1 + bodyLength (getD bs at 0)) q)) ∙ ap (λ (x : ℕ). refused x at) h
         go false false p q h =
             let known : sectionOf (getD bs at 0) ≡ 0 → ⊥ = eqb-false (sectionOf (getD bs at 0)) 0 p in
-            let fits = ltb-false (length bs - (at + 1)) (bodyLength (getD bs at 0)) q in
+            let fits = ltb-false (length bs) (at + 1 + bodyLength (getD bs at 0)) q in
             feed-refusal bs at inside f (omega arith) (omega arith) r (fault-parts f (getD bs at 0) (bodyAt bs at) ∙ first-some _ _ r h)
 
-    module _ (right : headFault (sectionOf (getD bs at 0)) (bodyLength (getD bs at 0)) (length bs - (at + 1)) (n .section) (n .parties) (n .terms) ≡ 0) where
+    module _ (right : headFault (sectionOf (getD bs at 0)) (at + 1 + bodyLength (getD bs at 0)) (length bs) (n .section) (n .parties) (n .terms) ≡ 0) where
       fits : at + 1 + bodyLength (getD bs at 0) ≤ length bs
-      fits = omega (arith, head-zero (getD bs at 0) (length bs - (at + 1)) right .1)
+      fits = head-zero (getD bs at 0) _ right .1
 
       -- what is left to be wrong with it
       fault-left :
           recordFault f (getD bs at 0) (bodyAt bs at)
           ≡ first (fieldsFault f (fieldsOf (getD bs at 0)) 0 (bodyAt bs at)) (first (alikeFault f (getD bs at 0) (bodyAt bs at)) (setupFault f (getD bs at 0) (bodyAt bs at)))
       fault-left =
-          let h = head-zero (getD bs at 0) (length bs - (at + 1)) right in
+          let h = head-zero (getD bs at 0) _ right in
           fault-parts f (getD bs at 0) (bodyAt bs at) ∙ first-next _ _ (first-next _ _ (h .2) ∙ h .3)
 
       -- a refusal of the fields, or of 9 to 12, is the record's
       pub refuse-fields : (r : ℕ) → fieldsFault f (fieldsOf (getD bs at 0)) 0 (bodyAt bs at) ≡ suc r → feed (loaded f) (from bs at) ≡ refused (suc r) at
       refuse-fields r e =
-          feed-refusal bs at inside f (head-zero (getD bs at 0) (length bs - (at + 1)) right .0) fits r (fault-left ∙ first-some _ _ r e)
+          feed-refusal bs at inside f (head-zero (getD bs at 0) _ right .0) fits r (fault-left ∙ first-some _ _ r e)
 
       module _ (passed : fieldsFault f (fieldsOf (getD bs at 0)) 0 (bodyAt bs at) ≡ 0) where
         fault-last : recordFault f (getD bs at 0) (bodyAt bs at) ≡ lastFault bs (view s) signers n (getD bs at 0) (bodyAt bs at)
         fault-last = fault-left ∙ first-next _ _ passed ∙ sym (last-same (getD bs at 0) (bodyAt bs at) passed)
 
         pub refuse-last : (r : ℕ) → lastFault bs (view s) signers n (getD bs at 0) (bodyAt bs at) ≡ suc r → feed (loaded f) (from bs at) ≡ refused (suc r) at
-        refuse-last r e = feed-refusal bs at inside f (head-zero (getD bs at 0) (length bs - (at + 1)) right .0) fits r (fault-last ∙ e)
+        refuse-last r e = feed-refusal bs at inside f (head-zero (getD bs at 0) _ right .0) fits r (fault-last ∙ e)
 
         -- a record without any is taken
         pub taken :
@@ -482,4 +482,4 @@ module _ (f : File) (bs s signers : List ℕ) (n : Tally) (at : ℕ) (d : Descri
             × (feed (loaded f) (from bs at) ≡ feed (loaded (enter f at (getD bs at 0) (bodyAt bs at))) (from bs (at + 1 + bodyLength (getD bs at 0))))
         taken e =
             let none = fault-last ∙ e in
-            (none, feed-taken bs at inside f (head-zero (getD bs at 0) (length bs - (at + 1)) right .0) fits none)
+            (none, feed-taken bs at inside f (head-zero (getD bs at 0) _ right .0) fits none)

@@ -23,7 +23,7 @@ use Rattle.records.proofs.Lengths.{section-most}
 use Rattle.theorems.proofs.Loading.{entered, empty-good}
 use Rattle.theorems.proofs.Pieces.{from, bodyAt, body-length, load-from, feed-end}
 use Rattle.reader.specs.Place.{nextPlace}
-use Rattle.reader.proofs.Places.{next-record}
+use Rattle.reader.proofs.Places.{next-record, place-is}
 use Rattle.loader.specs.declared.Tally.{Tally}
 use Rattle.loader.specs.declared.Scanned.{Scanned}
 use Rattle.loader.specs.Describes.{Describes, counted, lastFault, columnsAfter, signersAfter, EnterReady, At, ScanReady, ScanResult}
@@ -119,18 +119,18 @@ module _ (bs s signers : List ℕ) (n : Tally) (at : ℕ) (a : At bs s signers n
     kind = getD bs at 0
 
     abbrev Head : ℕ → Type 0
-    Head x = x ≡ headFault (sectionOf kind) (bodyLength kind) (length bs - (at + 1)) (n .section) (n .parties) (n .terms)
+    Head x = x ≡ headFault (sectionOf kind) (at + 1 + bodyLength kind) (length bs) (n .section) (n .parties) (n .terms)
 
     -- 3 to 6
     pub at-head : (x : ℕ) → Head x → (x ≡ 0 → ⊥) → ScanResult bs s signers (refusal x at n)
     at-head x e z = refuses x z (λ r q. refuse-head (a .file) bs s signers n at (a .describes) (a .good) h r (sym e ∙ q)) s signers
 
-    module _ (head : headFault (sectionOf (getD bs at 0)) (bodyLength (getD bs at 0)) (length bs - (at + 1)) (n .section) (n .parties) (n .terms) ≡ 0) where
+    module _ (head : headFault (sectionOf (getD bs at 0)) (at + 1 + bodyLength (getD bs at 0)) (length bs) (n .section) (n .parties) (n .terms) ≡ 0) where
       pub fits : at + 1 + bodyLength (getD bs at 0) ≤ length bs
-      fits = let w = head-zero (a .file) bs s signers n at (a .describes) (a .good) (getD bs at 0) (length bs - (at + 1)) head .1 in omega arith
+      fits = head-zero (a .file) bs s signers n at (a .describes) (a .good) (getD bs at 0) _ head .1
 
       known : 0 < sectionOf (getD bs at 0)
-      known = head-zero (a .file) bs s signers n at (a .describes) (a .good) (getD bs at 0) (length bs - (at + 1)) head .0
+      known = head-zero (a .file) bs s signers n at (a .describes) (a .good) (getD bs at 0) _ head .0
 
       -- the fields so far are right, and the rest is what is left
       pub record Fields (body : List ℕ) (i offset : ℕ) : Type 0 where
@@ -187,7 +187,7 @@ module _ (bs s signers : List ℕ) (n : Tally) (at : ℕ) (a : At bs s signers n
         -- what entering the record asks
         pub at-enter : EnterReady bs s body (getD bs at 0) at n
         at-enter =
-            let z = head-zero (a .file) bs s signers n at (a .describes) (a .good) (getD bs at 0) (length bs - (at + 1)) head in
+            let z = head-zero (a .file) bs s signers n at (a .describes) (a .good) (getD bs at 0) _ head in
             subst⁻¹ (λ (y : List ℕ). EnterReady bs s y (getD bs at 0) at n) b
             (enter-ready (a .file) bs s signers n at (a .describes) (a .good) h (a .short) known fits (z .2) (z .3) (all-right body i offset b w l))
 
@@ -222,8 +222,9 @@ module _ (bs s signers : List ℕ) (n : Tally) (at : ℕ) (a : At bs s signers n
             }
 
 -- a head's refusal, as the code's section and length give it
-pub head-is : {x own size : ℕ} (k left section parties terms : ℕ) → own ≡ sectionOf k → size ≡ bodyLength k → x ≡ headFault own size left section parties terms → x ≡ headFault (sectionOf k) (bodyLength k) left section parties terms
-head-is k left section parties terms eo es e = rw (← eo, ← es) e
+pub head-is : {x own end : ℕ} (bs : List ℕ) (at section parties terms : ℕ) → own ≡ sectionOf (getD bs at 0) → end ≡ nextPlace bs at → x ≡ headFault own end (length bs) section parties terms
+    → x ≡ headFault (sectionOf (getD bs at 0)) (at + 1 + bodyLength (getD bs at 0)) (length bs) section parties terms
+head-is bs at section parties terms eo en e = rw (← eo, ← place-is bs at _ en) e
 
 -- the part of the file that is handed on is the record's body
 pub body-same : (bs : List ℕ) (at x : ℕ) → x ≡ nextPlace bs at → take (x - (at + 1)) (drop (at + 1) bs) ≡ bodyAt bs at
@@ -234,7 +235,7 @@ body-same bs at x e = let q : x - (at + 1) ≡ bodyLength (getD bs at 0) = omega
 pub record InFields (bs s signers : List ℕ) (n : Tally) (at : ℕ) (body : List ℕ) (i offset : ℕ) : Type 0 where
   pub here : At bs s signers n at
   pub more : at < length bs
-  pub head : headFault (sectionOf (getD bs at 0)) (bodyLength (getD bs at 0)) (length bs - (at + 1)) (n .section) (n .parties) (n .terms) ≡ 0
+  pub head : headFault (sectionOf (getD bs at 0)) (at + 1 + bodyLength (getD bs at 0)) (length bs) (n .section) (n .parties) (n .terms) ≡ 0
   pub bodyIs : body ≡ bodyAt bs at
   pub fields : Fields bs s signers n at here more head body i offset
 

@@ -130,8 +130,8 @@ fn scan_commands(table: &[u32; 65], file: &[u8], state: &[u8], from: usize, n: T
         let kind = file[at];
         let start = at + 1;
         let own = records::section_of(kind);
-        let length = records::body_length(kind);
-        let head = checks::head_fault(own, length, file.len() - start, 4, parties, terms);
+        let end = reader::next_place(file, at);
+        let head = checks::head_fault(own, end, file.len(), 4, parties, terms);
         if head != 0 {
             break 'records Scanned {
                 number: head,
@@ -140,7 +140,6 @@ fn scan_commands(table: &[u32; 65], file: &[u8], state: &[u8], from: usize, n: T
                 tally: n,
             };
         }
-        let end = reader::next_place(file, at);
         let body = &file[start..end];
         let mut fields = records::fields_in(table, kind);
         let mut i: usize = 0;
@@ -208,8 +207,8 @@ fn scan(
         let section = n.section;
         let parties = n.parties;
         let terms = n.terms;
-        let length = records::body_length(kind);
-        let head = checks::head_fault(own, length, file.len() - start, section, parties, terms);
+        let end = reader::next_place(file, at);
+        let head = checks::head_fault(own, end, file.len(), section, parties, terms);
         if head != 0 {
             break 'records Scanned {
                 number: head,
@@ -218,7 +217,6 @@ fn scan(
                 tally: n,
             };
         }
-        let end = reader::next_place(file, at);
         let body = &file[start..end];
         let mut fields = records::fields_in(&table, kind);
         let mut i: usize = 0;

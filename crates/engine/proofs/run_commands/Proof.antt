@@ -37,7 +37,7 @@ tallied-requires c κs =
     (omega (arith, r, w .counted), omega (arith, r, w .counted))
 
 next-place-requires : tie.Need-next-place-requires Inv-loop μ-loop
-next-place-requires c κs = turn-here _ _ _ _ _ _ _ _ _ _ _ (c .before .before .before .before .before .before .before .before .before .loop .inv .turn) (c .before .before .before .before .before .before .before .if1 .left) (c .before .before .before .before .before .before .before .before .loop-test .taken) .whole
+next-place-requires c κs = turn-here _ _ _ _ _ _ _ _ _ _ _ (c .before .before .before .before .before .before .before .before .before .loop .inv .turn) (c .before .before .before .before .before .before .before .if1 .left) (c .before .before .before .before .before .before .before .before .loop-test .taken) .whole .inside
 
 add-i : tie.Need-add-i Inv-loop μ-loop
 add-i c = search needs

@@ -17,7 +17,7 @@ use Rattle.learning.specs.There.{termThere}
 use Rattle.index.specs.Indexed.{Indexed}
 use Rattle.theorems.proofs.Pieces.{bodyAt}
 use Rattle.reader.specs.Place.{nextPlace}
-use Rattle.reader.proofs.Places.{place-is, place-later, record-at}
+use Rattle.reader.proofs.Places.{place-is, place-later}
 use Rattle.lookup.specs.Commands.{commandsFrom}
 use Rattle.lookup.proofs.Commands.{commands-end, commands-here, commands-later}
 use Rattle.loader.specs.declared.Tally.{Tally}
@@ -50,11 +50,11 @@ passed : (bs : List ℕ) (at : ℕ) {next own : ℕ} → next ≡ nextPlace bs a
 passed bs at n h o s e = ap (commandsFrom (length bs) bs) n ∙ sym (commands-later bs at h (λ q. s (o ∙ q))) ∙ e
 
 abbrev Inv-loop : tie.InvT-loop
-Inv-loop file state signers links keys tables table at n kind start own section parties terms length head end body fields₀ i₀ offset₀ fields i offset =
+Inv-loop file state signers links keys tables table at n kind start own section parties terms end head body fields₀ i₀ offset₀ fields i offset =
     InFields file state signers n at body i offset × (fields ≡ packed (drop i (fieldsOf (getD file at 0))))
 
 abbrev μ-loop : tie.MeasureT-loop
-μ-loop file state signers links keys tables table at n kind start own section parties terms length head end body fields₀ i₀ offset₀ fields i offset = 4 - i
+μ-loop file state signers links keys tables table at n kind start own section parties terms end head body fields₀ i₀ offset₀ fields i offset = 4 - i
 
 abbrev Inv-records : tie.InvT-records
 Inv-records file state₀ signers₀ links₀ keys₀ tables₀ table at₀ n₀ state signers links keys tables at n =
@@ -83,40 +83,32 @@ scan-commands-requires c κs =
     let i = c .before .before .before .before .before .before .records .inv in
     record { rows = c .before .before .before .before .before .before .before .field-table .ensures; signers = _; here = i .1; more = c .before .before .before .before .before .if1 .left; command = sym (c .before .before .before .section-of .ensures) ∙ c .before .before .if2 .taken }
 
-body-length-requires : tie.Need-body-length-requires Inv-loop μ-loop Inv-records μ-records
-body-length-requires c κs = search needs
-
-sub-head-fault : tie.Need-sub-head-fault Inv-loop μ-loop Inv-records μ-records
-sub-head-fault c = omega arith
+next-place-requires : tie.Need-next-place-requires Inv-loop μ-loop Inv-records μ-records
+next-place-requires c κs = search needs
 
 head-fault-requires : tie.Need-head-fault-requires Inv-loop μ-loop Inv-records μ-records
 head-fault-requires c κs = search needs
 
-next-place-requires : tie.Need-next-place-requires Inv-loop μ-loop Inv-records μ-records
-next-place-requires c κs =
-    let a = c .before .before .before .before .before .before .before .records .inv .1 in
-    record-at _ _ (fits _ _ _ _ _ a (c .before .before .before .before .before .before .if1 .left) (sym (head-is _ _ _ _ _ (c .before .before .before .before .section-of .ensures) (c .before .before .body-length .ensures) (c .before .head-fault .ensures)) ∙ c .if3 .left))
-
 sub-body : tie.Need-sub-body Inv-loop μ-loop Inv-records μ-records
-sub-body c = omega (arith, place-later _ _ _ (c .next-place .ensures))
+sub-body c = omega (arith, place-later _ _ _ (c .before .before .next-place .ensures))
 
 part-body-start : tie.Need-part-body-start Inv-loop μ-loop Inv-records μ-records
-part-body-start c = omega (arith, place-later _ _ _ (c .next-place .ensures))
+part-body-start c = omega (arith, place-later _ _ _ (c .before .before .next-place .ensures))
 
 part-body-end : tie.Need-part-body-end Inv-loop μ-loop Inv-records μ-records
 part-body-end c =
-    let a = c .before .before .before .before .before .before .before .before .records .inv .1 in
-    omega (arith, fits _ _ _ _ _ a (c .before .before .before .before .before .before .before .if1 .left) (sym (head-is _ _ _ _ _ (c .before .before .before .before .before .section-of .ensures) (c .before .before .before .body-length .ensures) (c .before .before .head-fault .ensures)) ∙ c .before .if3 .left), place-is _ _ _ (c .next-place .ensures))
+    let a = c .before .before .before .before .before .before .before .records .inv .1 in
+    omega (arith, fits _ _ _ _ _ a (c .before .before .before .before .before .before .if1 .left) (sym (head-is _ _ _ _ _ (c .before .before .before .before .section-of .ensures) (c .before .before .next-place .ensures) (c .before .head-fault .ensures)) ∙ c .if3 .left), place-is _ _ _ (c .before .before .next-place .ensures))
 
 fields-in-requires : tie.Need-fields-in-requires Inv-loop μ-loop Inv-records μ-records
 fields-in-requires c κs = search needs
 
 loop-holds : tie.Need-loop-holds Inv-loop μ-loop Inv-records μ-records
 loop-holds c =
-    let a = c .before .before .before .before .before .before .before .before .before .before .before .records .inv .1 in
-    let l = c .before .before .before .before .before .before .before .before .before .before .if1 .left in
-    let z = sym (head-is _ _ _ _ _ (c .before .before .before .before .before .before .before .before .section-of .ensures) (c .before .before .before .before .before .before .body-length .ensures) (c .before .before .before .before .before .head-fault .ensures)) ∙ c .before .before .before .before .if3 .left in
-    (record { here = a; more = l; head = z; bodyIs = body-same _ _ _ (c .before .before .before .next-place .ensures); fields = fields-start _ _ _ _ _ a l z _ }, c .fields-in .ensures)
+    let a = c .before .before .before .before .before .before .before .before .before .before .records .inv .1 in
+    let l = c .before .before .before .before .before .before .before .before .before .if1 .left in
+    let z = sym (head-is _ _ _ _ _ (c .before .before .before .before .before .before .before .section-of .ensures) (c .before .before .before .before .before .next-place .ensures) (c .before .before .before .before .head-fault .ensures)) ∙ c .before .before .before .if3 .left in
+    (record { here = a; more = l; head = z; bodyIs = body-same _ _ _ (c .before .before .before .before .before .next-place .ensures); fields = fields-start _ _ _ _ _ a l z _ }, c .fields-in .ensures)
 
 low-field-requires : tie.Need-low-field-requires Inv-loop μ-loop Inv-records μ-records
 low-field-requires c κs = search needs
@@ -151,25 +143,25 @@ loop-again c =
 enter-requires : tie.Need-enter-requires Inv-loop μ-loop Inv-records μ-records
 enter-requires c κs =
     let w = c .before .before .before .before .before .before .loop .inv .0 in
-    let l : length (fieldsOf (getD (c .before .before .before .before .before .before .before .before .before .before .before .before .before .before .before .before .before .before .before .before .before .before .args .file .now) (c .before .before .before .before .before .before .before .before .before .before .before .before .before .before .before .before .before .before .records .at) 0)) ≤ c .before .before .before .before .before .before .loop .i = ⊎-elim (λ u. omega (arith, few-fields (getD (c .before .before .before .before .before .before .before .before .before .before .before .before .before .before .before .before .before .before .before .before .before .before .args .file .now) (c .before .before .before .before .before .before .before .before .before .before .before .before .before .before .before .before .before .before .records .at) 0), u .left)) (λ u. none-left _ _ _ (c .before .before .before .before .before .before .loop .inv .1) (u .0 .taken) (u .1 .taken)) (c .before .before .before .before .before .loop-test .came) in
-    (c .before .before .before .before .before .before .before .before .before .before .before .before .before .before .before .section-of .ensures, enter-asks _ _ _ _ _ _ _ _ w _ refl l, c .before .before .before .before .before .before .before .before .before .before .before .before .before .before .before .before .before .before .records .inv .2, refl, body-stands _ _ _ (w .bodyIs))
+    let l : length (fieldsOf (getD (c .before .before .before .before .before .before .before .before .before .before .before .before .before .before .before .before .before .before .before .before .before .args .file .now) (c .before .before .before .before .before .before .before .before .before .before .before .before .before .before .before .before .before .records .at) 0)) ≤ c .before .before .before .before .before .before .loop .i = ⊎-elim (λ u. omega (arith, few-fields (getD (c .before .before .before .before .before .before .before .before .before .before .before .before .before .before .before .before .before .before .before .before .before .args .file .now) (c .before .before .before .before .before .before .before .before .before .before .before .before .before .before .before .before .before .records .at) 0), u .left)) (λ u. none-left _ _ _ (c .before .before .before .before .before .before .loop .inv .1) (u .0 .taken) (u .1 .taken)) (c .before .before .before .before .before .loop-test .came) in
+    (c .before .before .before .before .before .before .before .before .before .before .before .before .before .before .section-of .ensures, enter-asks _ _ _ _ _ _ _ _ w _ refl l, c .before .before .before .before .before .before .before .before .before .before .before .before .before .before .before .before .before .records .inv .2, refl, body-stands _ _ _ (w .bodyIs))
 
 count-requires : tie.Need-count-requires Inv-loop μ-loop Inv-records μ-records
-count-requires c κs = counts-small _ _ _ _ _ (c .before .before .before .before .before .before .before .before .before .before .before .before .before .before .before .before .before .before .before .before .before .before .records .inv .1)
+count-requires c κs = counts-small _ _ _ _ _ (c .before .before .before .before .before .before .before .before .before .before .before .before .before .before .before .before .before .before .before .before .before .records .inv .1)
 
 records-less : tie.Need-records-less Inv-loop μ-loop Inv-records μ-records
-records-less c = omega (arith, c .before .before .before .before .before .before .before .before .before .before .before .before .before .before .before .before .before .before .before .before .before .before .if1 .left, place-later _ _ _ (c .before .before .before .before .before .before .before .before .before .before .before .before .before .before .before .next-place .ensures))
+records-less c = omega (arith, c .before .before .before .before .before .before .before .before .before .before .before .before .before .before .before .before .before .before .before .before .before .if1 .left, place-later _ _ _ (c .before .before .before .before .before .before .before .before .before .before .before .before .before .before .before .before .before .next-place .ensures))
 
 records-again : tie.Need-records-again Inv-loop μ-loop Inv-records μ-records
 records-again c =
     let w = c .before .before .before .before .before .before .before .before .before .before .before .loop .inv .0 in
-    let l : length (fieldsOf (getD (c .before .before .before .before .before .before .before .before .before .before .before .before .before .before .before .before .before .before .before .before .before .before .before .before .before .before .before .args .file .now) (c .before .before .before .before .before .before .before .before .before .before .before .before .before .before .before .before .before .before .before .before .before .before .before .records .at) 0)) ≤ c .before .before .before .before .before .before .before .before .before .before .before .loop .i = ⊎-elim (λ u. omega (arith, few-fields (getD (c .before .before .before .before .before .before .before .before .before .before .before .before .before .before .before .before .before .before .before .before .before .before .before .before .before .before .before .args .file .now) (c .before .before .before .before .before .before .before .before .before .before .before .before .before .before .before .before .before .before .before .before .before .before .before .records .at) 0), u .left)) (λ u. none-left _ _ _ (c .before .before .before .before .before .before .before .before .before .before .before .loop .inv .1) (u .0 .taken) (u .1 .taken)) (c .before .before .before .before .before .before .before .before .before .before .loop-test .came) in
+    let l : length (fieldsOf (getD (c .before .before .before .before .before .before .before .before .before .before .before .before .before .before .before .before .before .before .before .before .before .before .before .before .before .before .args .file .now) (c .before .before .before .before .before .before .before .before .before .before .before .before .before .before .before .before .before .before .before .before .before .before .records .at) 0)) ≤ c .before .before .before .before .before .before .before .before .before .before .before .loop .i = ⊎-elim (λ u. omega (arith, few-fields (getD (c .before .before .before .before .before .before .before .before .before .before .before .before .before .before .before .before .before .before .before .before .before .before .before .before .before .before .args .file .now) (c .before .before .before .before .before .before .before .before .before .before .before .before .before .before .before .before .before .before .before .before .before .before .records .at) 0), u .left)) (λ u. none-left _ _ _ (c .before .before .before .before .before .before .before .before .before .before .before .loop .inv .1) (u .0 .taken) (u .1 .taken)) (c .before .before .before .before .before .before .before .before .before .before .loop-test .came) in
     let e = c .before .before .before .before .enter in
-    let k = c .count .ensures ∙ ap (λ (own : ℕ). counted own (c .before .before .before .before .before .before .before .before .before .before .before .before .before .before .before .before .before .before .before .before .before .before .before .records .n)) (c .before .before .before .before .before .before .before .before .before .before .before .before .before .before .before .before .before .before .before .before .section-of .ensures) in (
-      e .kept .1 .0 ∙ c .before .before .before .before .before .before .before .before .before .before .before .before .before .before .before .before .before .before .before .before .before .before .before .records .inv .0,
-      record-taken _ _ _ _ _ _ _ _ w _ refl l _ _ _ (e .ensures .0) (c .before .if6 .left) (e .kept .1 .0) (e .ensures .1 .0) (e .ensures .1 .1 .0) _ k _ (c .before .before .before .before .before .before .before .before .before .before .before .before .before .before .before .next-place .ensures),
+    let k = c .count .ensures ∙ ap (λ (own : ℕ). counted own (c .before .before .before .before .before .before .before .before .before .before .before .before .before .before .before .before .before .before .before .before .before .before .records .n)) (c .before .before .before .before .before .before .before .before .before .before .before .before .before .before .before .before .before .before .before .section-of .ensures) in (
+      e .kept .1 .0 ∙ c .before .before .before .before .before .before .before .before .before .before .before .before .before .before .before .before .before .before .before .before .before .before .records .inv .0,
+      record-taken _ _ _ _ _ _ _ _ w _ refl l _ _ _ (e .ensures .0) (c .before .if6 .left) (e .kept .1 .0) (e .ensures .1 .0) (e .ensures .1 .1 .0) _ k _ (c .before .before .before .before .before .before .before .before .before .before .before .before .before .before .before .before .before .next-place .ensures),
       indexed-counted (c .count .ensures) (e .ensures .1 .1 .1 (c .before .if6 .left)),
-      passed (c .before .before .before .before .before .before .before .before .before .before .before .before .before .before .before .before .before .before .before .before .before .before .before .before .before .before .before .args .file .now) (c .before .before .before .before .before .before .before .before .before .before .before .before .before .before .before .before .before .before .before .before .before .before .before .records .at) (c .before .before .before .before .before .before .before .before .before .before .before .before .before .before .before .next-place .ensures) (c .before .before .before .before .before .before .before .before .before .before .before .before .before .before .before .before .before .before .before .before .before .before .if1 .left) (c .before .before .before .before .before .before .before .before .before .before .before .before .before .before .before .before .before .before .before .before .section-of .ensures) (c .before .before .before .before .before .before .before .before .before .before .before .before .before .before .before .before .before .before .before .if2 .left) (c .before .before .before .before .before .before .before .before .before .before .before .before .before .before .before .before .before .before .before .before .before .before .before .records .inv .3),
+      passed (c .before .before .before .before .before .before .before .before .before .before .before .before .before .before .before .before .before .before .before .before .before .before .before .before .before .before .args .file .now) (c .before .before .before .before .before .before .before .before .before .before .before .before .before .before .before .before .before .before .before .before .before .before .records .at) (c .before .before .before .before .before .before .before .before .before .before .before .before .before .before .before .before .before .next-place .ensures) (c .before .before .before .before .before .before .before .before .before .before .before .before .before .before .before .before .before .before .before .before .before .if1 .left) (c .before .before .before .before .before .before .before .before .before .before .before .before .before .before .before .before .before .before .before .section-of .ensures) (c .before .before .before .before .before .before .before .before .before .before .before .before .before .before .before .before .before .before .if2 .left) (c .before .before .before .before .before .before .before .before .before .before .before .before .before .before .before .before .before .before .before .before .before .before .records .inv .3),
     )
 
 same-length : tie.Need-same-length Inv-loop μ-loop Inv-records μ-records
@@ -196,10 +188,10 @@ same-length-3 : tie.Need-same-length-3 Inv-loop μ-loop Inv-records μ-records
 same-length-3 c = c .before .before .before .before .before .before .before .records .inv .0
 
 returns-3 : tie.Need-returns-3 Inv-loop μ-loop Inv-records μ-records
-returns-3 c = (at-head _ _ _ _ _ (c .before .before .before .before .before .before .before .records .inv .1) (c .before .before .before .before .before .before .if1 .left) _ (head-is _ _ _ _ _ (c .before .before .before .before .section-of .ensures) (c .before .before .body-length .ensures) (c .before .head-fault .ensures)) (c .if3 .taken), (λ z. absurd (c .if3 .taken z), λ z. absurd (c .if3 .taken z)))
+returns-3 c = (at-head _ _ _ _ _ (c .before .before .before .before .before .before .before .records .inv .1) (c .before .before .before .before .before .before .if1 .left) _ (head-is _ _ _ _ _ (c .before .before .before .before .section-of .ensures) (c .before .before .next-place .ensures) (c .before .head-fault .ensures)) (c .if3 .taken), (λ z. absurd (c .if3 .taken z), λ z. absurd (c .if3 .taken z)))
 
 same-length-4 : tie.Need-same-length-4 Inv-loop μ-loop Inv-records μ-records
-same-length-4 c = c .before .before .before .before .before .before .before .before .before .before .before .before .before .before .before .before .before .before .records .inv .0
+same-length-4 c = c .before .before .before .before .before .before .before .before .before .before .before .before .before .before .before .before .before .records .inv .0
 
 returns-4 : tie.Need-returns-4 Inv-loop μ-loop Inv-records μ-records
 returns-4 c =
@@ -208,12 +200,12 @@ returns-4 c =
     (field-refused _ _ _ _ _ _ _ _ w _ refl (l .0) _ (c .before .before .before .low-field .ensures ∙ l .1) _ (c .before .field-fault .ensures) (c .if5 .taken), (λ z. absurd (c .if5 .taken z), λ z. absurd (c .if5 .taken z)))
 
 same-length-5 : tie.Need-same-length-5 Inv-loop μ-loop Inv-records μ-records
-same-length-5 c = c .before .before .before .enter .kept .1 .0 ∙ c .before .before .before .before .before .before .before .before .before .before .before .before .before .before .before .before .before .before .before .before .before .before .records .inv .0
+same-length-5 c = c .before .before .before .enter .kept .1 .0 ∙ c .before .before .before .before .before .before .before .before .before .before .before .before .before .before .before .before .before .before .before .before .before .records .inv .0
 
 returns-5 : tie.Need-returns-5 Inv-loop μ-loop Inv-records μ-records
 returns-5 c =
     let w = c .before .before .before .before .before .before .before .before .before .before .loop .inv .0 in
-    let l : length (fieldsOf (getD (c .before .before .before .before .before .before .before .before .before .before .before .before .before .before .before .before .before .before .before .before .before .before .before .before .before .before .args .file .now) (c .before .before .before .before .before .before .before .before .before .before .before .before .before .before .before .before .before .before .before .before .before .before .records .at) 0)) ≤ c .before .before .before .before .before .before .before .before .before .before .loop .i = ⊎-elim (λ u. omega (arith, few-fields (getD (c .before .before .before .before .before .before .before .before .before .before .before .before .before .before .before .before .before .before .before .before .before .before .before .before .before .before .args .file .now) (c .before .before .before .before .before .before .before .before .before .before .before .before .before .before .before .before .before .before .before .before .before .before .records .at) 0), u .left)) (λ u. none-left _ _ _ (c .before .before .before .before .before .before .before .before .before .before .loop .inv .1) (u .0 .taken) (u .1 .taken)) (c .before .before .before .before .before .before .before .before .before .loop-test .came) in
+    let l : length (fieldsOf (getD (c .before .before .before .before .before .before .before .before .before .before .before .before .before .before .before .before .before .before .before .before .before .before .before .before .before .args .file .now) (c .before .before .before .before .before .before .before .before .before .before .before .before .before .before .before .before .before .before .before .before .before .records .at) 0)) ≤ c .before .before .before .before .before .before .before .before .before .before .loop .i = ⊎-elim (λ u. omega (arith, few-fields (getD (c .before .before .before .before .before .before .before .before .before .before .before .before .before .before .before .before .before .before .before .before .before .before .before .before .before .args .file .now) (c .before .before .before .before .before .before .before .before .before .before .before .before .before .before .before .before .before .before .before .before .before .records .at) 0), u .left)) (λ u. none-left _ _ _ (c .before .before .before .before .before .before .before .before .before .before .loop .inv .1) (u .0 .taken) (u .1 .taken)) (c .before .before .before .before .before .before .before .before .before .loop-test .came) in
     (last-refused _ _ _ _ _ _ _ _ w _ refl l _ _ _ (c .before .before .before .enter .ensures .0) (c .if6 .taken), (λ z. absurd (c .if6 .taken z), λ z. absurd (c .if6 .taken z)))
 
 pub scan-spec : {M : Type 1} → statement M
@@ -230,10 +222,8 @@ scan-spec =
     add-start
     section-of-requires
     scan-commands-requires
-    body-length-requires
-    sub-head-fault
-    head-fault-requires
     next-place-requires
+    head-fault-requires
     sub-body
     part-body-start
     part-body-end

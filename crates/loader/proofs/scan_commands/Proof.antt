@@ -9,7 +9,7 @@ use Rattle.rules.specs.Record.{fieldsOf}
 use Rattle.records.specs.Codes.{packed}
 use Rattle.records.proofs.Lengths.{few-fields}
 use Rattle.records.proofs.Packed.{field-left, field-next, none-left}
-use Rattle.reader.proofs.Places.{place-is, place-later, record-at}
+use Rattle.reader.proofs.Places.{place-is, place-later}
 use Rattle.loader.proofs.Scanning.{body-same}
 use Rattle.loader.proofs.Commands.{Standing, standing-start, standing-end, standing-head, command-here, AtField, field-first, command-fits, terms-there, field-inside, field-near, field-stops, field-passes, standing-next}
 use Rattle.loader.proofs.scan_commands.Statement.{statement}
@@ -18,11 +18,11 @@ use Rattle.loader.proofs.scan_commands.Reads as reads
 use Rattle.loader.proofs.scan_commands.Lts as lts
 
 abbrev Inv-loop : tie.InvT-loop
-Inv-loop table file state from n parties terms at commands kind start own length head end body fields₀ i₀ offset₀ fields i offset =
+Inv-loop table file state from n parties terms at commands kind start own end head body fields₀ i₀ offset₀ fields i offset =
     AtField file state n from at commands body i offset × (fields ≡ packed (drop i (fieldsOf (getD file at 0))))
 
 abbrev μ-loop : tie.MeasureT-loop
-μ-loop table file state from n parties terms at commands kind start own length head end body fields₀ i₀ offset₀ fields i offset = 4 - i
+μ-loop table file state from n parties terms at commands kind start own end head body fields₀ i₀ offset₀ fields i offset = 4 - i
 
 abbrev Inv-records : tie.InvT-records
 Inv-records table file state from n parties terms at₀ commands₀ at commands = Standing file state n from at commands
@@ -42,38 +42,30 @@ add-start c = omega arith
 section-of-requires : tie.Need-section-of-requires Inv-loop μ-loop Inv-records μ-records
 section-of-requires c κs = search needs
 
-body-length-requires : tie.Need-body-length-requires Inv-loop μ-loop Inv-records μ-records
-body-length-requires c κs = search needs
-
-sub-head-fault : tie.Need-sub-head-fault Inv-loop μ-loop Inv-records μ-records
-sub-head-fault c = omega arith
+next-place-requires : tie.Need-next-place-requires Inv-loop μ-loop Inv-records μ-records
+next-place-requires c κs = search needs
 
 head-fault-requires : tie.Need-head-fault-requires Inv-loop μ-loop Inv-records μ-records
 head-fault-requires c κs = search needs
 
-next-place-requires : tie.Need-next-place-requires Inv-loop μ-loop Inv-records μ-records
-next-place-requires c κs =
-    let r = c .before .before .before .before .before .before .before .before .before .pre in
-    record-at _ _ (command-fits (c .before .before .before .before .before .before .records .inv) (c .before .before .before .before .before .if1 .left) (c .before .before .before .section-of .ensures) (c .before .before .body-length .ensures) (c .before .head-fault .ensures) (c .if2 .left) (r .signers) (r .here))
-
 sub-body : tie.Need-sub-body Inv-loop μ-loop Inv-records μ-records
-sub-body c = omega (arith, place-later _ _ _ (c .next-place .ensures))
+sub-body c = omega (arith, place-later _ _ _ (c .before .before .next-place .ensures))
 
 part-body-start : tie.Need-part-body-start Inv-loop μ-loop Inv-records μ-records
-part-body-start c = omega (arith, place-later _ _ _ (c .next-place .ensures))
+part-body-start c = omega (arith, place-later _ _ _ (c .before .before .next-place .ensures))
 
 part-body-end : tie.Need-part-body-end Inv-loop μ-loop Inv-records μ-records
 part-body-end c =
-    let r = c .before .before .before .before .before .before .before .before .before .before .pre in
-    let f = command-fits (c .before .before .before .before .before .before .before .records .inv) (c .before .before .before .before .before .before .if1 .left) (c .before .before .before .before .section-of .ensures) (c .before .before .before .body-length .ensures) (c .before .before .head-fault .ensures) (c .before .if2 .left) (r .signers) (r .here) in
-    omega (arith, f, place-is _ _ _ (c .next-place .ensures))
+    let r = c .before .before .before .before .before .before .before .before .before .pre in
+    let f = command-fits (c .before .before .before .before .before .before .records .inv) (c .before .before .before .before .before .if1 .left) (c .before .before .before .section-of .ensures) (c .before .before .next-place .ensures) (c .before .head-fault .ensures) (c .if2 .left) (r .signers) (r .here) in
+    omega (arith, f, place-is _ _ _ (c .before .before .next-place .ensures))
 
 fields-in-requires : tie.Need-fields-in-requires Inv-loop μ-loop Inv-records μ-records
 fields-in-requires c κs = search needs
 
 loop-holds : tie.Need-loop-holds Inv-loop μ-loop Inv-records μ-records
 loop-holds c =
-    (field-first (c .before .before .before .before .before .before .before .before .before .records .inv) (c .before .before .before .before .before .before .before .before .if1 .left) (c .before .before .before .before .before .before .section-of .ensures) (c .before .before .before .before .before .body-length .ensures) (c .before .before .before .before .head-fault .ensures) (c .before .before .before .if2 .left) (body-same _ _ _ (c .before .before .next-place .ensures)), c .fields-in .ensures)
+    (field-first (c .before .before .before .before .before .before .before .before .records .inv) (c .before .before .before .before .before .before .before .if1 .left) (c .before .before .before .before .before .section-of .ensures) (c .before .before .before .before .next-place .ensures) (c .before .before .before .head-fault .ensures) (c .before .before .if2 .left) (body-same _ _ _ (c .before .before .before .before .next-place .ensures)), c .fields-in .ensures)
 
 low-field-requires : tie.Need-low-field-requires Inv-loop μ-loop Inv-records μ-records
 low-field-requires c κs = search needs
@@ -81,7 +73,7 @@ low-field-requires c κs = search needs
 command-fault-requires : tie.Need-command-fault-requires Inv-loop μ-loop Inv-records μ-records
 command-fault-requires c κs =
     let w = c .before .before .before .loop .inv .0 in
-    let a = c .before .before .before .before .before .before .before .before .before .before .before .before .before .before .before .before .pre .here in
+    let a = c .before .before .before .before .before .before .before .before .before .before .before .before .before .before .before .pre .here in
     let l = field-left _ _ _ (c .before .before .before .loop .inv .1) (c .before .before .loop-test .taken) (c .before .if3 .left) in
     (terms-there w a, field-inside w a (l .0) (c .low-field .ensures ∙ l .1))
 
@@ -91,7 +83,7 @@ width-requires c κs = search needs
 add-offset : tie.Need-add-offset Inv-loop μ-loop Inv-records μ-records
 add-offset c =
     let w = c .before .before .before .before .before .before .loop .inv .0 in
-    let a = c .before .before .before .before .before .before .before .before .before .before .before .before .before .before .before .before .before .before .before .pre .here in
+    let a = c .before .before .before .before .before .before .before .before .before .before .before .before .before .before .before .before .before .before .pre .here in
     let l = field-left _ _ _ (c .before .before .before .before .before .before .loop .inv .1) (c .before .before .before .before .before .loop-test .taken) (c .before .before .before .before .if3 .left) in
     omega (arith, field-near w a (l .0) (c .before .before .before .low-field .ensures ∙ l .1), c .width .ensures)
 
@@ -104,37 +96,37 @@ loop-less c = omega arith
 loop-again : tie.Need-loop-again Inv-loop μ-loop Inv-records μ-records
 loop-again c =
     let w = c .before .before .before .before .before .before .loop .inv in
-    let a = c .before .before .before .before .before .before .before .before .before .before .before .before .before .before .before .before .before .before .before .pre .here in
+    let a = c .before .before .before .before .before .before .before .before .before .before .before .before .before .before .before .before .before .before .pre .here in
     let l = field-left _ _ _ (c .before .before .before .before .before .before .loop .inv .1) (c .before .before .before .before .before .loop-test .taken) (c .before .before .before .before .if3 .left) in
     (field-passes (w .0) a (l .0) (c .before .before .before .low-field .ensures ∙ l .1) (c .before .before .command-fault .ensures) (c .before .if4 .left) _ (c .width .ensures), field-next _ _ _ (w .1) (c .before .before .before .before .before .loop-test .taken))
 
 add-commands : tie.Need-add-commands Inv-loop μ-loop Inv-records μ-records
 add-commands c =
-    let r = c .before .before .before .before .before .before .before .before .before .before .before .before .before .before .pre in
-    let w = c .before .before .before .before .before .before .before .before .before .before .before .records .inv in
+    let r = c .before .before .before .before .before .before .before .before .before .before .before .before .before .pre in
+    let w = c .before .before .before .before .before .before .before .before .before .before .records .inv in
     let a = w .carried (r .signers) (r .here) in
     omega (arith, a .few, a .inside, a .short, w .commandsAre)
 
 records-less : tie.Need-records-less Inv-loop μ-loop Inv-records μ-records
-records-less c = omega (arith, c .before .before .before .before .before .before .before .before .before .before .if1 .left, place-later _ _ _ (c .before .before .before .before .next-place .ensures))
+records-less c = omega (arith, c .before .before .before .before .before .before .before .before .before .if1 .left, place-later _ _ _ (c .before .before .before .before .before .before .next-place .ensures))
 
 records-again : tie.Need-records-again Inv-loop μ-loop Inv-records μ-records
 records-again c =
     let w = c .before .loop .inv in
-    let k = command-here (c .before .before .before .before .before .before .before .before .before .before .before .records .inv) (c .before .before .before .before .before .before .before .before .before .before .if1 .left) (c .before .before .before .before .before .before .before .before .section-of .ensures) (c .before .before .before .before .before .before .before .body-length .ensures) (c .before .before .before .before .before .before .head-fault .ensures) (c .before .before .before .before .before .if2 .left) in
-    let l = ⊎-elim (λ u. omega (arith, few-fields (getD (c .before .before .before .before .before .before .before .before .before .before .before .before .before .before .args .file .now) (c .before .before .before .before .before .before .before .before .before .before .before .records .at) 0), u .left)) (λ u. none-left _ _ _ (w .1) (u .0 .taken) (u .1 .taken)) (c .loop-test .came) in
-    standing-next (w .0) l k _ (place-is _ _ _ (c .before .before .before .before .next-place .ensures))
+    let k = command-here (c .before .before .before .before .before .before .before .before .before .before .records .inv) (c .before .before .before .before .before .before .before .before .before .if1 .left) (c .before .before .before .before .before .before .before .section-of .ensures) (c .before .before .before .before .before .before .next-place .ensures) (c .before .before .before .before .before .head-fault .ensures) (c .before .before .before .before .if2 .left) in
+    let l = ⊎-elim (λ u. omega (arith, few-fields (getD (c .before .before .before .before .before .before .before .before .before .before .before .before .before .args .file .now) (c .before .before .before .before .before .before .before .before .before .before .records .at) 0), u .left)) (λ u. none-left _ _ _ (w .1) (u .0 .taken) (u .1 .taken)) (c .loop-test .came) in
+    standing-next (w .0) l k _ (place-is _ _ _ (c .before .before .before .before .before .before .next-place .ensures))
 
 returns : tie.Need-returns Inv-loop μ-loop Inv-records μ-records
 returns c = (standing-end (c .before .records .inv) (c .if1 .taken), (refl, refl))
 
 returns-2 : tie.Need-returns-2 Inv-loop μ-loop Inv-records μ-records
-returns-2 c = (standing-head (c .before .before .before .before .before .before .records .inv) (c .before .before .before .before .before .if1 .left) (c .before .before .before .section-of .ensures) (c .before .before .body-length .ensures) (c .before .head-fault .ensures) _ (c .if2 .taken), (refl, refl))
+returns-2 c = (standing-head (c .before .before .before .before .before .before .records .inv) (c .before .before .before .before .before .if1 .left) (c .before .before .before .section-of .ensures) (c .before .before .next-place .ensures) (c .before .head-fault .ensures) _ (c .if2 .taken), (refl, refl))
 
 returns-3 : tie.Need-returns-3 Inv-loop μ-loop Inv-records μ-records
 returns-3 c =
     let w = c .before .before .before .before .before .loop .inv .0 in
-    let a = c .before .before .before .before .before .before .before .before .before .before .before .before .before .before .before .before .before .before .pre .here in
+    let a = c .before .before .before .before .before .before .before .before .before .before .before .before .before .before .before .before .before .pre .here in
     let l = field-left _ _ _ (c .before .before .before .before .before .loop .inv .1) (c .before .before .before .before .loop-test .taken) (c .before .before .before .if3 .left) in
     (field-stops w a (l .0) (c .before .before .low-field .ensures ∙ l .1) (c .before .command-fault .ensures) _ (c .if4 .taken), (refl, refl))
 
@@ -150,10 +142,8 @@ scan-commands-spec =
     shared-slice-read-kind
     add-start
     section-of-requires
-    body-length-requires
-    sub-head-fault
-    head-fault-requires
     next-place-requires
+    head-fault-requires
     sub-body
     part-body-start
     part-body-end
