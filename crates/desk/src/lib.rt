@@ -11,8 +11,8 @@ ghost use lib.ListN.{length};
 ghost use Rattle.rules.specs.declared.Entry.{Entry};
 ghost use Rattle.rules.specs.Limits.{rowWidth, partyLimit, termLimit, oemDesk, ownerDesk};
 ghost use Rattle.rules.specs.Attributes.{sameAttributes};
-ghost use Rattle.rules.specs.Term.{idevidRequestKind, certificateKind, credentialKind, isTpmSubject, isDeviceSubject, signatureKind};
-ghost use Rattle.rules.specs.File.{challenge, issueIak, isRole, kind, subject, attributes, signsForRole, issueLak};
+ghost use Rattle.rules.specs.Term.{hashKind, signatureKind, credentialKind, idevidRequestKind, ldevidRequestKind, certificateKind, pairKind, isTpmSubject, isDeviceSubject};
+ghost use Rattle.rules.specs.File.{challenge, issueIak, isRole, kind, hashedTerm, message, signingKey, credentialTerm, credentialNumber, credentialKey, idevidCertificate, idevidKey, ldevidMessage, ldevidCertificate, certifiedKey, signer, leftOf, rightOf, subject, attributes, signsForRole, issueLak};
 ghost use Rattle.rules.specs.State.{credentialOpen, listed, depthOf};
 ghost use Rattle.rules.specs.Desk.{formTests, proofTests, numberTests};
 ghost use Rattle.theorems.proofs.Loading.{Checked, Wellformed};
@@ -47,6 +47,145 @@ const NUMBER_USED: u8 = 1;
 const CREDENTIAL_OPEN: u8 = 2;
 
 const CREDENTIAL_CLOSED: u8 = 3;
+
+// Terms read back by their constructors, each as what its fields name.
+struct Pair {
+    left: usize,
+    right: usize,
+}
+
+struct Signature {
+    message: usize,
+    key: usize,
+}
+
+struct Credential {
+    content: usize,
+    number: usize,
+    key: usize,
+}
+
+struct IdevidRequest {
+    subject: Subject,
+    certificate: usize,
+    key: usize,
+}
+
+struct LdevidRequest {
+    message: usize,
+    certificate: usize,
+}
+
+struct Certificate {
+    key: usize,
+    subject: Subject,
+    signer: usize,
+}
+
+// The two terms of a pair.
+fn pair_of(file: &[u8], state: &[u8], t: usize) -> Pair
+    requires { ⌜ TermHere (now file) (now state) t × (kind (fileIn (now file)) t ≡ pairKind) ⌝ }
+    ensures { λ x. ⌜ (x .left ≡ leftOf (fileIn (now (file .entry))) t) × (x .right ≡ rightOf (fileIn (now (file .entry))) t) ⌝ }
+{
+    let found = learning::term_of(file, state, t);
+    let Term::Pair(left, right) = found else {
+        return Pair { left: 0, right: 0 };
+    };
+    Pair {
+        left: left as usize,
+        right: right as usize,
+    }
+}
+
+// What a hash is of.
+fn content_of(file: &[u8], state: &[u8], t: usize) -> usize
+    requires { ⌜ TermHere (now file) (now state) t × (kind (fileIn (now file)) t ≡ hashKind) ⌝ }
+    ensures { λ x. ⌜ x ≡ hashedTerm (fileIn (now (file .entry))) t ⌝ }
+{
+    let found = learning::term_of(file, state, t);
+    let Term::Hash(content) = found else {
+        return 0;
+    };
+    content as usize
+}
+
+// The message of a signature, and the private key that signed it.
+fn signature_of(file: &[u8], state: &[u8], t: usize) -> Signature
+    requires { ⌜ TermHere (now file) (now state) t × (kind (fileIn (now file)) t ≡ signatureKind) ⌝ }
+    ensures { λ x. ⌜ (x .message ≡ message (fileIn (now (file .entry))) t) × (x .key ≡ signingKey (fileIn (now (file .entry))) t) ⌝ }
+{
+    let found = learning::term_of(file, state, t);
+    let Term::Signature(message, key) = found else {
+        return Signature { message: 0, key: 0 };
+    };
+    Signature {
+        message: message as usize,
+        key: key as usize,
+    }
+}
+
+// The first term, the number and the public key of a credential.
+fn credential_of(file: &[u8], state: &[u8], t: usize) -> Credential
+    requires { ⌜ TermHere (now file) (now state) t × (kind (fileIn (now file)) t ≡ credentialKind) ⌝ }
+    ensures { λ x. ⌜ (x .content ≡ credentialTerm (fileIn (now (file .entry))) t) × (x .number ≡ credentialNumber (fileIn (now (file .entry))) t) × (x .key ≡ credentialKey (fileIn (now (file .entry))) t) ⌝ }
+{
+    let found = learning::term_of(file, state, t);
+    let Term::Credential(content, number, key) = found else {
+        return Credential { content: 0, number: 0, key: 0 };
+    };
+    Credential {
+        content: content as usize,
+        number: number as usize,
+        key: key as usize,
+    }
+}
+
+// The Subject, the certificate and the public key of an IDevID request.
+fn idevid_request_of(file: &[u8], state: &[u8], t: usize) -> IdevidRequest
+    requires { ⌜ TermHere (now file) (now state) t × (kind (fileIn (now file)) t ≡ idevidRequestKind) ⌝ }
+    ensures { λ x. ⌜ (x .subject ≡ subject (fileIn (now (file .entry))) t) × (x .certificate ≡ idevidCertificate (fileIn (now (file .entry))) t) × (x .key ≡ idevidKey (fileIn (now (file .entry))) t) ⌝ }
+{
+    let found = learning::term_of(file, state, t);
+    let Term::IdevidRequest(subject, certificate, key) = found else {
+        return IdevidRequest { subject: Subject::Tpm(0), certificate: 0, key: 0 };
+    };
+    IdevidRequest {
+        subject,
+        certificate: certificate as usize,
+        key: key as usize,
+    }
+}
+
+// The message and the certificate of an LDevID request.
+fn ldevid_request_of(file: &[u8], state: &[u8], t: usize) -> LdevidRequest
+    requires { ⌜ TermHere (now file) (now state) t × (kind (fileIn (now file)) t ≡ ldevidRequestKind) ⌝ }
+    ensures { λ x. ⌜ (x .message ≡ ldevidMessage (fileIn (now (file .entry))) t) × (x .certificate ≡ ldevidCertificate (fileIn (now (file .entry))) t) ⌝ }
+{
+    let found = learning::term_of(file, state, t);
+    let Term::LdevidRequest(message, certificate) = found else {
+        return LdevidRequest { message: 0, certificate: 0 };
+    };
+    LdevidRequest {
+        message: message as usize,
+        certificate: certificate as usize,
+    }
+}
+
+// The certified key, the Subject and the signer's private key of a certificate.
+fn certificate_of(file: &[u8], state: &[u8], t: usize) -> Certificate
+    requires { ⌜ TermHere (now file) (now state) t × (kind (fileIn (now file)) t ≡ certificateKind) ⌝ }
+    ensures { λ x. ⌜ (x .key ≡ certifiedKey (fileIn (now (file .entry))) t) × (x .subject ≡ subject (fileIn (now (file .entry))) t) × (x .signer ≡ signer (fileIn (now (file .entry))) t) ⌝ }
+{
+    let found = learning::term_of(file, state, t);
+    let Term::Certificate(key, subject, signer) = found else {
+        return Certificate { key: 0, subject: Subject::Tpm(0), signer: 0 };
+    };
+    Certificate {
+        key: key as usize,
+        subject,
+        signer: signer as usize,
+    }
+}
 
 // The form of a request: a pair of its body and a signature over a hash.
 pub fn form(file: &[u8], state: &[u8], q: usize, kind: u8) -> u8
