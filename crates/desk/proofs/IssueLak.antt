@@ -9,14 +9,13 @@
 --     attest-read to entry-read              parts by what was read are parts by the request
 --     issue-lak-chain                        the outcome as a chain of its tests, part by part
 -- Assumes nothing.
-use mathlib.Core.Path.{_≡_, refl, sym, ap, _∙_}
-use mathlib.Core.Bool.{Bool, true, false, cond, not, false≢true}
-use mathlib.Core.List.{List, [], _∷_, _++_}
-use Prim.Native.Nat.{ℕ, zero, suc, _+_, _<_, _≤_}
+use mathlib.Core.Path.{_≡_, refl, ap, _∙_}
+use mathlib.Core.Bool.{Bool, true, false}
+use mathlib.Core.List.{List, _∷_, _++_}
+use Prim.Native.Nat.{ℕ, _+_, _<_, _≤_}
 use native.Mathlib.Omega.{arith}
 use lib.Dec.{eqb}
 use lib.ListN.{length}
-use borrow.Author.Tests.{eq-eqb}
 use Rattle.rules.specs.declared.Entry.{Entry}
 use Rattle.rules.specs.declared.Subject.{Subject}
 use Rattle.rules.specs.declared.Term.the-variants.{Signature, Attest}
@@ -24,13 +23,13 @@ use Rattle.rules.specs.Limits.{ownerDesk, termLimit}
 use Rattle.rules.specs.Refusals.{Test, need}
 use Rattle.rules.specs.Term.{hashKind, signatureKind, attestKind, ldevidRequestKind, certificateKind}
 use Rattle.rules.specs.File.{File, issueLak, isRole, term, kind, isKind, message, signingKey, attestedKey, ldevidMessage, ldevidCertificate, leftOf, subject, paired}
-use Rattle.rules.specs.State.{State, listed}
+use Rattle.rules.specs.State.{State}
 use Rattle.rules.specs.Desk.{requestBody, requestSignature, formTests, proofTests, calledFor, attestSignatureOf, lakOf, parentCertificateOf, issueLakTests}
 use Rattle.rules.specs.Run.{testsOf, outcome}
 use Rattle.tables.specs.Regions.{tablesIn}
 use Rattle.loaded.specs.Chain.{chain}
 use Rattle.loaded.specs.Loaded.{fileIn, Holds, Finds, TermHere}
-use Rattle.loaded.specs.Entries.{entryFrom, Enters}
+use Rattle.loaded.specs.Entries.{Enters}
 use Rattle.loaded.proofs.Chain.{in-order, chain-none, chain-passes, chain-fails, chain-rest}
 use Rattle.loaded.proofs.Halves.{pair-read}
 use Rattle.loaded.proofs.Standing.{checked-here, term-here, kind-declared, signing-key-declared}

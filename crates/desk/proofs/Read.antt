@@ -6,11 +6,11 @@
 --     left-known, right-known, message-known     what they name is declared
 -- Assumes nothing.
 use mathlib.Core.Path.{_≡_, refl, sym, ap, subst, _∙_}
-use mathlib.Core.Bool.{Bool, true, false, not, false≢true}
+use mathlib.Core.Bool.{true, false, not, false≢true}
 use mathlib.Core.List.{List, [], _∷_}
 use Prim.Native.Nat.{ℕ, suc, _+_, _<_}
 use native.Mathlib.Omega.{arith}
-use lib.Dec.{T, eqb}
+use lib.Dec.{T}
 use lib.ListN.{length, getD}
 use borrow.Author.Tests.{eqb-true, eq-eqb, ne-eqb}
 use denote.Enum.Declared.{tagOf}
@@ -26,7 +26,7 @@ use Rattle.rules.specs.File.{File, term, kind, isKind, field, hashedTerm, messa
 use Rattle.state.specs.View.{view}
 use Rattle.learning.specs.There.{termThere}
 use Rattle.loaded.specs.Loaded.{fileIn, Holds, TermHere}
-use Rattle.loaded.proofs.Standing.{left-declared, right-declared, message-declared, signing-key-declared}
+use Rattle.loaded.proofs.Standing.{left-declared, right-declared, message-declared}
 
 pub read : {bs s : List ℕ} {t : ℕ} → TermHere bs s t → {x y : Term} → x ≡ termThere bs (view s .place t) → x ≡ y → term (fileIn bs) t ≡ y
 read w e q = sym (w .same) ∙ sym e ∙ q

@@ -131,7 +131,11 @@ fn credential_of(file: &[u8], state: &[u8], t: usize) -> Credential
 {
     let found = learning::term_of(file, state, t);
     let Term::Credential(content, number, key) = found else {
-        return Credential { content: 0, number: 0, key: 0 };
+        return Credential {
+            content: 0,
+            number: 0,
+            key: 0,
+        };
     };
     Credential {
         content: content as usize,
@@ -147,7 +151,11 @@ fn idevid_request_of(file: &[u8], state: &[u8], t: usize) -> IdevidRequest
 {
     let found = learning::term_of(file, state, t);
     let Term::IdevidRequest(subject, certificate, key) = found else {
-        return IdevidRequest { subject: Subject::Tpm(0), certificate: 0, key: 0 };
+        return IdevidRequest {
+            subject: Subject::Tpm(0),
+            certificate: 0,
+            key: 0,
+        };
     };
     IdevidRequest {
         subject,
@@ -163,7 +171,10 @@ fn ldevid_request_of(file: &[u8], state: &[u8], t: usize) -> LdevidRequest
 {
     let found = learning::term_of(file, state, t);
     let Term::LdevidRequest(message, certificate) = found else {
-        return LdevidRequest { message: 0, certificate: 0 };
+        return LdevidRequest {
+            message: 0,
+            certificate: 0,
+        };
     };
     LdevidRequest {
         message: message as usize,
@@ -178,7 +189,11 @@ fn certificate_of(file: &[u8], state: &[u8], t: usize) -> Certificate
 {
     let found = learning::term_of(file, state, t);
     let Term::Certificate(key, subject, signer) = found else {
-        return Certificate { key: 0, subject: Subject::Tpm(0), signer: 0 };
+        return Certificate {
+            key: 0,
+            subject: Subject::Tpm(0),
+            signer: 0,
+        };
     };
     Certificate {
         key: key as usize,
@@ -344,13 +359,7 @@ fn endorsement(
 }
 
 // The credential of a challenge: over the hash of the IAK, to the EK.
-fn credential_names(
-    file: &[u8],
-    state: &[u8],
-    credential: Credential,
-    iak: usize,
-    ek: usize,
-) -> u8
+fn credential_names(file: &[u8], state: &[u8], credential: Credential, iak: usize, ek: usize) -> u8
     requires { ⌜ Holds (now file) (now state) × (credential .content < length (fileIn (now file) .terms)) ⌝ }
     ensures { λ x. ⌜ x ≡ chain (credentialTests (fileIn (now (file .entry))) (credential .content) (credential .key) iak ek) ⌝ }
 {
@@ -516,12 +525,20 @@ fn attested_by(file: &[u8], state: &[u8], t: usize) -> Attested
 {
     let signed = learning::term_of(file, state, t);
     let Term::Signature(content, signer) = signed else {
-        return Attested { refusal: 19, key: 0, signer: 0 };
+        return Attested {
+            refusal: 19,
+            key: 0,
+            signer: 0,
+        };
     };
     let message = content as usize;
     let attest = learning::term_of(file, state, message);
     let Term::Attest(key) = attest else {
-        return Attested { refusal: 19, key: 0, signer: 0 };
+        return Attested {
+            refusal: 19,
+            key: 0,
+            signer: 0,
+        };
     };
     let lak = key as usize;
     let half = signer as usize;
