@@ -2,7 +2,6 @@ pub mod Read
 pub mod Forms
 pub mod Signers
 pub mod Outcomes
-pub mod Subjects
 pub mod Called
 pub mod IssueIak
 pub mod IssueLak

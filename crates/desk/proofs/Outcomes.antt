@@ -5,10 +5,11 @@ use mathlib.Core.Bool.{Bool, true, false}
 use mathlib.Core.List.{List, [], _∷_, _++_}
 use Prim.Native.Nat.{ℕ, zero, suc, _<_}
 use native.Mathlib.Omega.{arith}
+use Rattle.rules.specs.declared.Subject.{Subject}
 use Rattle.rules.specs.Limits.{oemDesk}
 use Rattle.rules.specs.Refusals.{Test, need}
 use Rattle.rules.specs.Term.{idevidRequestKind, isDeviceSubject}
-use Rattle.rules.specs.File.{File, challenge, isRole, kind, credentialNumber, idevidCertificate, idevidKey, certifiedKey, leftOf, subject}
+use Rattle.rules.specs.File.{File, challenge, isRole, kind, credentialTerm, credentialNumber, credentialKey, idevidCertificate, idevidKey, certifiedKey, signer, leftOf, subject}
 use Rattle.rules.specs.State.{State}
 use Rattle.rules.specs.Desk.{requestBody, requestSignature, formTests, proofTests, numberTests, iakOf, ekCertificateOf, ekOf, challengeTests}
 use Rattle.rules.specs.Run.{testsOf, outcome}
@@ -32,8 +33,8 @@ module _ (f : File) (ys : List Test) {x : ℕ} (z : x ≡ 0) where
   unfolding proofTests
   proof-goes q key e = chain-rest 20 _ ys (omega arith) refl (sym e ∙ z)
 
-  pub endorsement-goes : (c i k : ℕ) → x ≡ chain (endorsementTests f c i k) → chain (endorsementTests f c i k ++ ys) ≡ chain ys
-  endorsement-goes c i k e = chain-rest 21 (endorsementTests f c i k) ys (omega arith) refl (sym e ∙ z)
+  pub endorsement-goes : (n : Subject) (h i k : ℕ) → x ≡ chain (endorsementTests f n h i k) → chain (endorsementTests f n h i k ++ ys) ≡ chain ys
+  endorsement-goes n h i k e = chain-rest 21 (endorsementTests f n h i k) ys (omega arith) refl (sym e ∙ z)
 
   pub number-goes : (s : State) (p n : ℕ) → x ≡ chain (numberTests s p n) → chain (numberTests s p n ++ ys) ≡ chain ys
   unfolding numberTests
@@ -54,10 +55,11 @@ has-form f k q e z =
     let d = passed 19 _ _ (omega arith) (c .1) in
     (record { pair = is-kind-kind f q (a .0); signature = is-kind-kind f _ (c .0); hash = is-kind-kind f _ (d .0) }, is-kind-kind f _ (b .0))
 
--- 3E, by the numbers that were read
+-- 3E, by what was read
 pub challenge-chain :
-    (f : File) (s : State) (p q r : ℕ) {body iak certificate ek number : ℕ} → body ≡ leftOf f q → iak ≡ idevidKey f body → certificate ≡ idevidCertificate f body → ek ≡ certifiedKey f certificate → number ≡ credentialNumber f r
+    (f : File) (s : State) (p q r : ℕ) {body certificate iak ek half number content key : ℕ} {asked named : Subject} → body ≡ leftOf f q → asked ≡ subject f body → certificate ≡ idevidCertificate f body → iak ≡ idevidKey f body
+    → ek ≡ certifiedKey f certificate → named ≡ subject f certificate → half ≡ signer f certificate → content ≡ credentialTerm f r → number ≡ credentialNumber f r → key ≡ credentialKey f r
     → outcome f s (challenge p q r)
-    ≡ chain (need 13 (isRole f oemDesk p) ∷ need 14 (s .knows p q) ∷ (formTests f idevidRequestKind q ++ (need 19 (isDeviceSubject (subject f body)) ∷ (proofTests f q iak ++ (endorsementTests f certificate iak ek ++ (numberTests s p number ++ credentialTests f r iak ek))))))
+    ≡ chain (need 13 (isRole f oemDesk p) ∷ need 14 (s .knows p q) ∷ (formTests f idevidRequestKind q ++ (need 19 (isDeviceSubject asked) ∷ (proofTests f q iak ++ (endorsementTests f named half iak ek ++ (numberTests s p number ++ credentialTests f content key iak ek))))))
 unfolding outcome testsOf challengeTests formTests proofTests numberTests requestBody iakOf ekCertificateOf ekOf
-challenge-chain f s p q r b i c e n = rw (n, e, c, i, b) (in-order _ refl refl)
+challenge-chain f s p q r b a c i e w h t n k = rw (k, n, t, h, w, e, i, c, a, b) (in-order _ refl refl)

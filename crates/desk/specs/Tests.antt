@@ -9,22 +9,24 @@ use Rattle.rules.specs.Refusals.{Test, need}
 use Rattle.rules.specs.Attributes.{sameAttributes, iakAttributes, ekAttributes}
 use Rattle.rules.specs.declared.Subject.{Subject}
 use Rattle.rules.specs.Term.{hashKind, signatureKind, attestKind, sameSubject, isTpmSubject}
-use Rattle.rules.specs.File.{File, isKind, hashedTerm, message, signingKey, credentialTerm, credentialKey, certifiedKey, signer, subject, attributes, paired, signsFor, signsForRole}
+use Rattle.rules.specs.File.{File, isKind, hashedTerm, message, certifiedKey, signer, subject, attributes, paired, signsFor, signsForRole}
 use Rattle.rules.specs.State.{listed, depthOf}
 
-abbrev pub endorsementTests : File → ℕ → ℕ → ℕ → List Test
-endorsementTests f certificate iak ek =
-    need 21 (isTpmSubject (subject f certificate))
-    ∷ need 21 (signsForRole f tpmMaker (signer f certificate))
+-- the Subject and the signer of the EK's certificate, and both keys
+abbrev pub endorsementTests : File → Subject → ℕ → ℕ → ℕ → List Test
+endorsementTests f named half iak ek =
+    need 21 (isTpmSubject named)
+    ∷ need 21 (signsForRole f tpmMaker half)
     ∷ need 23 (sameAttributes (attributes f iak) iakAttributes)
     ∷ need 23 (sameAttributes (attributes f ek) ekAttributes)
     ∷ []
 
-abbrev pub credentialTests : File → ℕ → ℕ → ℕ → List Test
-credentialTests f r iak ek =
-    need 27 (isKind f hashKind (credentialTerm f r))
-    ∷ need 27 (eqb (hashedTerm f (credentialTerm f r)) iak)
-    ∷ need 27 (eqb (credentialKey f r) ek)
+-- what a credential is over and its key, and both keys
+abbrev pub credentialTests : File → ℕ → ℕ → ℕ → ℕ → List Test
+credentialTests f content key iak ek =
+    need 27 (isKind f hashKind content)
+    ∷ need 27 (eqb (hashedTerm f content) iak)
+    ∷ need 27 (eqb key ek)
     ∷ []
 
 -- "r is (key, Subject, the desk's key)", by the Subject
@@ -42,9 +44,10 @@ attestTests f signature =
     ∷ need 19 (isKind f attestKind (message f signature))
     ∷ []
 
+-- the private key that signed an attest, the attested key and the parent's certificate
 abbrev pub parentageTests : File → List Entry → ℕ → ℕ → ℕ → List Test
-parentageTests f ledger signature lak parent =
-    need 20 (paired f (certifiedKey f parent) (signingKey f signature))
+parentageTests f ledger half lak parent =
+    need 20 (paired f (certifiedKey f parent) half)
     ∷ need 21 (signsForRole f oemDesk (signer f parent) || signsForRole f ownerDesk (signer f parent))
     ∷ need 22 (listed ledger parent)
     ∷ need 23 (sameAttributes (attributes f lak) iakAttributes)

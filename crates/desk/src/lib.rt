@@ -11,8 +11,8 @@ ghost use lib.ListN.{length};
 ghost use Rattle.rules.specs.declared.Entry.{Entry};
 ghost use Rattle.rules.specs.Limits.{rowWidth, partyLimit, termLimit, oemDesk, ownerDesk};
 ghost use Rattle.rules.specs.Attributes.{sameAttributes};
-ghost use Rattle.rules.specs.Term.{idevidRequestKind, certificateKind, credentialKind, isTpmSubject, isDeviceSubject, signatureKind};
-ghost use Rattle.rules.specs.File.{challenge, issueIak, isRole, kind, subject, attributes, signsForRole, issueLak};
+ghost use Rattle.rules.specs.Term.{hashKind, signatureKind, credentialKind, idevidRequestKind, ldevidRequestKind, certificateKind, pairKind, isTpmSubject, isDeviceSubject};
+ghost use Rattle.rules.specs.File.{challenge, issueIak, isRole, kind, hashedTerm, message, signingKey, attestedKey, credentialTerm, credentialNumber, credentialKey, idevidCertificate, idevidKey, ldevidMessage, ldevidCertificate, certifiedKey, signer, leftOf, rightOf, subject, attributes, signsForRole, issueLak};
 ghost use Rattle.rules.specs.State.{credentialOpen, listed, depthOf};
 ghost use Rattle.rules.specs.Desk.{formTests, proofTests, numberTests};
 ghost use Rattle.theorems.proofs.Loading.{Checked, Wellformed};
@@ -47,6 +47,160 @@ const NUMBER_USED: u8 = 1;
 const CREDENTIAL_OPEN: u8 = 2;
 
 const CREDENTIAL_CLOSED: u8 = 3;
+
+// Terms read back by their constructors, each as what its fields name.
+struct Pair {
+    left: usize,
+    right: usize,
+}
+
+struct Signature {
+    message: usize,
+    key: usize,
+}
+
+struct Credential {
+    content: usize,
+    number: usize,
+    key: usize,
+}
+
+struct IdevidRequest {
+    subject: Subject,
+    certificate: usize,
+    key: usize,
+}
+
+struct LdevidRequest {
+    message: usize,
+    certificate: usize,
+}
+
+struct Certificate {
+    key: usize,
+    subject: Subject,
+    signer: usize,
+}
+
+// The two terms of a pair.
+fn pair_of(file: &[u8], state: &[u8], t: usize) -> Pair
+    requires { ⌜ TermHere (now file) (now state) t × (kind (fileIn (now file)) t ≡ pairKind) ⌝ }
+    ensures { λ x. ⌜ (x .left ≡ leftOf (fileIn (now (file .entry))) t) × (x .right ≡ rightOf (fileIn (now (file .entry))) t) ⌝ }
+{
+    let found = learning::term_of(file, state, t);
+    let Term::Pair(left, right) = found else {
+        return Pair { left: 0, right: 0 };
+    };
+    Pair {
+        left: left as usize,
+        right: right as usize,
+    }
+}
+
+// What a hash is of.
+fn content_of(file: &[u8], state: &[u8], t: usize) -> usize
+    requires { ⌜ TermHere (now file) (now state) t × (kind (fileIn (now file)) t ≡ hashKind) ⌝ }
+    ensures { λ x. ⌜ x ≡ hashedTerm (fileIn (now (file .entry))) t ⌝ }
+{
+    let found = learning::term_of(file, state, t);
+    let Term::Hash(content) = found else {
+        return 0;
+    };
+    content as usize
+}
+
+// The message of a signature, and the private key that signed it.
+fn signature_of(file: &[u8], state: &[u8], t: usize) -> Signature
+    requires { ⌜ TermHere (now file) (now state) t × (kind (fileIn (now file)) t ≡ signatureKind) ⌝ }
+    ensures { λ x. ⌜ (x .message ≡ message (fileIn (now (file .entry))) t) × (x .key ≡ signingKey (fileIn (now (file .entry))) t) ⌝ }
+{
+    let found = learning::term_of(file, state, t);
+    let Term::Signature(message, key) = found else {
+        return Signature { message: 0, key: 0 };
+    };
+    Signature {
+        message: message as usize,
+        key: key as usize,
+    }
+}
+
+// The first term, the number and the public key of a credential.
+fn credential_of(file: &[u8], state: &[u8], t: usize) -> Credential
+    requires { ⌜ TermHere (now file) (now state) t × (kind (fileIn (now file)) t ≡ credentialKind) ⌝ }
+    ensures { λ x. ⌜ (x .content ≡ credentialTerm (fileIn (now (file .entry))) t) × (x .number ≡ credentialNumber (fileIn (now (file .entry))) t) × (x .key ≡ credentialKey (fileIn (now (file .entry))) t) ⌝ }
+{
+    let found = learning::term_of(file, state, t);
+    let Term::Credential(content, number, key) = found else {
+        return Credential {
+            content: 0,
+            number: 0,
+            key: 0,
+        };
+    };
+    Credential {
+        content: content as usize,
+        number: number as usize,
+        key: key as usize,
+    }
+}
+
+// The Subject, the certificate and the public key of an IDevID request.
+fn idevid_request_of(file: &[u8], state: &[u8], t: usize) -> IdevidRequest
+    requires { ⌜ TermHere (now file) (now state) t × (kind (fileIn (now file)) t ≡ idevidRequestKind) ⌝ }
+    ensures { λ x. ⌜ (x .subject ≡ subject (fileIn (now (file .entry))) t) × (x .certificate ≡ idevidCertificate (fileIn (now (file .entry))) t) × (x .key ≡ idevidKey (fileIn (now (file .entry))) t) ⌝ }
+{
+    let found = learning::term_of(file, state, t);
+    let Term::IdevidRequest(subject, certificate, key) = found else {
+        return IdevidRequest {
+            subject: Subject::Tpm(0),
+            certificate: 0,
+            key: 0,
+        };
+    };
+    IdevidRequest {
+        subject,
+        certificate: certificate as usize,
+        key: key as usize,
+    }
+}
+
+// The message and the certificate of an LDevID request.
+fn ldevid_request_of(file: &[u8], state: &[u8], t: usize) -> LdevidRequest
+    requires { ⌜ TermHere (now file) (now state) t × (kind (fileIn (now file)) t ≡ ldevidRequestKind) ⌝ }
+    ensures { λ x. ⌜ (x .message ≡ ldevidMessage (fileIn (now (file .entry))) t) × (x .certificate ≡ ldevidCertificate (fileIn (now (file .entry))) t) ⌝ }
+{
+    let found = learning::term_of(file, state, t);
+    let Term::LdevidRequest(message, certificate) = found else {
+        return LdevidRequest {
+            message: 0,
+            certificate: 0,
+        };
+    };
+    LdevidRequest {
+        message: message as usize,
+        certificate: certificate as usize,
+    }
+}
+
+// The certified key, the Subject and the signer's private key of a certificate.
+fn certificate_of(file: &[u8], state: &[u8], t: usize) -> Certificate
+    requires { ⌜ TermHere (now file) (now state) t × (kind (fileIn (now file)) t ≡ certificateKind) ⌝ }
+    ensures { λ x. ⌜ (x .key ≡ certifiedKey (fileIn (now (file .entry))) t) × (x .subject ≡ subject (fileIn (now (file .entry))) t) × (x .signer ≡ signer (fileIn (now (file .entry))) t) ⌝ }
+{
+    let found = learning::term_of(file, state, t);
+    let Term::Certificate(key, subject, signer) = found else {
+        return Certificate {
+            key: 0,
+            subject: Subject::Tpm(0),
+            signer: 0,
+        };
+    };
+    Certificate {
+        key: key as usize,
+        subject,
+        signer: signer as usize,
+    }
+}
 
 // The form of a request: a pair of its body and a signature over a hash.
 pub fn form(file: &[u8], state: &[u8], q: usize, kind: u8) -> u8
@@ -84,15 +238,13 @@ pub fn proof_of_key(
     requires { ⌜ Holds (now file) (now state) × Finds (now file) (now tables) × (q < length (fileIn (now file) .terms)) × Formed (fileIn (now file)) q × (key < length (fileIn (now file) .terms)) ⌝ }
     ensures { λ x. ⌜ x ≡ chain (proofTests (fileIn (now (file .entry))) q key) ⌝ }
 {
-    let body = loaded::left_of(file, state, q);
-    let signature = loaded::right_of(file, state, q);
-    let message = loaded::message_of(file, state, signature);
-    let content = loaded::hashed_term(file, state, message);
-    if content != body {
+    let request = pair_of(file, state, q);
+    let signature = signature_of(file, state, request.right);
+    let content = content_of(file, state, signature.message);
+    if content != request.left {
         return 20;
     }
-    let signer = loaded::signing_key_of(file, state, signature);
-    if !loaded::is_half(tables, key, signer) {
+    if !loaded::is_half(tables, key, signature.key) {
         return 20;
     }
     0
@@ -148,36 +300,21 @@ fn fresh_number(state: &[u8], party: usize, number: usize) -> u8
     0
 }
 
-// The Subject of a request or a certificate; of another term, TPM 0.
-fn subject_of(file: &[u8], state: &[u8], t: usize) -> Subject
-    requires { ⌜ TermHere (now file) (now state) t ⌝ }
-    ensures { λ x. ⌜ x ≡ subject (fileIn (now (file .entry))) t ⌝ }
+// Whether a Subject is a TPM.
+fn is_tpm(named: Subject) -> bool
+    ensures { λ x. ⌜ x ≡ isTpmSubject named ⌝ }
 {
-    let found = learning::term_of(file, state, t);
-    match found {
-        Term::IdevidRequest(asked, _, _) => asked,
-        Term::Certificate(_, certified, _) => certified,
-        _ => Subject::Tpm(0),
-    }
-}
-
-// Whether a certificate is a TPM's.
-fn is_tpm(file: &[u8], state: &[u8], t: usize) -> bool
-    requires { ⌜ TermHere (now file) (now state) t × (kind (fileIn (now file)) t ≡ certificateKind) ⌝ }
-    ensures { λ x. ⌜ x ≡ isTpmSubject (subject (fileIn (now (file .entry))) t) ⌝ }
-{
-    match subject_of(file, state, t) {
+    match named {
         Subject::Tpm(_) => true,
         Subject::Device(_) => false,
     }
 }
 
-// Whether a request is a device's.
-fn is_device(file: &[u8], state: &[u8], t: usize) -> bool
-    requires { ⌜ TermHere (now file) (now state) t × (kind (fileIn (now file)) t ≡ idevidRequestKind) ⌝ }
-    ensures { λ x. ⌜ x ≡ isDeviceSubject (subject (fileIn (now (file .entry))) t) ⌝ }
+// Whether a Subject is a device.
+fn is_device(named: Subject) -> bool
+    ensures { λ x. ⌜ x ≡ isDeviceSubject named ⌝ }
 {
-    match subject_of(file, state, t) {
+    match named {
         Subject::Tpm(_) => false,
         Subject::Device(_) => true,
     }
@@ -199,44 +336,42 @@ fn endorsement(
     state: &[u8],
     tables: &[u16; tables::WORDS],
     parties: usize,
-    certificate: usize,
+    certificate: Certificate,
     iak: usize,
-    ek: usize,
 ) -> u8
-    requires { ⌜ Holds (now file) (now state) × Finds (now file) (now tables) × (parties ≡ length (fileIn (now file) .roles)) × (kind (fileIn (now file)) certificate ≡ certificateKind) × (iak < length (fileIn (now file) .terms)) × (ek < length (fileIn (now file) .terms)) ⌝ }
-    ensures { λ x. ⌜ x ≡ chain (endorsementTests (fileIn (now (file .entry))) certificate iak ek) ⌝ }
+    requires { ⌜ Holds (now file) (now state) × Finds (now file) (now tables) × (parties ≡ length (fileIn (now file) .roles)) × (certificate .key < length (fileIn (now file) .terms)) × (certificate .signer < length (fileIn (now file) .terms)) × (iak < length (fileIn (now file) .terms)) ⌝ }
+    ensures { λ x. ⌜ x ≡ chain (endorsementTests (fileIn (now (file .entry))) (certificate .subject) (certificate .signer) iak (certificate .key)) ⌝ }
 {
-    if !is_tpm(file, state, certificate) {
+    let named = certificate.subject;
+    if !is_tpm(named) {
         return 21;
     }
-    let signer = loaded::signer_of(file, state, certificate);
-    if !signs_for_role(file, tables, rules::TPM_MAKER, signer, parties) {
+    if !signs_for_role(file, tables, rules::TPM_MAKER, certificate.signer, parties) {
         return 21;
     }
     if !has_exactly(file, state, iak, Attributes::iak()) {
         return 23;
     }
-    if !has_exactly(file, state, ek, Attributes::ek()) {
+    if !has_exactly(file, state, certificate.key, Attributes::ek()) {
         return 23;
     }
     0
 }
 
 // The credential of a challenge: over the hash of the IAK, to the EK.
-fn credential_names(file: &[u8], state: &[u8], r: usize, iak: usize, ek: usize) -> u8
-    requires { ⌜ Holds (now file) (now state) × (kind (fileIn (now file)) r ≡ credentialKind) ⌝ }
-    ensures { λ x. ⌜ x ≡ chain (credentialTests (fileIn (now (file .entry))) r iak ek) ⌝ }
+fn credential_names(file: &[u8], state: &[u8], credential: Credential, iak: usize, ek: usize) -> u8
+    requires { ⌜ Holds (now file) (now state) × (credential .content < length (fileIn (now file) .terms)) ⌝ }
+    ensures { λ x. ⌜ x ≡ chain (credentialTests (fileIn (now (file .entry))) (credential .content) (credential .key) iak ek) ⌝ }
 {
-    let content = loaded::credential_term_of(file, state, r);
-    if !loaded::is_kind(file, state, content, 0x12) {
+    let found = learning::term_of(file, state, credential.content);
+    let Term::Hash(content) = found else {
         return 27;
-    }
-    let hashed = loaded::hashed_term(file, state, content);
+    };
+    let hashed = content as usize;
     if hashed != iak {
         return 27;
     }
-    let key = loaded::credential_key_of(file, state, r);
-    if key != ek {
+    if credential.key != ek {
         return 27;
     }
     0
@@ -272,17 +407,16 @@ fn called_for(
     requires { ⌜ Holds (now file) (now state) × Finds (now file) (now tables) × (party < partyLimit) × (kind (fileIn (now file)) r ≡ certificateKind) ⌝ }
     ensures { λ x. ⌜ x ≡ chain (calledTests (fileIn (now (file .entry))) party r key wanted) ⌝ }
 {
-    let certified = loaded::certified_key_of(file, state, r);
-    if certified != key {
+    let certificate = certificate_of(file, state, r);
+    if certificate.key != key {
         return 27;
     }
-    let named = subject_of(file, state, r);
+    let named = certificate.subject;
     if !rules::same_subject(named, wanted) {
         return 27;
     }
-    let signer = loaded::signer_of(file, state, r);
     let own = tables::signer_of(tables, party) as usize;
-    if own != signer {
+    if own != certificate.signer {
         return 27;
     }
     0
@@ -311,27 +445,27 @@ pub fn decide_challenge(
     if formed != 0 {
         return formed;
     }
-    let body = loaded::left_of(file, state, q);
-    if !is_device(file, state, body) {
+    let request = pair_of(file, state, q);
+    let asked = idevid_request_of(file, state, request.left);
+    let named = asked.subject;
+    if !is_device(named) {
         return 19;
     }
-    let iak = loaded::idevid_key_of(file, state, body);
-    let proved = proof_of_key(file, state, tables, q, iak);
+    let proved = proof_of_key(file, state, tables, q, asked.key);
     if proved != 0 {
         return proved;
     }
-    let certificate = loaded::idevid_certificate_of(file, state, body);
-    let ek = loaded::certified_key_of(file, state, certificate);
-    let endorsed = endorsement(file, state, tables, parties, certificate, iak, ek);
+    let certificate = certificate_of(file, state, asked.certificate);
+    let endorsed = endorsement(file, state, tables, parties, certificate, asked.key);
     if endorsed != 0 {
         return endorsed;
     }
-    let number = loaded::credential_number_of(file, state, r);
-    let fresh = fresh_number(state, party, number);
+    let credential = credential_of(file, state, r);
+    let fresh = fresh_number(state, party, credential.number);
     if fresh != 0 {
         return fresh;
     }
-    credential_names(file, state, r, iak, ek)
+    credential_names(file, state, credential, asked.key, certificate.key)
 }
 
 // 3F IssueIak.
@@ -360,15 +494,15 @@ pub fn decide_issue_iak(
     if !loaded::is_role(file, other, rules::DEVICE) {
         return 26;
     }
-    let number = loaded::credential_number_of(file, state, c);
-    if !state::knows(state, other, number) {
+    let credential = credential_of(file, state, c);
+    if !state::knows(state, other, credential.number) {
         return 26;
     }
-    let request = state::request_of(state, c);
-    let body = loaded::left_of(file, state, request);
-    let iak = loaded::idevid_key_of(file, state, body);
-    let wanted = subject_of(file, state, body);
-    let called = called_for(file, state, tables, party, r, iak, wanted);
+    let q = state::request_of(state, c);
+    let request = pair_of(file, state, q);
+    let asked = idevid_request_of(file, state, request.left);
+    let wanted = asked.subject;
+    let called = called_for(file, state, tables, party, r, asked.key, wanted);
     if called != 0 {
         return called;
     }
@@ -378,20 +512,41 @@ pub fn decide_issue_iak(
     0
 }
 
-// The message of an LDevID request: a signature over an attest.
-fn signed_attest(file: &[u8], state: &[u8], t: usize) -> u8
+// The message of an LDevID request: a signature over an attest, or a refusal.
+struct Attested {
+    refusal: u8,
+    key: usize,
+    signer: usize,
+}
+
+fn attested_by(file: &[u8], state: &[u8], t: usize) -> Attested
     requires { ⌜ Holds (now file) (now state) × (t < length (fileIn (now file) .terms)) ⌝ }
-    ensures { λ x. ⌜ x ≡ chain (attestTests (fileIn (now (file .entry))) t) ⌝ }
+    ensures { λ x. ⌜ (x .refusal ≡ chain (attestTests (fileIn (now (file .entry))) t)) × (x .refusal ≡ 0 → (x .key ≡ attestedKey (fileIn (now (file .entry))) (message (fileIn (now (file .entry))) t)) × (x .signer ≡ signingKey (fileIn (now (file .entry))) t)) ⌝ }
 {
     let signed = learning::term_of(file, state, t);
-    let Term::Signature(content, _) = signed else {
-        return 19;
+    let Term::Signature(content, signer) = signed else {
+        return Attested {
+            refusal: 19,
+            key: 0,
+            signer: 0,
+        };
     };
     let message = content as usize;
-    if !loaded::is_kind(file, state, message, 0x14) {
-        return 19;
+    let attest = learning::term_of(file, state, message);
+    let Term::Attest(key) = attest else {
+        return Attested {
+            refusal: 19,
+            key: 0,
+            signer: 0,
+        };
+    };
+    let lak = key as usize;
+    let half = signer as usize;
+    Attested {
+        refusal: 0,
+        key: lak,
+        signer: half,
     }
-    0
 }
 
 // Whether a key is the signing key of an OEM desk or of an owner desk.
@@ -411,20 +566,18 @@ fn parentage(
     state: &[u8],
     tables: &[u16; tables::WORDS],
     parties: usize,
-    signature: usize,
+    half: usize,
     lak: usize,
     parent: usize,
+    certificate: Certificate,
 ) -> u8
-    requires { ⌜ Holds (now file) (now state) × Finds (now file) (now tables) × (parties ≡ length (fileIn (now file) .roles)) × (kind (fileIn (now file)) signature ≡ signatureKind) × (lak < length (fileIn (now file) .terms)) × (kind (fileIn (now file)) parent ≡ certificateKind) ⌝ }
-    ensures { λ x. ⌜ ((words : List ℕ) (n : ℕ) (ledger : List Entry) → Enters (now (tables .entry)) words n ledger → x ≡ chain (parentageTests (fileIn (now (file .entry))) ledger signature lak parent)) ⌝ }
+    requires { ⌜ Holds (now file) (now state) × Finds (now file) (now tables) × (parties ≡ length (fileIn (now file) .roles)) × (half < length (fileIn (now file) .terms)) × (lak < length (fileIn (now file) .terms)) × (kind (fileIn (now file)) parent ≡ certificateKind) × (certificate .key ≡ certifiedKey (fileIn (now file)) parent) × (certificate .signer ≡ signer (fileIn (now file)) parent) ⌝ }
+    ensures { λ x. ⌜ ((words : List ℕ) (n : ℕ) (ledger : List Entry) → Enters (now (tables .entry)) words n ledger → x ≡ chain (parentageTests (fileIn (now (file .entry))) ledger half lak parent)) ⌝ }
 {
-    let key = loaded::certified_key_of(file, state, parent);
-    let half = loaded::signing_key_of(file, state, signature);
-    if !loaded::is_half(tables, key, half) {
+    if !loaded::is_half(tables, certificate.key, half) {
         return 20;
     }
-    let signer = loaded::signer_of(file, state, parent);
-    if !signs_for_desk(file, tables, signer, parties) {
+    if !signs_for_desk(file, tables, certificate.signer, parties) {
         return 21;
     }
     if !is_listed(tables, parent) {
@@ -433,7 +586,7 @@ fn parentage(
     if !has_exactly(file, state, lak, Attributes::iak()) {
         return 23;
     }
-    if !has_exactly(file, state, key, Attributes::iak()) {
+    if !has_exactly(file, state, certificate.key, Attributes::iak()) {
         return 23;
     }
     0
@@ -483,24 +636,33 @@ pub fn decide_issue_lak(
     if formed != 0 {
         return formed;
     }
-    let body = loaded::left_of(file, state, q);
-    let signature = loaded::ldevid_message_of(file, state, body);
-    let attested = signed_attest(file, state, signature);
-    if attested != 0 {
-        return attested;
+    let request = pair_of(file, state, q);
+    let asked = ldevid_request_of(file, state, request.left);
+    let attested = attested_by(file, state, asked.message);
+    if attested.refusal != 0 {
+        return attested.refusal;
     }
-    let attest = loaded::message_of(file, state, signature);
-    let lak = loaded::attested_key_of(file, state, attest);
+    let lak = attested.key;
     let proved = proof_of_key(file, state, tables, q, lak);
     if proved != 0 {
         return proved;
     }
-    let parent = loaded::ldevid_certificate_of(file, state, body);
-    let descends = parentage(file, state, tables, parties, signature, lak, parent);
+    let parent = asked.certificate;
+    let certificate = certificate_of(file, state, parent);
+    let descends = parentage(
+        file,
+        state,
+        tables,
+        parties,
+        attested.signer,
+        lak,
+        parent,
+        certificate,
+    );
     if descends != 0 {
         return descends;
     }
-    let wanted = subject_of(file, state, parent);
+    let wanted = certificate.subject;
     let called = called_for(file, state, tables, party, r, lak, wanted);
     if called != 0 {
         return called;
@@ -530,9 +692,9 @@ pub fn effect_challenge(file: &[u8], state: &mut [u8], party: usize, q: usize, r
     requires { ⌜ Holds (now file) (now state) × Wellformed (fileIn (now file)) (challenge party q r) ⌝ }
     ensures { λ _. ⌜ Leaves (now (file .entry)) (now (state .entry)) (now (state .exit)) (challenge party q r) ⌝ }
 {
-    let number = loaded::credential_number_of(file, state, r);
+    let credential = credential_of(file, state, r);
     loaded::learn(file, state, party, r);
-    state::note_mark(state, number, NUMBER_USED);
+    state::note_mark(state, credential.number, NUMBER_USED);
     state::note_mark(state, r, CREDENTIAL_OPEN);
     state::note_desk(state, r, party as u8);
     state::note_request(state, r, q);
@@ -552,12 +714,12 @@ pub fn effect_issue_iak(
     requires { ⌜ Holds (now file) (now state) × IssuesIak (now file) (now state) (now tables) (now words) n party c r ⌝ }
     ensures { λ _. ⌜ ((other : ℕ) → Issues (now (file .entry)) (now (state .entry)) (now (tables .entry)) (now (words .entry)) n (issueIak party other c r) (now (state .exit)) (now (tables .exit)) (now (words .exit))) ⌝ }
 {
-    let request = state::request_of(state, c);
-    let body = loaded::left_of(file, state, request);
-    let parent = loaded::idevid_certificate_of(file, state, body);
+    let q = state::request_of(state, c);
+    let request = pair_of(file, state, q);
+    let asked = idevid_request_of(file, state, request.left);
     loaded::learn(file, state, party, r);
     state::note_mark(state, c, CREDENTIAL_CLOSED);
-    append(tables, words, n, r, parent, 1);
+    append(tables, words, n, r, asked.certificate, 1);
 }
 
 // What 40 leaves: the desk learns the certificate, and the ledger has it under the request's certificate, one deeper.
@@ -574,8 +736,9 @@ pub fn effect_issue_lak(
     requires { ⌜ Holds (now file) (now state) × Wellformed (fileIn (now file)) (issueLak party q r) × Accepts (now file) (now state) (now tables) (now words) n (issueLak party q r) × (length (now tables) ≡ tableWords) ⌝ }
     ensures { λ _. ⌜ Issues (now (file .entry)) (now (state .entry)) (now (tables .entry)) (now (words .entry)) n (issueLak party q r) (now (state .exit)) (now (tables .exit)) (now (words .exit)) ⌝ }
 {
-    let body = loaded::left_of(file, state, q);
-    let parent = loaded::ldevid_certificate_of(file, state, body);
+    let request = pair_of(file, state, q);
+    let asked = ldevid_request_of(file, state, request.left);
+    let parent = asked.certificate;
     let depth = depth_of(tables, words, parent);
     loaded::learn(file, state, party, r);
     append(tables, words, n, r, parent, depth + 1);

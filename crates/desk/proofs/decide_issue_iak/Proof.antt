@@ -78,8 +78,8 @@ returns-4 c words n ledger e =
     ∙ chain-passes 25 _ _ (eq-eqb _ _ (sym (c .before .before .before .desk-of .ensures) ∙ c .before .before .if3 .left))
     ∙ chain-fails 26 _ _ (sym (c .before .is-role2 .ensures) ∙ not-true _ (c .if4 .taken)))
 
-credential-number-of-requires : tie.Need-credential-number-of-requires
-credential-number-of-requires c κs =
+credential-of-requires : tie.Need-credential-of-requires
+credential-of-requires c κs =
     let o = c .before .before .before .before .before .before .before .before .before .before in
     let h = o .pre .0 in
     let w = o .pre .2 in
@@ -92,12 +92,12 @@ knows-requires c κs =
     let h = o .pre .0 in
     let w = o .pre .2 in
     let d = kind-declared _ (w .2) (λ q. omega arith) in
-    (omega (arith, h .parties, w .1), rw (c .credential-number-of .ensures) (term-here h (credential-number-declared h d (w .2)) .row))
+    (omega (arith, h .parties, w .1), rw (c .credential-of .ensures .1) (term-here h (credential-number-declared h d (w .2)) .row))
 
 returns-5 : tie.Need-returns-5
 returns-5 c words n ledger e =
     let o = c .before .before .before .before .before .before .before .before .before .before .before .before .before in
-    sym (issue-iak-chain (fileIn (now (o .args .file))) (stateOf (view (now (o .args .state))) ledger) (o .args .party) (o .args .other) (o .args .c) (o .args .r) (c .before .before .credential-number-of .ensures) refl refl refl refl
+    sym (issue-iak-chain (fileIn (now (o .args .file))) (stateOf (view (now (o .args .state))) ledger) (o .args .party) (o .args .other) (o .args .c) (o .args .r) (c .before .before .credential-of .ensures .1) refl refl refl refl
     ∙ chain-passes 13 _ _ (sym (c .before .before .before .before .before .before .before .before .before .before .is-role .ensures) ∙ not-false _ (c .before .before .before .before .before .before .before .before .before .if1 .left))
     ∙ chain-passes 25 _ _ (eq-eqb _ _ (sym (c .before .before .before .before .before .before .before .before .mark-of .ensures) ∙ c .before .before .before .before .before .before .before .if2 .left))
     ∙ chain-passes 25 _ _ (eq-eqb _ _ (sym (c .before .before .before .before .before .before .desk-of .ensures) ∙ c .before .before .before .before .before .if3 .left))
@@ -112,53 +112,44 @@ request-of-requires c κs =
     let d = kind-declared _ (w .2) (λ q. omega arith) in
     term-here h d .row
 
-left-of-requires : tie.Need-left-of-requires
-left-of-requires c κs =
+pair-of-requires : tie.Need-pair-of-requires
+pair-of-requires c κs =
     let o = c .before .before .before .before .before .before .before .before .before .before .before .before .before .before in
     let h = o .pre .0 in
     let w = o .pre .2 in
     let m = o .pre .3 (sym (c .before .before .before .before .before .before .before .before .before .mark-of .ensures) ∙ c .before .before .before .before .before .before .before .before .if2 .left) in
     rw (c .request-of .ensures) (term-here h (m .declared), m .formed .pair)
 
-idevid-key-of-requires : tie.Need-idevid-key-of-requires
-idevid-key-of-requires c κs =
+idevid-request-of-requires : tie.Need-idevid-request-of-requires
+idevid-request-of-requires c κs =
     let o = c .before .before .before .before .before .before .before .before .before .before .before .before .before .before .before in
     let h = o .pre .0 in
     let w = o .pre .2 in
     let m = o .pre .3 (sym (c .before .before .before .before .before .before .before .before .before .before .mark-of .ensures) ∙ c .before .before .before .before .before .before .before .before .before .if2 .left) in
     let l = left-declared h (m .declared) (m .formed .pair) in
-    rw (c .left-of .ensures, c .before .request-of .ensures) (term-here h l, m .body)
-
-subject-of-requires : tie.Need-subject-of-requires
-subject-of-requires c κs =
-    let o = c .before .before .before .before .before .before .before .before .before .before .before .before .before .before .before .before in
-    let h = o .pre .0 in
-    let w = o .pre .2 in
-    let m = o .pre .3 (sym (c .before .before .before .before .before .before .before .before .before .before .before .mark-of .ensures) ∙ c .before .before .before .before .before .before .before .before .before .before .if2 .left) in
-    let l = left-declared h (m .declared) (m .formed .pair) in
-    rw (c .before .left-of .ensures, c .before .before .request-of .ensures) (term-here h l)
+    rw (c .pair-of .ensures .0, c .before .request-of .ensures) (term-here h l, m .body)
 
 called-for-requires : tie.Need-called-for-requires
 called-for-requires c κs =
-    let o = c .before .before .before .before .before .before .before .before .before .before .before .before .before .before .before .before .before in
+    let o = c .before .before .before .before .before .before .before .before .before .before .before .before .before .before .before .before in
     let h = o .pre .0 in
     let w = o .pre .2 in
     (h, o .pre .1, omega (arith, h .parties, w .0), w .3)
 
 returns-6 : tie.Need-returns-6
 returns-6 c words n ledger e =
-    let o = c .before .before .before .before .before .before .before .before .before .before .before .before .before .before .before .before .before .before .before in
-    sym (issue-iak-chain (fileIn (now (o .args .file))) (stateOf (view (now (o .args .state))) ledger) (o .args .party) (o .args .other) (o .args .c) (o .args .r) (c .before .before .before .before .before .before .before .before .credential-number-of .ensures) (c .before .before .before .before .before .request-of .ensures) (c .before .before .before .before .left-of .ensures) (c .before .before .before .idevid-key-of .ensures) (c .before .before .subject-of .ensures)
-    ∙ chain-passes 13 _ _ (sym (c .before .before .before .before .before .before .before .before .before .before .before .before .before .before .before .before .is-role .ensures) ∙ not-false _ (c .before .before .before .before .before .before .before .before .before .before .before .before .before .before .before .if1 .left))
-    ∙ chain-passes 25 _ _ (eq-eqb _ _ (sym (c .before .before .before .before .before .before .before .before .before .before .before .before .before .before .mark-of .ensures) ∙ c .before .before .before .before .before .before .before .before .before .before .before .before .before .if2 .left))
-    ∙ chain-passes 25 _ _ (eq-eqb _ _ (sym (c .before .before .before .before .before .before .before .before .before .before .before .before .desk-of .ensures) ∙ c .before .before .before .before .before .before .before .before .before .before .before .if3 .left))
-    ∙ chain-passes 26 _ _ (sym (c .before .before .before .before .before .before .before .before .before .before .is-role2 .ensures) ∙ not-false _ (c .before .before .before .before .before .before .before .before .before .if4 .left))
-    ∙ chain-passes 26 _ _ (sym (c .before .before .before .before .before .before .before .knows .ensures) ∙ not-false _ (c .before .before .before .before .before .before .if5 .left))
+    let o = c .before .before .before .before .before .before .before .before .before .before .before .before .before .before .before .before .before .before in
+    sym (issue-iak-chain (fileIn (now (o .args .file))) (stateOf (view (now (o .args .state))) ledger) (o .args .party) (o .args .other) (o .args .c) (o .args .r) (c .before .before .before .before .before .before .before .credential-of .ensures .1) (c .before .before .before .before .request-of .ensures) (c .before .before .before .pair-of .ensures .0) (c .before .before .idevid-request-of .ensures .2) (c .before .before .idevid-request-of .ensures .0)
+    ∙ chain-passes 13 _ _ (sym (c .before .before .before .before .before .before .before .before .before .before .before .before .before .before .before .is-role .ensures) ∙ not-false _ (c .before .before .before .before .before .before .before .before .before .before .before .before .before .before .if1 .left))
+    ∙ chain-passes 25 _ _ (eq-eqb _ _ (sym (c .before .before .before .before .before .before .before .before .before .before .before .before .before .mark-of .ensures) ∙ c .before .before .before .before .before .before .before .before .before .before .before .before .if2 .left))
+    ∙ chain-passes 25 _ _ (eq-eqb _ _ (sym (c .before .before .before .before .before .before .before .before .before .before .before .desk-of .ensures) ∙ c .before .before .before .before .before .before .before .before .before .before .if3 .left))
+    ∙ chain-passes 26 _ _ (sym (c .before .before .before .before .before .before .before .before .before .is-role2 .ensures) ∙ not-false _ (c .before .before .before .before .before .before .before .before .if4 .left))
+    ∙ chain-passes 26 _ _ (sym (c .before .before .before .before .before .before .knows .ensures) ∙ not-false _ (c .before .before .before .before .before .if5 .left))
     ∙ stops _ _ _ (c .before .called-for .ensures) (c .if6 .taken))
 
 is-listed-requires : tie.Need-is-listed-requires
 is-listed-requires c κs =
-    let o = c .before .before .before .before .before .before .before .before .before .before .before .before .before .before .before .before .before .before .before in
+    let o = c .before .before .before .before .before .before .before .before .before .before .before .before .before .before .before .before .before .before in
     let h = o .pre .0 in
     let w = o .pre .2 in
     let d = kind-declared _ (w .3) (λ q. omega arith) in
@@ -166,28 +157,28 @@ is-listed-requires c κs =
 
 returns-7 : tie.Need-returns-7
 returns-7 c words n ledger e =
-    let o = c .before .before .before .before .before .before .before .before .before .before .before .before .before .before .before .before .before .before .before .before .before in
-    sym (issue-iak-chain (fileIn (now (o .args .file))) (stateOf (view (now (o .args .state))) ledger) (o .args .party) (o .args .other) (o .args .c) (o .args .r) (c .before .before .before .before .before .before .before .before .before .before .credential-number-of .ensures) (c .before .before .before .before .before .before .before .request-of .ensures) (c .before .before .before .before .before .before .left-of .ensures) (c .before .before .before .before .before .idevid-key-of .ensures) (c .before .before .before .before .subject-of .ensures)
-    ∙ chain-passes 13 _ _ (sym (c .before .before .before .before .before .before .before .before .before .before .before .before .before .before .before .before .before .before .is-role .ensures) ∙ not-false _ (c .before .before .before .before .before .before .before .before .before .before .before .before .before .before .before .before .before .if1 .left))
-    ∙ chain-passes 25 _ _ (eq-eqb _ _ (sym (c .before .before .before .before .before .before .before .before .before .before .before .before .before .before .before .before .mark-of .ensures) ∙ c .before .before .before .before .before .before .before .before .before .before .before .before .before .before .before .if2 .left))
-    ∙ chain-passes 25 _ _ (eq-eqb _ _ (sym (c .before .before .before .before .before .before .before .before .before .before .before .before .before .before .desk-of .ensures) ∙ c .before .before .before .before .before .before .before .before .before .before .before .before .before .if3 .left))
-    ∙ chain-passes 26 _ _ (sym (c .before .before .before .before .before .before .before .before .before .before .before .before .is-role2 .ensures) ∙ not-false _ (c .before .before .before .before .before .before .before .before .before .before .before .if4 .left))
-    ∙ chain-passes 26 _ _ (sym (c .before .before .before .before .before .before .before .before .before .knows .ensures) ∙ not-false _ (c .before .before .before .before .before .before .before .before .if5 .left))
+    let o = c .before .before .before .before .before .before .before .before .before .before .before .before .before .before .before .before .before .before .before .before in
+    sym (issue-iak-chain (fileIn (now (o .args .file))) (stateOf (view (now (o .args .state))) ledger) (o .args .party) (o .args .other) (o .args .c) (o .args .r) (c .before .before .before .before .before .before .before .before .before .credential-of .ensures .1) (c .before .before .before .before .before .before .request-of .ensures) (c .before .before .before .before .before .pair-of .ensures .0) (c .before .before .before .before .idevid-request-of .ensures .2) (c .before .before .before .before .idevid-request-of .ensures .0)
+    ∙ chain-passes 13 _ _ (sym (c .before .before .before .before .before .before .before .before .before .before .before .before .before .before .before .before .before .is-role .ensures) ∙ not-false _ (c .before .before .before .before .before .before .before .before .before .before .before .before .before .before .before .before .if1 .left))
+    ∙ chain-passes 25 _ _ (eq-eqb _ _ (sym (c .before .before .before .before .before .before .before .before .before .before .before .before .before .before .before .mark-of .ensures) ∙ c .before .before .before .before .before .before .before .before .before .before .before .before .before .before .if2 .left))
+    ∙ chain-passes 25 _ _ (eq-eqb _ _ (sym (c .before .before .before .before .before .before .before .before .before .before .before .before .before .desk-of .ensures) ∙ c .before .before .before .before .before .before .before .before .before .before .before .before .if3 .left))
+    ∙ chain-passes 26 _ _ (sym (c .before .before .before .before .before .before .before .before .before .before .before .is-role2 .ensures) ∙ not-false _ (c .before .before .before .before .before .before .before .before .before .before .if4 .left))
+    ∙ chain-passes 26 _ _ (sym (c .before .before .before .before .before .before .before .before .knows .ensures) ∙ not-false _ (c .before .before .before .before .before .before .before .if5 .left))
     ∙ called-goes _ _ _ _ _ _ (c .before .before .before .called-for .ensures) (c .before .before .if6 .left)
     ∙ chain-fails 28 _ _ (ap not (sym (c .before .is-listed .ensures words n ledger e) ∙ c .if7 .taken)))
 
 returns-8 : tie.Need-returns-8
 returns-8 c words n ledger e =
-    let o = c .before .before .before .before .before .before .before .before .before .before .before .before .before .before .before .before .before .before .before .before .before in
-    sym (issue-iak-chain (fileIn (now (o .args .file))) (stateOf (view (now (o .args .state))) ledger) (o .args .party) (o .args .other) (o .args .c) (o .args .r) (c .before .before .before .before .before .before .before .before .before .before .credential-number-of .ensures) (c .before .before .before .before .before .before .before .request-of .ensures) (c .before .before .before .before .before .before .left-of .ensures) (c .before .before .before .before .before .idevid-key-of .ensures) (c .before .before .before .before .subject-of .ensures)
-    ∙ chain-passes 13 _ _ (sym (c .before .before .before .before .before .before .before .before .before .before .before .before .before .before .before .before .before .before .is-role .ensures) ∙ not-false _ (c .before .before .before .before .before .before .before .before .before .before .before .before .before .before .before .before .before .if1 .left))
-    ∙ chain-passes 25 _ _ (eq-eqb _ _ (sym (c .before .before .before .before .before .before .before .before .before .before .before .before .before .before .before .before .mark-of .ensures) ∙ c .before .before .before .before .before .before .before .before .before .before .before .before .before .before .before .if2 .left))
-    ∙ chain-passes 25 _ _ (eq-eqb _ _ (sym (c .before .before .before .before .before .before .before .before .before .before .before .before .before .before .desk-of .ensures) ∙ c .before .before .before .before .before .before .before .before .before .before .before .before .before .if3 .left))
-    ∙ chain-passes 26 _ _ (sym (c .before .before .before .before .before .before .before .before .before .before .before .before .is-role2 .ensures) ∙ not-false _ (c .before .before .before .before .before .before .before .before .before .before .before .if4 .left))
-    ∙ chain-passes 26 _ _ (sym (c .before .before .before .before .before .before .before .before .before .knows .ensures) ∙ not-false _ (c .before .before .before .before .before .before .before .before .if5 .left))
+    let o = c .before .before .before .before .before .before .before .before .before .before .before .before .before .before .before .before .before .before .before .before in
+    sym (issue-iak-chain (fileIn (now (o .args .file))) (stateOf (view (now (o .args .state))) ledger) (o .args .party) (o .args .other) (o .args .c) (o .args .r) (c .before .before .before .before .before .before .before .before .before .credential-of .ensures .1) (c .before .before .before .before .before .before .request-of .ensures) (c .before .before .before .before .before .pair-of .ensures .0) (c .before .before .before .before .idevid-request-of .ensures .2) (c .before .before .before .before .idevid-request-of .ensures .0)
+    ∙ chain-passes 13 _ _ (sym (c .before .before .before .before .before .before .before .before .before .before .before .before .before .before .before .before .before .is-role .ensures) ∙ not-false _ (c .before .before .before .before .before .before .before .before .before .before .before .before .before .before .before .before .if1 .left))
+    ∙ chain-passes 25 _ _ (eq-eqb _ _ (sym (c .before .before .before .before .before .before .before .before .before .before .before .before .before .before .before .mark-of .ensures) ∙ c .before .before .before .before .before .before .before .before .before .before .before .before .before .before .if2 .left))
+    ∙ chain-passes 25 _ _ (eq-eqb _ _ (sym (c .before .before .before .before .before .before .before .before .before .before .before .before .before .desk-of .ensures) ∙ c .before .before .before .before .before .before .before .before .before .before .before .before .if3 .left))
+    ∙ chain-passes 26 _ _ (sym (c .before .before .before .before .before .before .before .before .before .before .before .is-role2 .ensures) ∙ not-false _ (c .before .before .before .before .before .before .before .before .before .before .if4 .left))
+    ∙ chain-passes 26 _ _ (sym (c .before .before .before .before .before .before .before .before .knows .ensures) ∙ not-false _ (c .before .before .before .before .before .before .before .if5 .left))
     ∙ called-goes _ _ _ _ _ _ (c .before .before .before .called-for .ensures) (c .before .before .if6 .left)
     ∙ chain-passes 28 _ _ (ap not (sym (c .before .is-listed .ensures words n ledger e) ∙ c .if7 .left))
     ∙ chain-none)
 
 pub decide-issue-iak-spec : {M : Type 1} → statement M
-decide-issue-iak-spec = tie.close (tie.spec is-role-requires returns mark-of-requires returns-2 desk-of-requires cast-desk returns-3 is-role-requires-2 returns-4 credential-number-of-requires knows-requires returns-5 request-of-requires left-of-requires idevid-key-of-requires subject-of-requires called-for-requires returns-6 is-listed-requires returns-7 returns-8)
+decide-issue-iak-spec = tie.close (tie.spec is-role-requires returns mark-of-requires returns-2 desk-of-requires cast-desk returns-3 is-role-requires-2 returns-4 credential-of-requires knows-requires returns-5 request-of-requires pair-of-requires idevid-request-of-requires called-for-requires returns-6 is-listed-requires returns-7 returns-8)

@@ -20,7 +20,7 @@ use Rattle.loaded.proofs.Standing.{party-here, checked-here, term-here, kind-de
 use Rattle.desk.specs.Tests.{calledTests, attestTests, parentageTests}
 use Rattle.desk.proofs.Outcomes.{stops, form-goes, proof-goes, has-form}
 use Rattle.desk.proofs.Called.{called-goes}
-use Rattle.desk.proofs.IssueLak.{signatureAt, lakAt, parentAt, Asked, asked, here, lak-declared, parent-is, parent-entered, attest-goes, parentage-goes, attest-read, proof-read, parentage-read, called-read, entry-read, issue-lak-chain}
+use Rattle.desk.proofs.IssueLak.{signatureAt, halfAt, lakAt, parentAt, Asked, asked, here, half-declared, lak-declared, parent-is, parent-entered, attest-goes, parentage-goes, attest-read, proof-read, parentage-read, called-read, entry-read, issue-lak-chain}
 use Rattle.desk.proofs.decide_issue_lak.Statement.{statement}
 use Rattle.desk.proofs.decide_issue_lak.Tie as tie
 
@@ -72,152 +72,134 @@ passes-3 : (c : tie.Else3) → let a = c .before .before .before .before .before
 passes-3 c =
     sym (c .before .form .ensures) ∙ c .if3 .left
 
-left-of-requires : tie.Need-left-of-requires
-left-of-requires c κs =
+pair-of-requires : tie.Need-pair-of-requires
+pair-of-requires c κs =
     let p = c .before .before .before .before .before .before .before .before .pre in
     let m = has-form _ _ _ refl (passes-3 c) in
     (term-here (p .0) (p .3 .2), m .0 .pair)
 
-ldevid-message-of-requires : tie.Need-ldevid-message-of-requires
-ldevid-message-of-requires c κs =
+ldevid-request-of-requires : tie.Need-ldevid-request-of-requires
+ldevid-request-of-requires c κs =
     let p = c .before .before .before .before .before .before .before .before .before .pre in
     let m = has-form _ _ _ refl (passes-3 (c .before)) in
-    rw (c .left-of .ensures) (here (p .0) (m .1) (λ e. omega arith))
+    rw (c .pair-of .ensures .0) (here (p .0) (m .1) (λ e. omega arith))
 
-signed-attest-requires : tie.Need-signed-attest-requires
-signed-attest-requires c κs =
+attested-by-requires : tie.Need-attested-by-requires
+attested-by-requires c κs =
     let p = c .before .before .before .before .before .before .before .before .before .before .pre in
     let m = has-form _ _ _ refl (passes-3 (c .before .before)) in
-    (p .0, rw (c .ldevid-message-of .ensures, c .before .left-of .ensures) (ldevid-message-declared (p .0) (kind-declared _ (m .1) (λ e. omega arith)) (m .1)))
+    (p .0, rw (c .ldevid-request-of .ensures .0, c .before .pair-of .ensures .0) (ldevid-message-declared (p .0) (kind-declared _ (m .1) (λ e. omega arith)) (m .1)))
 
 returns-4 : tie.Need-returns-4
 returns-4 c n ledger e =
-    let a = c .before .before .before .before .before .before .before .before .before .before .before .before .args in
+    let a = c .before .before .before .before .before .before .before .before .before .before .before .before .before .args in
     sym (issue-lak-chain (fileIn (now (a .file))) (stateOf (view (now (a .state))) ledger) (a .party) (a .q) (a .r)
-    ∙ chain-passes 13 _ _ (passes-1 (c .before .before .before .before .before .before .before .before))
-    ∙ chain-passes 14 _ _ (passes-2 (c .before .before .before .before .before .before))
-    ∙ form-goes _ _ (passes-3 (c .before .before .before .before)) _ _ refl
-    ∙ stops _ _ _ (attest-read (fileIn (now (a .file))) (a .q) (c .before .before .before .left-of .ensures) (c .before .before .ldevid-message-of .ensures) (c .before .signed-attest .ensures)) (c .if4 .taken))
+    ∙ chain-passes 13 _ _ (passes-1 (c .before .before .before .before .before .before .before .before .before))
+    ∙ chain-passes 14 _ _ (passes-2 (c .before .before .before .before .before .before .before))
+    ∙ form-goes _ _ (passes-3 (c .before .before .before .before .before)) _ _ refl
+    ∙ stops _ _ _ (attest-read (fileIn (now (a .file))) (a .q) (c .before .before .before .before .pair-of .ensures .0) (c .before .before .before .ldevid-request-of .ensures .0) (c .before .before .attested-by .ensures .0)) (c .if4 .taken))
 
-passes-4 : (c : tie.Else4) → let a = c .before .before .before .before .before .before .before .before .before .before .before .before .args in chain (attestTests (fileIn (now (a .file))) (signatureAt (fileIn (now (a .file))) (a .q))) ≡ 0
+passes-4 : (c : tie.Else4) → let a = c .before .before .before .before .before .before .before .before .before .before .before .before .before .args in chain (attestTests (fileIn (now (a .file))) (signatureAt (fileIn (now (a .file))) (a .q))) ≡ 0
 passes-4 c =
-    let a = c .before .before .before .before .before .before .before .before .before .before .before .before .args in
-    sym (attest-read (fileIn (now (a .file))) (a .q) (c .before .before .before .left-of .ensures) (c .before .before .ldevid-message-of .ensures) (c .before .signed-attest .ensures)) ∙ c .if4 .left
+    let a = c .before .before .before .before .before .before .before .before .before .before .before .before .before .args in
+    sym (attest-read (fileIn (now (a .file))) (a .q) (c .before .before .before .before .pair-of .ensures .0) (c .before .before .before .ldevid-request-of .ensures .0) (c .before .before .attested-by .ensures .0)) ∙ c .if4 .left
 
-asked-of : (c : tie.Else4) → let a = c .before .before .before .before .before .before .before .before .before .before .before .before .args in Asked (fileIn (now (a .file))) (a .q)
-asked-of c = asked _ _ (passes-3 (c .before .before .before .before)) (passes-4 c)
-
-message-of-requires : tie.Need-message-of-requires
-message-of-requires c κs =
-    let p = c .before .before .before .before .before .before .before .before .before .before .before .before .pre in
-    let w = asked-of c in
-    rw (c .before .before .ldevid-message-of .ensures, c .before .before .before .left-of .ensures) (here (p .0) (w .signature) (λ e. omega arith))
-
-attested-key-of-requires : tie.Need-attested-key-of-requires
-attested-key-of-requires c κs =
-    let p = c .before .before .before .before .before .before .before .before .before .before .before .before .before .pre in
-    let w = asked-of (c .before) in
-    rw (c .message-of .ensures, c .before .before .before .ldevid-message-of .ensures, c .before .before .before .before .left-of .ensures) (here (p .0) (w .attest) (λ e. omega arith))
+asked-of : (c : tie.Else4) → let a = c .before .before .before .before .before .before .before .before .before .before .before .before .before .args in Asked (fileIn (now (a .file))) (a .q)
+asked-of c = asked _ _ (passes-3 (c .before .before .before .before .before)) (passes-4 c)
 
 proof-of-key-requires : tie.Need-proof-of-key-requires
 proof-of-key-requires c κs =
-    let p = c .before .before .before .before .before .before .before .before .before .before .before .before .before .before .pre in
-    let w = asked-of (c .before .before) in
-    (p .0, p .1, p .3 .2, w .formed, rw (c .attested-key-of .ensures, c .before .message-of .ensures, c .before .before .before .before .ldevid-message-of .ensures, c .before .before .before .before .before .left-of .ensures) (lak-declared (p .0) w))
+    let p = c .before .before .before .before .before .before .before .before .before .before .before .before .before .pre in
+    let w = asked-of (c) in
+    (p .0, p .1, p .3 .2, w .formed, rw (c .before .before .attested-by .ensures .1 (c .if4 .left) .0, c .before .before .before .ldevid-request-of .ensures .0, c .before .before .before .before .pair-of .ensures .0) (lak-declared (p .0) w))
 
 returns-5 : tie.Need-returns-5
 returns-5 c n ledger e =
-    let a = c .before .before .before .before .before .before .before .before .before .before .before .before .before .before .before .before .args in
+    let a = c .before .before .before .before .before .before .before .before .before .before .before .before .before .before .before .args in
     sym (issue-lak-chain (fileIn (now (a .file))) (stateOf (view (now (a .state))) ledger) (a .party) (a .q) (a .r)
-    ∙ chain-passes 13 _ _ (passes-1 (c .before .before .before .before .before .before .before .before .before .before .before .before))
-    ∙ chain-passes 14 _ _ (passes-2 (c .before .before .before .before .before .before .before .before .before .before))
-    ∙ form-goes _ _ (passes-3 (c .before .before .before .before .before .before .before .before)) _ _ refl
-    ∙ attest-goes _ _ _ (passes-4 (c .before .before .before .before))
-    ∙ stops _ _ _ (proof-read (fileIn (now (a .file))) (a .q) (c .before .before .before .before .before .before .before .left-of .ensures) (c .before .before .before .before .before .before .ldevid-message-of .ensures) (c .before .before .before .message-of .ensures) (c .before .before .attested-key-of .ensures) (c .before .proof-of-key .ensures)) (c .if5 .taken))
+    ∙ chain-passes 13 _ _ (passes-1 (c .before .before .before .before .before .before .before .before .before .before .before))
+    ∙ chain-passes 14 _ _ (passes-2 (c .before .before .before .before .before .before .before .before .before))
+    ∙ form-goes _ _ (passes-3 (c .before .before .before .before .before .before .before)) _ _ refl
+    ∙ attest-goes _ _ _ (passes-4 (c .before .before))
+    ∙ stops _ _ _ (proof-read (fileIn (now (a .file))) (a .q) (c .before .before .before .before .before .before .pair-of .ensures .0) (c .before .before .before .before .before .ldevid-request-of .ensures .0) (c .before .before .before .before .attested-by .ensures .1 (c .before .before .if4 .left) .0) (c .before .proof-of-key .ensures)) (c .if5 .taken))
 
-passes-5 : (c : tie.Else5) → let a = c .before .before .before .before .before .before .before .before .before .before .before .before .before .before .before .before .args in chain (proofTests (fileIn (now (a .file))) (a .q) (lakAt (fileIn (now (a .file))) (a .q))) ≡ 0
+passes-5 : (c : tie.Else5) → let a = c .before .before .before .before .before .before .before .before .before .before .before .before .before .before .before .args in chain (proofTests (fileIn (now (a .file))) (a .q) (lakAt (fileIn (now (a .file))) (a .q))) ≡ 0
 passes-5 c =
-    let a = c .before .before .before .before .before .before .before .before .before .before .before .before .before .before .before .before .args in
-    sym (proof-read (fileIn (now (a .file))) (a .q) (c .before .before .before .before .before .before .before .left-of .ensures) (c .before .before .before .before .before .before .ldevid-message-of .ensures) (c .before .before .before .message-of .ensures) (c .before .before .attested-key-of .ensures) (c .before .proof-of-key .ensures)) ∙ c .if5 .left
+    let a = c .before .before .before .before .before .before .before .before .before .before .before .before .before .before .before .args in
+    sym (proof-read (fileIn (now (a .file))) (a .q) (c .before .before .before .before .before .before .pair-of .ensures .0) (c .before .before .before .before .before .ldevid-request-of .ensures .0) (c .before .before .before .before .attested-by .ensures .1 (c .before .before .if4 .left) .0) (c .before .proof-of-key .ensures)) ∙ c .if5 .left
 
-ldevid-certificate-of-requires : tie.Need-ldevid-certificate-of-requires
-ldevid-certificate-of-requires c κs =
-    let p = c .before .before .before .before .before .before .before .before .before .before .before .before .before .before .before .before .pre in
-    let w = asked-of (c .before .before .before .before) in
-    rw (c .before .before .before .before .before .before .before .left-of .ensures) (here (p .0) (w .body) (λ e. omega arith))
+certificate-of-requires : tie.Need-certificate-of-requires
+certificate-of-requires c κs =
+    let p = c .before .before .before .before .before .before .before .before .before .before .before .before .before .before .before .pre in
+    let w = asked-of (c .before .before) in
+    rw (c .before .before .before .before .before .ldevid-request-of .ensures .1, c .before .before .before .before .before .before .pair-of .ensures .0) (here (p .0) (parent-is (p .0) w) (λ e. omega arith))
 
 parentage-requires : tie.Need-parentage-requires
 parentage-requires c κs =
-    let p = c .before .before .before .before .before .before .before .before .before .before .before .before .before .before .before .before .before .pre in
-    let w = asked-of (c .before .before .before .before .before) in
-    rw (c .ldevid-certificate-of .ensures, c .before .before .before .attested-key-of .ensures, c .before .before .before .before .message-of .ensures, c .before .before .before .before .before .before .before .ldevid-message-of .ensures, c .before .before .before .before .before .before .before .before .left-of .ensures) (p .0, p .1, p .2, w .signature, lak-declared (p .0) w, parent-is (p .0) w)
+    let p = c .before .before .before .before .before .before .before .before .before .before .before .before .before .before .before .before .pre in
+    let w = asked-of (c .before .before .before) in
+    (p .0, p .1, p .2, rw (c .before .before .before .before .before .attested-by .ensures .1 (c .before .before .before .if4 .left) .1, c .before .before .before .before .before .before .ldevid-request-of .ensures .0, c .before .before .before .before .before .before .before .pair-of .ensures .0) (half-declared (p .0) w), rw (c .before .before .before .before .before .attested-by .ensures .1 (c .before .before .before .if4 .left) .0, c .before .before .before .before .before .before .ldevid-request-of .ensures .0, c .before .before .before .before .before .before .before .pair-of .ensures .0) (lak-declared (p .0) w), rw (c .before .before .before .before .before .before .ldevid-request-of .ensures .1, c .before .before .before .before .before .before .before .pair-of .ensures .0) (parent-is (p .0) w), c .certificate-of .ensures .0, c .certificate-of .ensures .2)
 
 returns-6 : tie.Need-returns-6
 returns-6 c n ledger e =
-    let a = c .before .before .before .before .before .before .before .before .before .before .before .before .before .before .before .before .before .before .before .args in
+    let a = c .before .before .before .before .before .before .before .before .before .before .before .before .before .before .before .before .before .before .args in
     sym (issue-lak-chain (fileIn (now (a .file))) (stateOf (view (now (a .state))) ledger) (a .party) (a .q) (a .r)
-    ∙ chain-passes 13 _ _ (passes-1 (c .before .before .before .before .before .before .before .before .before .before .before .before .before .before .before))
-    ∙ chain-passes 14 _ _ (passes-2 (c .before .before .before .before .before .before .before .before .before .before .before .before .before))
-    ∙ form-goes _ _ (passes-3 (c .before .before .before .before .before .before .before .before .before .before .before)) _ _ refl
-    ∙ attest-goes _ _ _ (passes-4 (c .before .before .before .before .before .before .before))
+    ∙ chain-passes 13 _ _ (passes-1 (c .before .before .before .before .before .before .before .before .before .before .before .before .before .before))
+    ∙ chain-passes 14 _ _ (passes-2 (c .before .before .before .before .before .before .before .before .before .before .before .before))
+    ∙ form-goes _ _ (passes-3 (c .before .before .before .before .before .before .before .before .before .before)) _ _ refl
+    ∙ attest-goes _ _ _ (passes-4 (c .before .before .before .before .before))
     ∙ proof-goes _ _ (passes-5 (c .before .before .before)) _ _ refl
-    ∙ stops _ _ _ (parentage-read (fileIn (now (a .file))) (a .q) (c .before .before .before .before .before .before .before .before .before .before .left-of .ensures) (c .before .before .before .before .before .before .before .before .before .ldevid-message-of .ensures) (c .before .before .before .before .before .before .message-of .ensures) (c .before .before .before .before .before .attested-key-of .ensures) (c .before .before .ldevid-certificate-of .ensures) ledger (c .before .parentage .ensures _ n ledger e)) (c .if6 .taken))
+    ∙ stops _ _ _ (parentage-read (fileIn (now (a .file))) (a .q) (c .before .before .before .before .before .before .before .before .before .pair-of .ensures .0) (c .before .before .before .before .before .before .before .before .ldevid-request-of .ensures .0) (c .before .before .before .before .before .before .before .attested-by .ensures .1 (c .before .before .before .before .before .if4 .left) .0) (c .before .before .before .before .before .before .before .before .ldevid-request-of .ensures .1) (c .before .before .before .before .before .before .before .attested-by .ensures .1 (c .before .before .before .before .before .if4 .left) .1) ledger (c .before .parentage .ensures _ n ledger e)) (c .if6 .taken))
 
-passes-6 : (c : tie.Else6) → let a = c .before .before .before .before .before .before .before .before .before .before .before .before .before .before .before .before .before .before .before .args in (words : List ℕ) (n : ℕ) (ledger : List Entry) → Enters (now (a .tables)) words n ledger → chain (parentageTests (fileIn (now (a .file))) ledger (signatureAt (fileIn (now (a .file))) (a .q)) (lakAt (fileIn (now (a .file))) (a .q)) (parentAt (fileIn (now (a .file))) (a .q))) ≡ 0
+passes-6 : (c : tie.Else6) → let a = c .before .before .before .before .before .before .before .before .before .before .before .before .before .before .before .before .before .before .args in (words : List ℕ) (n : ℕ) (ledger : List Entry) → Enters (now (a .tables)) words n ledger → chain (parentageTests (fileIn (now (a .file))) ledger (halfAt (fileIn (now (a .file))) (a .q)) (lakAt (fileIn (now (a .file))) (a .q)) (parentAt (fileIn (now (a .file))) (a .q))) ≡ 0
 passes-6 c words n ledger e =
-    let a = c .before .before .before .before .before .before .before .before .before .before .before .before .before .before .before .before .before .before .before .args in
-    sym (parentage-read (fileIn (now (a .file))) (a .q) (c .before .before .before .before .before .before .before .before .before .before .left-of .ensures) (c .before .before .before .before .before .before .before .before .before .ldevid-message-of .ensures) (c .before .before .before .before .before .before .message-of .ensures) (c .before .before .before .before .before .attested-key-of .ensures) (c .before .before .ldevid-certificate-of .ensures) ledger (c .before .parentage .ensures words n ledger e)) ∙ c .if6 .left
-
-subject-of-requires : tie.Need-subject-of-requires
-subject-of-requires c κs =
-    let p = c .before .before .before .before .before .before .before .before .before .before .before .before .before .before .before .before .before .before .before .pre in
-    let w = asked-of (c .before .before .before .before .before .before .before) in
-    rw (c .before .before .ldevid-certificate-of .ensures, c .before .before .before .before .before .before .before .before .before .before .left-of .ensures) (here (p .0) (parent-is (p .0) w) (λ e. omega arith) .0)
+    let a = c .before .before .before .before .before .before .before .before .before .before .before .before .before .before .before .before .before .before .args in
+    sym (parentage-read (fileIn (now (a .file))) (a .q) (c .before .before .before .before .before .before .before .before .before .pair-of .ensures .0) (c .before .before .before .before .before .before .before .before .ldevid-request-of .ensures .0) (c .before .before .before .before .before .before .before .attested-by .ensures .1 (c .before .before .before .before .before .if4 .left) .0) (c .before .before .before .before .before .before .before .before .ldevid-request-of .ensures .1) (c .before .before .before .before .before .before .before .attested-by .ensures .1 (c .before .before .before .before .before .if4 .left) .1) ledger (c .before .parentage .ensures words n ledger e)) ∙ c .if6 .left
 
 called-for-requires : tie.Need-called-for-requires
 called-for-requires c κs =
-    let p = c .before .before .before .before .before .before .before .before .before .before .before .before .before .before .before .before .before .before .before .before .pre in
+    let p = c .before .before .before .before .before .before .before .before .before .before .before .before .before .before .before .before .before .before .pre in
     (p .0, p .1, omega (arith, p .0 .parties, p .3 .0), p .3 .1)
 
 returns-7 : tie.Need-returns-7
 returns-7 c n ledger e =
-    let a = c .before .before .before .before .before .before .before .before .before .before .before .before .before .before .before .before .before .before .before .before .before .before .args in
+    let a = c .before .before .before .before .before .before .before .before .before .before .before .before .before .before .before .before .before .before .before .before .args in
     sym (issue-lak-chain (fileIn (now (a .file))) (stateOf (view (now (a .state))) ledger) (a .party) (a .q) (a .r)
-    ∙ chain-passes 13 _ _ (passes-1 (c .before .before .before .before .before .before .before .before .before .before .before .before .before .before .before .before .before .before))
-    ∙ chain-passes 14 _ _ (passes-2 (c .before .before .before .before .before .before .before .before .before .before .before .before .before .before .before .before))
-    ∙ form-goes _ _ (passes-3 (c .before .before .before .before .before .before .before .before .before .before .before .before .before .before)) _ _ refl
-    ∙ attest-goes _ _ _ (passes-4 (c .before .before .before .before .before .before .before .before .before .before))
-    ∙ proof-goes _ _ (passes-5 (c .before .before .before .before .before .before)) _ _ refl
-    ∙ parentage-goes _ _ _ _ _ _ (passes-6 (c .before .before .before) _ n ledger e)
-    ∙ stops _ _ _ (called-read (fileIn (now (a .file))) (a .q) (c .before .before .before .before .before .before .before .before .before .before .before .before .before .left-of .ensures) (c .before .before .before .before .before .before .before .before .before .before .before .before .ldevid-message-of .ensures) (c .before .before .before .before .before .before .before .before .before .message-of .ensures) (c .before .before .before .before .before .before .before .before .attested-key-of .ensures) (c .before .before .before .before .before .ldevid-certificate-of .ensures) (a .party) (a .r) (c .before .before .subject-of .ensures) (c .before .called-for .ensures)) (c .if7 .taken))
+    ∙ chain-passes 13 _ _ (passes-1 (c .before .before .before .before .before .before .before .before .before .before .before .before .before .before .before .before))
+    ∙ chain-passes 14 _ _ (passes-2 (c .before .before .before .before .before .before .before .before .before .before .before .before .before .before))
+    ∙ form-goes _ _ (passes-3 (c .before .before .before .before .before .before .before .before .before .before .before .before)) _ _ refl
+    ∙ attest-goes _ _ _ (passes-4 (c .before .before .before .before .before .before .before))
+    ∙ proof-goes _ _ (passes-5 (c .before .before .before .before .before)) _ _ refl
+    ∙ parentage-goes _ _ _ _ _ _ (passes-6 (c .before .before) _ n ledger e)
+    ∙ stops _ _ _ (called-read (fileIn (now (a .file))) (a .q) (c .before .before .before .before .before .before .before .before .before .before .before .pair-of .ensures .0) (c .before .before .before .before .before .before .before .before .before .before .ldevid-request-of .ensures .0) (c .before .before .before .before .before .before .before .before .before .attested-by .ensures .1 (c .before .before .before .before .before .before .before .if4 .left) .0) (c .before .before .before .before .before .before .before .before .before .before .ldevid-request-of .ensures .1) (a .party) (a .r) (c .before .before .before .before .certificate-of .ensures .1) (c .before .called-for .ensures)) (c .if7 .taken))
 
-passes-7 : (c : tie.Else7) → let a = c .before .before .before .before .before .before .before .before .before .before .before .before .before .before .before .before .before .before .before .before .before .before .args in chain (calledTests (fileIn (now (a .file))) (a .party) (a .r) (lakAt (fileIn (now (a .file))) (a .q)) (subject (fileIn (now (a .file))) (parentAt (fileIn (now (a .file))) (a .q)))) ≡ 0
+passes-7 : (c : tie.Else7) → let a = c .before .before .before .before .before .before .before .before .before .before .before .before .before .before .before .before .before .before .before .before .args in chain (calledTests (fileIn (now (a .file))) (a .party) (a .r) (lakAt (fileIn (now (a .file))) (a .q)) (subject (fileIn (now (a .file))) (parentAt (fileIn (now (a .file))) (a .q)))) ≡ 0
 passes-7 c =
-    let a = c .before .before .before .before .before .before .before .before .before .before .before .before .before .before .before .before .before .before .before .before .before .before .args in
-    sym (called-read (fileIn (now (a .file))) (a .q) (c .before .before .before .before .before .before .before .before .before .before .before .before .before .left-of .ensures) (c .before .before .before .before .before .before .before .before .before .before .before .before .ldevid-message-of .ensures) (c .before .before .before .before .before .before .before .before .before .message-of .ensures) (c .before .before .before .before .before .before .before .before .attested-key-of .ensures) (c .before .before .before .before .before .ldevid-certificate-of .ensures) (a .party) (a .r) (c .before .before .subject-of .ensures) (c .before .called-for .ensures)) ∙ c .if7 .left
+    let a = c .before .before .before .before .before .before .before .before .before .before .before .before .before .before .before .before .before .before .before .before .args in
+    sym (called-read (fileIn (now (a .file))) (a .q) (c .before .before .before .before .before .before .before .before .before .before .before .pair-of .ensures .0) (c .before .before .before .before .before .before .before .before .before .before .ldevid-request-of .ensures .0) (c .before .before .before .before .before .before .before .before .before .attested-by .ensures .1 (c .before .before .before .before .before .before .before .if4 .left) .0) (c .before .before .before .before .before .before .before .before .before .before .ldevid-request-of .ensures .1) (a .party) (a .r) (c .before .before .before .before .certificate-of .ensures .1) (c .before .called-for .ensures)) ∙ c .if7 .left
 
 entry-allowed-requires : tie.Need-entry-allowed-requires
 entry-allowed-requires c κs =
-    let p = c .before .before .before .before .before .before .before .before .before .before .before .before .before .before .before .before .before .before .before .before .before .before .pre in
-    let w = asked-of (c .before .before .before .before .before .before .before .before .before .before) in
+    let p = c .before .before .before .before .before .before .before .before .before .before .before .before .before .before .before .before .before .before .before .before .pre in
+    let w = asked-of (c .before .before .before .before .before .before .before) in
     let few = checked-here (p .0) .fewTerms in
     let issued = kind-declared _ (p .3 .1) (λ e. omega arith) in
     let known = kind-declared _ (parent-is (p .0) w) (λ e. omega arith) in
-    let m = parent-entered _ _ _ _ (p .4 .2) (passes-6 (c .before .before .before) _ _ _ (p .4 .2)) in
-    rw (c .before .before .before .before .before .ldevid-certificate-of .ensures, c .before .before .before .before .before .before .before .before .before .before .before .before .before .left-of .ensures) (omega (arith, few, issued), omega (arith, few, known), m .0, m .1)
+    let m = parent-entered _ _ _ _ (p .4 .2) (passes-6 (c .before .before) _ _ _ (p .4 .2)) in
+    rw (c .before .before .before .before .before .before .before .before .before .before .ldevid-request-of .ensures .1, c .before .before .before .before .before .before .before .before .before .before .before .pair-of .ensures .0) (omega (arith, few, issued), omega (arith, few, known), m .0, m .1)
 
 returns-8 : tie.Need-returns-8
 returns-8 c n ledger e =
-    let a = c .before .before .before .before .before .before .before .before .before .before .before .before .before .before .before .before .before .before .before .before .before .before .before .args in
+    let a = c .before .before .before .before .before .before .before .before .before .before .before .before .before .before .before .before .before .before .before .before .before .args in
     sym (issue-lak-chain (fileIn (now (a .file))) (stateOf (view (now (a .state))) ledger) (a .party) (a .q) (a .r)
-    ∙ chain-passes 13 _ _ (passes-1 (c .before .before .before .before .before .before .before .before .before .before .before .before .before .before .before .before .before .before .before))
-    ∙ chain-passes 14 _ _ (passes-2 (c .before .before .before .before .before .before .before .before .before .before .before .before .before .before .before .before .before))
-    ∙ form-goes _ _ (passes-3 (c .before .before .before .before .before .before .before .before .before .before .before .before .before .before .before)) _ _ refl
-    ∙ attest-goes _ _ _ (passes-4 (c .before .before .before .before .before .before .before .before .before .before .before))
-    ∙ proof-goes _ _ (passes-5 (c .before .before .before .before .before .before .before)) _ _ refl
-    ∙ parentage-goes _ _ _ _ _ _ (passes-6 (c .before .before .before .before) _ n ledger e)
+    ∙ chain-passes 13 _ _ (passes-1 (c .before .before .before .before .before .before .before .before .before .before .before .before .before .before .before .before .before))
+    ∙ chain-passes 14 _ _ (passes-2 (c .before .before .before .before .before .before .before .before .before .before .before .before .before .before .before))
+    ∙ form-goes _ _ (passes-3 (c .before .before .before .before .before .before .before .before .before .before .before .before .before)) _ _ refl
+    ∙ attest-goes _ _ _ (passes-4 (c .before .before .before .before .before .before .before .before))
+    ∙ proof-goes _ _ (passes-5 (c .before .before .before .before .before .before)) _ _ refl
+    ∙ parentage-goes _ _ _ _ _ _ (passes-6 (c .before .before .before) _ n ledger e)
     ∙ called-goes _ _ _ _ _ _ refl (passes-7 (c .before))
-    ∙ sym (entry-read (fileIn (now (a .file))) (a .q) (c .before .before .before .before .before .before .before .before .before .before .before .before .before .before .left-of .ensures) (c .before .before .before .before .before .before .before .before .before .before .before .before .before .ldevid-message-of .ensures) (c .before .before .before .before .before .before .before .before .before .before .message-of .ensures) (c .before .before .before .before .before .before .before .before .before .attested-key-of .ensures) (c .before .before .before .before .before .before .ldevid-certificate-of .ensures) ledger (a .r) (c .entry-allowed .ensures n ledger e)))
+    ∙ sym (entry-read (fileIn (now (a .file))) (a .q) (c .before .before .before .before .before .before .before .before .before .before .before .before .pair-of .ensures .0) (c .before .before .before .before .before .before .before .before .before .before .before .ldevid-request-of .ensures .0) (c .before .before .before .before .before .before .before .before .before .before .attested-by .ensures .1 (c .before .before .before .before .before .before .before .before .if4 .left) .0) (c .before .before .before .before .before .before .before .before .before .before .before .ldevid-request-of .ensures .1) ledger (a .r) (c .entry-allowed .ensures n ledger e)))
 
 pub decide-issue-lak-spec : {M : Type 1} → statement M
 decide-issue-lak-spec =
@@ -229,18 +211,15 @@ decide-issue-lak-spec =
     returns-2
     form-requires
     returns-3
-    left-of-requires
-    ldevid-message-of-requires
-    signed-attest-requires
+    pair-of-requires
+    ldevid-request-of-requires
+    attested-by-requires
     returns-4
-    message-of-requires
-    attested-key-of-requires
     proof-of-key-requires
     returns-5
-    ldevid-certificate-of-requires
+    certificate-of-requires
     parentage-requires
     returns-6
-    subject-of-requires
     called-for-requires
     returns-7
     entry-allowed-requires

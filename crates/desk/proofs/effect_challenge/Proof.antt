@@ -5,8 +5,8 @@ use Rattle.desk.proofs.Issued.{challenge-left}
 use Rattle.desk.proofs.effect_challenge.Statement.{statement}
 use Rattle.desk.proofs.effect_challenge.Tie as tie
 
-credential-number-of-requires : tie.Need-credential-number-of-requires
-credential-number-of-requires c κs =
+credential-of-requires : tie.Need-credential-of-requires
+credential-of-requires c κs =
     let p = c .before .before .before .pre in
     let l = kind-declared _ (p .1 .1) (λ x. omega arith) in
     (term-here (p .0) l, p .1 .1)
@@ -21,7 +21,7 @@ note-mark-requires : tie.Need-note-mark-requires
 note-mark-requires c κs =
     let p = c .before .before .before .before .before .before .before .before .before .pre in
     let l = kind-declared _ (p .1 .1) (λ x. omega arith) in
-    rw (c .before .before .before .before .before .credential-number-of .ensures) (omega (arith, term-here (p .0) (credential-number-declared (p .0) l (p .1 .1)) .row))
+    rw (c .before .before .before .before .before .credential-of .ensures .1) (omega (arith, term-here (p .0) (credential-number-declared (p .0) l (p .1 .1)) .row))
 
 note-mark-requires-2 : tie.Need-note-mark-requires-2
 note-mark-requires-2 c κs =
@@ -48,7 +48,7 @@ same-length : tie.Need-same-length
 same-length c = search needs
 
 returns : tie.Need-returns
-returns c = challenge-left (c .before .before .before .before .before .before .before .before .before .before .before .before .before .before .before .before .before .before .before .before .credential-number-of .ensures) (c .before .before .before .before .before .before .before .before .before .before .before .before .before .before .before .before .before .before .learn .ensures) (c .before .before .before .before .before .before .before .before .before .before .before .before .before .before .note-mark .ensures) (c .before .before .before .before .before .before .before .before .before .before .note-mark2 .ensures) (c .before .before .before .before .before .before .note-desk .ensures) (c .before .before .note-request .ensures)
+returns c = challenge-left (c .before .before .before .before .before .before .before .before .before .before .before .before .before .before .before .before .before .before .before .before .credential-of .ensures .1) (c .before .before .before .before .before .before .before .before .before .before .before .before .before .before .before .before .before .before .learn .ensures) (c .before .before .before .before .before .before .before .before .before .before .before .before .before .before .note-mark .ensures) (c .before .before .before .before .before .before .before .before .before .before .note-mark2 .ensures) (c .before .before .before .before .before .before .note-desk .ensures) (c .before .before .note-request .ensures)
 
 pub effect-challenge-spec : {M : Type 1} → statement M
-effect-challenge-spec = tie.close (tie.spec credential-number-of-requires learn-requires note-mark-requires note-mark-requires-2 cast-note-desk note-desk-requires note-request-requires same-length returns)
+effect-challenge-spec = tie.close (tie.spec credential-of-requires learn-requires note-mark-requires note-mark-requires-2 cast-note-desk note-desk-requires note-request-requires same-length returns)

@@ -6,17 +6,17 @@ use Rattle.desk.proofs.Issued.{lak-accepted, lak-issued}
 use Rattle.desk.proofs.effect_issue_lak.Statement.{statement}
 use Rattle.desk.proofs.effect_issue_lak.Tie as tie
 
-left-of-requires : tie.Need-left-of-requires
-left-of-requires c κs =
+pair-of-requires : tie.Need-pair-of-requires
+pair-of-requires c κs =
     let p = c .before .before .before .pre in
     let t = lak-accepted (p .2) in
     (term-here (p .0) (p .1 .2), t .pair)
 
-ldevid-certificate-of-requires : tie.Need-ldevid-certificate-of-requires
-ldevid-certificate-of-requires c κs =
+ldevid-request-of-requires : tie.Need-ldevid-request-of-requires
+ldevid-request-of-requires c κs =
     let p = c .before .before .before .before .before .pre in
     let t = lak-accepted (p .2) in
-    rw (c .before .left-of .ensures) (term-here (p .0) (left-declared (p .0) (p .1 .2) (t .pair)), t .body)
+    rw (c .before .pair-of .ensures .0) (term-here (p .0) (left-declared (p .0) (p .1 .2) (t .pair)), t .body)
 
 depth-of-requires : tie.Need-depth-of-requires
 depth-of-requires c κs =
@@ -24,7 +24,7 @@ depth-of-requires c κs =
     let t = lak-accepted (p .2) in
     let few = checked-here (p .0) .fewTerms in
     let m = ldevid-certificate-declared (p .0) (left-declared (p .0) (p .1 .2) (t .pair)) (t .body) in
-    rw (c .before .before .ldevid-certificate-of .ensures, c .before .before .before .before .left-of .ensures) (omega (arith, few, m), column-some _ (p .2 .enters) (t .parent), entry-most _ (p .2 .enters))
+    rw (c .before .before .ldevid-request-of .ensures .1, c .before .before .before .before .pair-of .ensures .0) (omega (arith, few, m), column-some _ (p .2 .enters) (t .parent), entry-most _ (p .2 .enters))
 
 learn-requires : tie.Need-learn-requires
 learn-requires c κs =
@@ -37,7 +37,7 @@ add-append c =
     let p = c .before .before .before .before .before .before .before .before .before .before .before .before .before .before .before .pre in
     let t = lak-accepted (p .2) in
     let d = c .before .before .before .before .before .before .depth-of .ensures _ _ (p .2 .enters) in
-    let k = rw (c .before .before .before .before .before .before .before .before .before .ldevid-certificate-of .ensures, c .before .before .before .before .before .before .before .before .before .before .before .left-of .ensures) at d in
+    let k = rw (c .before .before .before .before .before .before .before .before .before .ldevid-request-of .ensures .1, c .before .before .before .before .before .before .before .before .before .before .before .pair-of .ensures .0) at d in
     omega (arith, k, t .depth)
 
 append-requires : tie.Need-append-requires
@@ -47,13 +47,13 @@ append-requires c κs =
     let few = checked-here (p .0) .fewTerms in
     let l = kind-declared _ (p .1 .1) (λ x. omega arith) in
     let m = ldevid-certificate-declared (p .0) (left-declared (p .0) (p .1 .2) (t .pair)) (t .body) in
-    (p .3, p .2 .enters .room, p .2 .more, omega (arith, few, l), rw (c .before .before .before .before .before .before .before .before .before .ldevid-certificate-of .ensures, c .before .before .before .before .before .before .before .before .before .before .before .left-of .ensures) (omega (arith, few, m)))
+    (p .3, p .2 .enters .room, p .2 .more, omega (arith, few, l), rw (c .before .before .before .before .before .before .before .before .before .ldevid-request-of .ensures .1, c .before .before .before .before .before .before .before .before .before .before .before .pair-of .ensures .0) (omega (arith, few, m)))
 
 same-length : tie.Need-same-length
 same-length c = search needs
 
 returns : tie.Need-returns
-returns c = lak-issued (c .before .before .before .before .before .before .before .before .before .before .before .before .before .before .before .before .pre .2) (c .before .before .before .before .before .before .before .before .before .before .before .before .left-of .ensures) (c .before .before .before .before .before .before .before .before .before .before .ldevid-certificate-of .ensures) (c .before .before .before .before .before .before .before .depth-of .ensures) (c .before .before .before .before .before .learn .ensures) (c .append .ensures)
+returns c = lak-issued (c .before .before .before .before .before .before .before .before .before .before .before .before .before .before .before .before .pre .2) (c .before .before .before .before .before .before .before .before .before .before .before .before .pair-of .ensures .0) (c .before .before .before .before .before .before .before .before .before .before .ldevid-request-of .ensures .1) (c .before .before .before .before .before .before .before .depth-of .ensures) (c .before .before .before .before .before .learn .ensures) (c .append .ensures)
 
 pub effect-issue-lak-spec : {M : Type 1} → statement M
-effect-issue-lak-spec = tie.close (tie.spec left-of-requires ldevid-certificate-of-requires depth-of-requires learn-requires add-append append-requires same-length returns)
+effect-issue-lak-spec = tie.close (tie.spec pair-of-requires ldevid-request-of-requires depth-of-requires learn-requires add-append append-requires same-length returns)

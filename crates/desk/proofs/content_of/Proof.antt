@@ -1,0 +1,31 @@
+use borrow.Author.Needs.{needs}
+use mathlib.Core.Path.{refl, sym}
+use mathlib.Core.List.{[], _∷_}
+use Rattle.desk.proofs.Read.{read, other-kind, hash-content}
+use Rattle.desk.proofs.content_of.Statement.{statement}
+use Rattle.desk.proofs.content_of.Tie as tie
+
+term-of-requires : tie.Need-term-of-requires
+term-of-requires c κs = search needs
+
+enum-known-found : tie.Need-enum-known-found
+enum-known-found c = search needs
+
+returns : tie.Need-returns
+returns c =
+    let p = c .before .before .before .before .pre in
+    absurd (other-kind _ _ 2 (0 ∷ 1 ∷ 3 ∷ 4 ∷ 5 ∷ 6 ∷ 7 ∷ 8 ∷ 9 ∷ 10 ∷ []) (read (p .0) (c .before .term-of .ensures) refl) tt (c .match .keys2) (p .1))
+
+cast-result : tie.Need-cast-result
+cast-result c = search needs
+
+returns-2 : tie.Need-returns-2
+returns-2 c =
+    let b = c .before in
+    let p = b .before .before .before .before .before .pre in
+    let e = read (p .0) (b .before .before .term-of .ensures) (b .found .given .1) in
+    sym (hash-content _ _ e)
+
+pub content-of-spec : {M : Type 1} → statement M
+content-of-spec =
+    tie.close (tie.spec term-of-requires enum-known-found returns cast-result returns-2)
