@@ -33,14 +33,6 @@ ghost use Rattle.desk.specs.Appends.{Appends};
 ghost use Rattle.desk.specs.Issues.{IssuesIak};
 ghost use Rattle.desk.specs.Dispatch.{OpenRequested, DeskEffectReady, DeskLeaves};
 
-// Roles of desks.
-const OEM_DESK: u8 = 2;
-
-const OWNER_DESK: u8 = 3;
-
-// The depth of the deepest entry.
-const DEPTH_LIMIT: u16 = 8;
-
 // The marks of a used number, and of an open and a closed credential.
 const NUMBER_USED: u8 = 1;
 
@@ -435,7 +427,7 @@ pub fn decide_challenge(
     requires { ⌜ Holds (now file) (now state) × Wellformed (fileIn (now file)) (challenge party q r) × Finds (now file) (now tables) × (parties ≡ length (fileIn (now file) .roles)) ⌝ }
     ensures { λ x. ⌜ Decides (now (file .entry)) (now (state .entry)) (challenge party q r) x ⌝ }
 {
-    if !loaded::is_role(file, party, OEM_DESK) {
+    if !loaded::is_role(file, party, rules::OEM_DESK) {
         return 13;
     }
     if !state::knows(state, party, q) {
@@ -481,7 +473,7 @@ pub fn decide_issue_iak(
     requires { ⌜ Holds (now file) (now state) × Finds (now file) (now tables) × Wellformed (fileIn (now file)) (issueIak party other c r) × (view (now state) .mark c ≡ credentialOpen → Requested (fileIn (now file)) (view (now state) .request c)) ⌝ }
     ensures { λ x. ⌜ DecidesListed (now (file .entry)) (now (state .entry)) (now (tables .entry)) (issueIak party other c r) x ⌝ }
 {
-    if !loaded::is_role(file, party, OEM_DESK) {
+    if !loaded::is_role(file, party, rules::OEM_DESK) {
         return 13;
     }
     if state::mark_of(state, c) != CREDENTIAL_OPEN {
@@ -554,10 +546,10 @@ fn signs_for_desk(file: &[u8], tables: &[u16; tables::WORDS], key: usize, partie
     requires { ⌜ Checked (fileIn (now file)) × Finds (now file) (now tables) × (parties ≡ length (fileIn (now file) .roles)) × ((p : ℕ) → p < parties → PartyHere (now file) p) × (key < noKey) ⌝ }
     ensures { λ x. ⌜ x ≡ (signsForRole (fileIn (now (file .entry))) oemDesk key || signsForRole (fileIn (now (file .entry))) ownerDesk key) ⌝ }
 {
-    if signs_for_role(file, tables, OEM_DESK, key, parties) {
+    if signs_for_role(file, tables, rules::OEM_DESK, key, parties) {
         return true;
     }
-    signs_for_role(file, tables, OWNER_DESK, key, parties)
+    signs_for_role(file, tables, rules::OWNER_DESK, key, parties)
 }
 
 // The parentage of an LAK: its attest by the key of a desk's certificate, which is listed, and the attributes of both keys.
@@ -606,7 +598,7 @@ fn entry_allowed(
         return 28;
     }
     let depth = depth_of(tables, words, parent);
-    if depth >= DEPTH_LIMIT {
+    if depth >= rules::DEPTH_LIMIT {
         return 29;
     }
     0
@@ -626,7 +618,7 @@ pub fn decide_issue_lak(
     requires { ⌜ Holds (now file) (now state) × Finds (now file) (now tables) × (parties ≡ length (fileIn (now file) .roles)) × Wellformed (fileIn (now file)) (issueLak party q r) × Entered (now tables) (now words) ⌝ }
     ensures { λ x. ⌜ DecidesBy (now (file .entry)) (now (state .entry)) (now (tables .entry)) (now (words .entry)) (issueLak party q r) x ⌝ }
 {
-    if !loaded::is_role(file, party, OWNER_DESK) {
+    if !loaded::is_role(file, party, rules::OWNER_DESK) {
         return 13;
     }
     if !state::knows(state, party, q) {

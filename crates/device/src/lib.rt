@@ -16,11 +16,6 @@ ghost use Rattle.lookup.specs.Commands.{CommandAt};
 ghost use Rattle.loaded.specs.Chain.{chain};
 ghost use Rattle.loaded.specs.Loaded.{fileIn, Holds, Finds, PartyHere, TermHere, Decides, Leaves};
 
-// Roles of desks.
-const OEM_DESK: u8 = 2;
-
-const OWNER_DESK: u8 = 3;
-
 // 30 Hash.
 pub fn decide_hash(file: &[u8], state: &[u8], party: usize, r: usize) -> u8
     requires { ⌜ Holds (now file) (now state) × Wellformed (fileIn (now file)) (hash party r) ⌝ }
@@ -111,10 +106,10 @@ fn is_desk(file: &[u8], party: usize) -> bool
     requires { ⌜ PartyHere (now file) party ⌝ }
     ensures { λ x. ⌜ x ≡ (isRole (fileIn (now (file .entry))) oemDesk party || isRole (fileIn (now (file .entry))) ownerDesk party) ⌝ }
 {
-    if loaded::is_role(file, party, OEM_DESK) {
+    if loaded::is_role(file, party, rules::OEM_DESK) {
         return true;
     }
-    loaded::is_role(file, party, OWNER_DESK)
+    loaded::is_role(file, party, rules::OWNER_DESK)
 }
 
 // Whether a desk may send a term: a public key, a credential or a certificate.

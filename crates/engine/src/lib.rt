@@ -9,9 +9,6 @@ ghost use Rattle.rules.specs.Limits.{stateBytes};
 ghost use Rattle.engine.specs.Turns.{RunReady, Executes};
 ghost use Rattle.engine.specs.Runs.{roomy, PartsReady, PartsRan, Runs, Left};
 
-// Outcomes of the commands of a file.
-pub const COMMAND_LIMIT: usize = 8192;
-
 // Accepted and refused commands, and issued certificates.
 pub struct Totals {
     pub accepted: usize,
@@ -123,7 +120,7 @@ fn enough(state: usize, room: usize, outcomes: usize) -> bool
     if room < rules::TERM_LIMIT {
         return false;
     }
-    COMMAND_LIMIT <= outcomes
+    rules::COMMAND_LIMIT <= outcomes
 }
 
 // Loads a file and executes its first n commands, or all if fewer. `room` is the length of the ledger that the entries are for; they are left in words, and the tables beside them.
@@ -156,7 +153,7 @@ pub fn run(
         file,
         n,
         &mut state[..rules::STATE_BYTES],
-        &mut outcomes[..COMMAND_LIMIT],
+        &mut outcomes[..rules::COMMAND_LIMIT],
         words,
         tables,
     );

@@ -37,7 +37,7 @@ pub fn list_into(file: &[u8], out: &mut [u8]) -> usize
     ensures { λ n. ⌜ Listed (listing (now (file .entry))) (now (out .entry)) (now (out .exit)) n ⌝ }
 {
     let mut state = [0u8; rules::STATE_BYTES];
-    let mut outcomes = [0u8; engine::COMMAND_LIMIT];
+    let mut outcomes = [0u8; rules::COMMAND_LIMIT];
     let mut words = [0u16; entries::WORDS];
     let mut tables = [0u16; tables::WORDS];
     let done = engine::run(

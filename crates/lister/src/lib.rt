@@ -10,7 +10,7 @@ ghost use Rattle.entries.specs.Words.{entriesIn};
 ghost use Rattle.lister.specs.Parts.{outcomeLine, entryLine, runLines, Listable};
 
 // Bytes that are enough for the listing of every file.
-pub const LISTING_BYTES: usize = rules::FILE_LIMIT / 4 * 11 + rules::TERM_LIMIT * 20 + 29;
+pub const LISTING_BYTES: usize = rules::COMMAND_LIMIT * 11 + rules::TERM_LIMIT * 20 + 29;
 
 // Digits of a number of 64 bits at most.
 const DIGITS: usize = 20;

@@ -13,9 +13,6 @@ ghost use Rattle.loaded.specs.Entries.{Enters, Entered};
 ghost use Rattle.path.specs.Finding.{Findable, foundIn, listedIn};
 ghost use Rattle.path.specs.Paths.{Askable, Answers, Paths};
 
-// Places of a list that a path may need: the deepest certificate, its parents and the endorsement certificate.
-pub const PATH_PLACES: usize = 9;
-
 // The answer of Path, and how many places of the ledger are to be written: 0 or 1,024.
 pub struct PathAnswered {
     pub places: usize,
@@ -115,7 +112,7 @@ pub fn path(
     ensures { λ r. ⌜ Paths (now (file .entry)) n room (now (state .entry)) (now (outcomes .entry)) term (now (list .entry)) (now (state .exit)) (now (outcomes .exit)) (now (list .exit)) (now (words .exit)) r ⌝ }
 {
     *words = [0u16; entries::WORDS];
-    if list.len() < PATH_PLACES {
+    if list.len() < rules::PATH_PLACES {
         return PathAnswered {
             places: 0,
             answer: PathAnswer::Refused(1, 0),

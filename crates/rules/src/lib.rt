@@ -14,10 +14,20 @@ pub const ROW_WIDTH: usize = 8;
 
 pub const STATE_BYTES: usize = TERM_LIMIT * ROW_WIDTH;
 
+pub const COMMAND_LIMIT: usize = 8192;
+
+pub const DEPTH_LIMIT: u16 = 8;
+
+pub const PATH_PLACES: usize = 9;
+
 // Roles of parties.
 pub const DEVICE: u8 = 0;
 
 pub const TPM_MAKER: u8 = 1;
+
+pub const OEM_DESK: u8 = 2;
+
+pub const OWNER_DESK: u8 = 3;
 
 pub const ROLE_COUNT: usize = 4;
 
