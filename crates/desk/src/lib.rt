@@ -11,8 +11,8 @@ ghost use lib.ListN.{length};
 ghost use Rattle.rules.specs.declared.Entry.{Entry};
 ghost use Rattle.rules.specs.Limits.{rowWidth, partyLimit, termLimit, oemDesk, ownerDesk};
 ghost use Rattle.rules.specs.Attributes.{sameAttributes};
-ghost use Rattle.rules.specs.Term.{hashKind, signatureKind, credentialKind, idevidRequestKind, ldevidRequestKind, certificateKind, pairKind, isTpmSubject, isDeviceSubject};
-ghost use Rattle.rules.specs.File.{challenge, issueIak, isRole, kind, hashedTerm, message, signingKey, attestedKey, credentialTerm, credentialNumber, credentialKey, idevidCertificate, idevidKey, ldevidMessage, ldevidCertificate, certifiedKey, signer, leftOf, rightOf, subject, attributes, signsForRole, issueLak};
+ghost use Rattle.rules.specs.Term.{credentialKind, idevidRequestKind, ldevidRequestKind, certificateKind, pairKind, isTpmSubject, isDeviceSubject};
+ghost use Rattle.rules.specs.File.{challenge, issueIak, isRole, kind, message, signingKey, attestedKey, credentialTerm, credentialNumber, credentialKey, idevidCertificate, idevidKey, ldevidMessage, ldevidCertificate, certifiedKey, signer, leftOf, rightOf, subject, attributes, signsForRole, issueLak};
 ghost use Rattle.rules.specs.State.{credentialOpen, listed, depthOf};
 ghost use Rattle.rules.specs.Desk.{formTests, proofTests, numberTests};
 ghost use Rattle.theorems.proofs.Loading.{Checked, Wellformed};
@@ -27,7 +27,7 @@ ghost use Rattle.lookup.specs.Commands.{CommandAt};
 ghost use Rattle.loaded.specs.Chain.{chain};
 ghost use Rattle.loaded.specs.Loaded.{fileIn, Holds, Finds, PartyHere, TermHere, Decides, Leaves};
 ghost use Rattle.loaded.specs.Entries.{Enters, Entered, DecidesListed, DecidesBy, Accepts, Issues};
-ghost use Rattle.desk.specs.Formed.{Formed, Requested};
+ghost use Rattle.desk.specs.Formed.{Names, Requested};
 ghost use Rattle.desk.specs.Tests.{endorsementTests, credentialTests, calledTests, attestTests, parentageTests, entryTests};
 ghost use Rattle.desk.specs.Appends.{Appends};
 ghost use Rattle.desk.specs.Issues.{IssuesIak};
@@ -44,11 +44,6 @@ const CREDENTIAL_CLOSED: u8 = 3;
 struct Pair {
     left: usize,
     right: usize,
-}
-
-struct Signature {
-    message: usize,
-    key: usize,
 }
 
 struct Credential {
@@ -86,33 +81,6 @@ fn pair_of(file: &[u8], state: &[u8], t: usize) -> Pair
     Pair {
         left: left as usize,
         right: right as usize,
-    }
-}
-
-// What a hash is of.
-fn content_of(file: &[u8], state: &[u8], t: usize) -> usize
-    requires { ⌜ TermHere (now file) (now state) t × (kind (fileIn (now file)) t ≡ hashKind) ⌝ }
-    ensures { λ x. ⌜ x ≡ hashedTerm (fileIn (now (file .entry))) t ⌝ }
-{
-    let found = learning::term_of(file, state, t);
-    let Term::Hash(content) = found else {
-        return 0;
-    };
-    content as usize
-}
-
-// The message of a signature, and the private key that signed it.
-fn signature_of(file: &[u8], state: &[u8], t: usize) -> Signature
-    requires { ⌜ TermHere (now file) (now state) t × (kind (fileIn (now file)) t ≡ signatureKind) ⌝ }
-    ensures { λ x. ⌜ (x .message ≡ message (fileIn (now (file .entry))) t) × (x .key ≡ signingKey (fileIn (now (file .entry))) t) ⌝ }
-{
-    let found = learning::term_of(file, state, t);
-    let Term::Signature(message, key) = found else {
-        return Signature { message: 0, key: 0 };
-    };
-    Signature {
-        message: message as usize,
-        key: key as usize,
     }
 }
 
@@ -194,49 +162,75 @@ fn certificate_of(file: &[u8], state: &[u8], t: usize) -> Certificate
     }
 }
 
-// The form of a request: a pair of its body and a signature over a hash.
-pub fn form(file: &[u8], state: &[u8], q: usize, kind: u8) -> u8
+// A request: a pair of its body and a signature over a hash, or a refusal.
+struct Request {
+    refusal: u8,
+    body: usize,
+    content: usize,
+    signer: usize,
+}
+
+fn form(file: &[u8], state: &[u8], q: usize, kind: u8) -> Request
     requires { ⌜ Holds (now file) (now state) × (q < length (fileIn (now file) .terms)) ⌝ }
-    ensures { λ x. ⌜ x ≡ chain (formTests (fileIn (now (file .entry))) kind q) ⌝ }
+    ensures { λ x. ⌜ (x .refusal ≡ chain (formTests (fileIn (now (file .entry))) kind q)) × (x .refusal ≡ 0 → Names (fileIn (now (file .entry))) q (x .body) (x .content) (x .signer)) ⌝ }
 {
     let request = learning::term_of(file, state, q);
     let Term::Pair(left, right) = request else {
-        return 19;
+        return Request {
+            refusal: 19,
+            body: 0,
+            content: 0,
+            signer: 0,
+        };
     };
     let body = left as usize;
     if !loaded::is_kind(file, state, body, kind) {
-        return 19;
+        return Request {
+            refusal: 19,
+            body: 0,
+            content: 0,
+            signer: 0,
+        };
     }
     let signature = right as usize;
     let signed = learning::term_of(file, state, signature);
-    let Term::Signature(content, _) = signed else {
-        return 19;
+    let Term::Signature(over, key) = signed else {
+        return Request {
+            refusal: 19,
+            body: 0,
+            content: 0,
+            signer: 0,
+        };
     };
-    let message = content as usize;
-    if !loaded::is_kind(file, state, message, 0x12) {
-        return 19;
+    let message = over as usize;
+    let hashed = learning::term_of(file, state, message);
+    let Term::Hash(inner) = hashed else {
+        return Request {
+            refusal: 19,
+            body: 0,
+            content: 0,
+            signer: 0,
+        };
+    };
+    let content = inner as usize;
+    let signer = key as usize;
+    Request {
+        refusal: 0,
+        body,
+        content,
+        signer,
     }
-    0
 }
 
 // The proof of a key: the signature is over the body's hash, by the key's private half.
-pub fn proof_of_key(
-    file: &[u8],
-    state: &[u8],
-    tables: &[u16; tables::WORDS],
-    q: usize,
-    key: usize,
-) -> u8
-    requires { ⌜ Holds (now file) (now state) × Finds (now file) (now tables) × (q < length (fileIn (now file) .terms)) × Formed (fileIn (now file)) q × (key < length (fileIn (now file) .terms)) ⌝ }
-    ensures { λ x. ⌜ x ≡ chain (proofTests (fileIn (now (file .entry))) q key) ⌝ }
+fn proof_of_key(tables: &[u16; tables::WORDS], request: Request, key: usize) -> u8
+    requires { ⌜ (key < termLimit) × (request .signer < termLimit) ⌝ }
+    ensures { λ x. ⌜ ((bs : List ℕ) (q : ℕ) → Finds bs (now (tables .entry)) → key < length (fileIn bs .terms) → Names (fileIn bs) q (request .body) (request .content) (request .signer) → x ≡ chain (proofTests (fileIn bs) q key)) ⌝ }
 {
-    let request = pair_of(file, state, q);
-    let signature = signature_of(file, state, request.right);
-    let content = content_of(file, state, signature.message);
-    if content != request.left {
+    if request.content != request.body {
         return 20;
     }
-    if !loaded::is_half(tables, key, signature.key) {
+    if !loaded::is_half(tables, key, request.signer) {
         return 20;
     }
     0
@@ -433,17 +427,16 @@ pub fn decide_challenge(
     if !state::knows(state, party, q) {
         return 14;
     }
-    let formed = form(file, state, q, 0x17);
-    if formed != 0 {
-        return formed;
+    let request = form(file, state, q, 0x17);
+    if request.refusal != 0 {
+        return request.refusal;
     }
-    let request = pair_of(file, state, q);
-    let asked = idevid_request_of(file, state, request.left);
+    let asked = idevid_request_of(file, state, request.body);
     let named = asked.subject;
     if !is_device(named) {
         return 19;
     }
-    let proved = proof_of_key(file, state, tables, q, asked.key);
+    let proved = proof_of_key(tables, request, asked.key);
     if proved != 0 {
         return proved;
     }
@@ -624,18 +617,17 @@ pub fn decide_issue_lak(
     if !state::knows(state, party, q) {
         return 14;
     }
-    let formed = form(file, state, q, 0x18);
-    if formed != 0 {
-        return formed;
+    let request = form(file, state, q, 0x18);
+    if request.refusal != 0 {
+        return request.refusal;
     }
-    let request = pair_of(file, state, q);
-    let asked = ldevid_request_of(file, state, request.left);
+    let asked = ldevid_request_of(file, state, request.body);
     let attested = attested_by(file, state, asked.message);
     if attested.refusal != 0 {
         return attested.refusal;
     }
     let lak = attested.key;
-    let proved = proof_of_key(file, state, tables, q, lak);
+    let proved = proof_of_key(tables, request, lak);
     if proved != 0 {
         return proved;
     }

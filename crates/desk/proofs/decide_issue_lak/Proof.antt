@@ -62,33 +62,27 @@ form-requires c κs =
 
 returns-3 : tie.Need-returns-3
 returns-3 c n ledger e =
-    let a = c .before .before .before .before .before .before .before .before .args in
+    let a = c .before .before .before .before .before .before .before .before .before .args in
     sym (issue-lak-chain (fileIn (now (a .file))) (stateOf (view (now (a .state))) ledger) (a .party) (a .q) (a .r)
-    ∙ chain-passes 13 _ _ (passes-1 (c .before .before .before .before))
-    ∙ chain-passes 14 _ _ (passes-2 (c .before .before))
-    ∙ stops _ _ _ (c .before .form .ensures) (c .if3 .taken))
+    ∙ chain-passes 13 _ _ (passes-1 (c .before .before .before .before .before))
+    ∙ chain-passes 14 _ _ (passes-2 (c .before .before .before))
+    ∙ stops _ _ _ (c .before .before .form .ensures .0) (c .if3 .taken))
 
-passes-3 : (c : tie.Else3) → let a = c .before .before .before .before .before .before .before .before .args in chain (formTests (fileIn (now (a .file))) ldevidRequestKind (a .q)) ≡ 0
+passes-3 : (c : tie.Else3) → let a = c .before .before .before .before .before .before .before .before .before .args in chain (formTests (fileIn (now (a .file))) ldevidRequestKind (a .q)) ≡ 0
 passes-3 c =
-    sym (c .before .form .ensures) ∙ c .if3 .left
-
-pair-of-requires : tie.Need-pair-of-requires
-pair-of-requires c κs =
-    let p = c .before .before .before .before .before .before .before .before .pre in
-    let m = has-form _ _ _ refl (passes-3 c) in
-    (term-here (p .0) (p .3 .2), m .0 .pair)
+    sym (c .before .before .form .ensures .0) ∙ c .if3 .left
 
 ldevid-request-of-requires : tie.Need-ldevid-request-of-requires
 ldevid-request-of-requires c κs =
     let p = c .before .before .before .before .before .before .before .before .before .pre in
-    let m = has-form _ _ _ refl (passes-3 (c .before)) in
-    rw (c .pair-of .ensures .0) (here (p .0) (m .1) (λ e. omega arith))
+    let m = has-form _ _ _ refl (passes-3 (c)) in
+    rw (c .before .before .form .ensures .1 (c .if3 .left) .named) (here (p .0) (m .1) (λ e. omega arith))
 
 attested-by-requires : tie.Need-attested-by-requires
 attested-by-requires c κs =
     let p = c .before .before .before .before .before .before .before .before .before .before .pre in
-    let m = has-form _ _ _ refl (passes-3 (c .before .before)) in
-    (p .0, rw (c .ldevid-request-of .ensures .0, c .before .pair-of .ensures .0) (ldevid-message-declared (p .0) (kind-declared _ (m .1) (λ e. omega arith)) (m .1)))
+    let m = has-form _ _ _ refl (passes-3 (c .before)) in
+    (p .0, rw (c .ldevid-request-of .ensures .0, c .before .before .before .form .ensures .1 (c .before .if3 .left) .named) (ldevid-message-declared (p .0) (kind-declared _ (m .1) (λ e. omega arith)) (m .1)))
 
 returns-4 : tie.Need-returns-4
 returns-4 c n ledger e =
@@ -96,49 +90,54 @@ returns-4 c n ledger e =
     sym (issue-lak-chain (fileIn (now (a .file))) (stateOf (view (now (a .state))) ledger) (a .party) (a .q) (a .r)
     ∙ chain-passes 13 _ _ (passes-1 (c .before .before .before .before .before .before .before .before .before))
     ∙ chain-passes 14 _ _ (passes-2 (c .before .before .before .before .before .before .before))
-    ∙ form-goes _ _ (passes-3 (c .before .before .before .before .before)) _ _ refl
-    ∙ stops _ _ _ (attest-read (fileIn (now (a .file))) (a .q) (c .before .before .before .before .pair-of .ensures .0) (c .before .before .before .ldevid-request-of .ensures .0) (c .before .before .attested-by .ensures .0)) (c .if4 .taken))
+    ∙ form-goes _ _ (passes-3 (c .before .before .before .before)) _ _ refl
+    ∙ stops _ _ _ (attest-read (fileIn (now (a .file))) (a .q) (c .before .before .before .before .before .before .form .ensures .1 (c .before .before .before .before .if3 .left) .named) (c .before .before .before .ldevid-request-of .ensures .0) (c .before .before .attested-by .ensures .0)) (c .if4 .taken))
 
 passes-4 : (c : tie.Else4) → let a = c .before .before .before .before .before .before .before .before .before .before .before .before .before .args in chain (attestTests (fileIn (now (a .file))) (signatureAt (fileIn (now (a .file))) (a .q))) ≡ 0
 passes-4 c =
     let a = c .before .before .before .before .before .before .before .before .before .before .before .before .before .args in
-    sym (attest-read (fileIn (now (a .file))) (a .q) (c .before .before .before .before .pair-of .ensures .0) (c .before .before .before .ldevid-request-of .ensures .0) (c .before .before .attested-by .ensures .0)) ∙ c .if4 .left
+    sym (attest-read (fileIn (now (a .file))) (a .q) (c .before .before .before .before .before .before .form .ensures .1 (c .before .before .before .before .if3 .left) .named) (c .before .before .before .ldevid-request-of .ensures .0) (c .before .before .attested-by .ensures .0)) ∙ c .if4 .left
 
 asked-of : (c : tie.Else4) → let a = c .before .before .before .before .before .before .before .before .before .before .before .before .before .args in Asked (fileIn (now (a .file))) (a .q)
-asked-of c = asked _ _ (passes-3 (c .before .before .before .before .before)) (passes-4 c)
+asked-of c = asked _ _ (passes-3 (c .before .before .before .before)) (passes-4 c)
 
 proof-of-key-requires : tie.Need-proof-of-key-requires
 proof-of-key-requires c κs =
     let p = c .before .before .before .before .before .before .before .before .before .before .before .before .before .pre in
     let w = asked-of (c) in
-    (p .0, p .1, p .3 .2, w .formed, rw (c .before .before .attested-by .ensures .1 (c .if4 .left) .0, c .before .before .before .ldevid-request-of .ensures .0, c .before .before .before .before .pair-of .ensures .0) (lak-declared (p .0) w))
+    let few = checked-here (p .0) .fewTerms in
+    (rw (c .before .before .attested-by .ensures .1 (c .if4 .left) .0, c .before .before .before .ldevid-request-of .ensures .0, c .before .before .before .before .before .before .form .ensures .1 (c .before .before .before .before .if3 .left) .named) (omega (arith, few, lak-declared (p .0) w)), omega (arith, few, c .before .before .before .before .before .before .form .ensures .1 (c .before .before .before .before .if3 .left) .known))
 
 returns-5 : tie.Need-returns-5
 returns-5 c n ledger e =
     let a = c .before .before .before .before .before .before .before .before .before .before .before .before .before .before .before .args in
+    let p = c .before .before .before .before .before .before .before .before .before .before .before .before .before .before .before .pre in
+    let w = asked-of (c .before .before) in
     sym (issue-lak-chain (fileIn (now (a .file))) (stateOf (view (now (a .state))) ledger) (a .party) (a .q) (a .r)
     ∙ chain-passes 13 _ _ (passes-1 (c .before .before .before .before .before .before .before .before .before .before .before))
     ∙ chain-passes 14 _ _ (passes-2 (c .before .before .before .before .before .before .before .before .before))
-    ∙ form-goes _ _ (passes-3 (c .before .before .before .before .before .before .before)) _ _ refl
+    ∙ form-goes _ _ (passes-3 (c .before .before .before .before .before .before)) _ _ refl
     ∙ attest-goes _ _ _ (passes-4 (c .before .before))
-    ∙ stops _ _ _ (proof-read (fileIn (now (a .file))) (a .q) (c .before .before .before .before .before .before .pair-of .ensures .0) (c .before .before .before .before .before .ldevid-request-of .ensures .0) (c .before .before .before .before .attested-by .ensures .1 (c .before .before .if4 .left) .0) (c .before .proof-of-key .ensures)) (c .if5 .taken))
+    ∙ stops _ _ _ (proof-read (fileIn (now (a .file))) (a .q) (c .before .before .before .before .before .before .before .before .form .ensures .1 (c .before .before .before .before .before .before .if3 .left) .named) (c .before .before .before .before .before .ldevid-request-of .ensures .0) (c .before .before .before .before .attested-by .ensures .1 (c .before .before .if4 .left) .0) (c .before .proof-of-key .ensures (now (a .file)) (a .q) (p .1) (rw (c .before .before .before .before .attested-by .ensures .1 (c .before .before .if4 .left) .0, c .before .before .before .before .before .ldevid-request-of .ensures .0, c .before .before .before .before .before .before .before .before .form .ensures .1 (c .before .before .before .before .before .before .if3 .left) .named) (lak-declared (p .0) w)) (c .before .before .before .before .before .before .before .before .form .ensures .1 (c .before .before .before .before .before .before .if3 .left)))) (c .if5 .taken))
 
 passes-5 : (c : tie.Else5) → let a = c .before .before .before .before .before .before .before .before .before .before .before .before .before .before .before .args in chain (proofTests (fileIn (now (a .file))) (a .q) (lakAt (fileIn (now (a .file))) (a .q))) ≡ 0
 passes-5 c =
     let a = c .before .before .before .before .before .before .before .before .before .before .before .before .before .before .before .args in
-    sym (proof-read (fileIn (now (a .file))) (a .q) (c .before .before .before .before .before .before .pair-of .ensures .0) (c .before .before .before .before .before .ldevid-request-of .ensures .0) (c .before .before .before .before .attested-by .ensures .1 (c .before .before .if4 .left) .0) (c .before .proof-of-key .ensures)) ∙ c .if5 .left
+    let p = c .before .before .before .before .before .before .before .before .before .before .before .before .before .before .before .pre in
+    let w = asked-of (c .before .before) in
+    sym (proof-read (fileIn (now (a .file))) (a .q) (c .before .before .before .before .before .before .before .before .form .ensures .1 (c .before .before .before .before .before .before .if3 .left) .named) (c .before .before .before .before .before .ldevid-request-of .ensures .0) (c .before .before .before .before .attested-by .ensures .1 (c .before .before .if4 .left) .0) (c .before .proof-of-key .ensures (now (a .file)) (a .q) (p .1) (rw (c .before .before .before .before .attested-by .ensures .1 (c .before .before .if4 .left) .0, c .before .before .before .before .before .ldevid-request-of .ensures .0, c .before .before .before .before .before .before .before .before .form .ensures .1 (c .before .before .before .before .before .before .if3 .left) .named) (lak-declared (p .0) w)) (c .before .before .before .before .before .before .before .before .form .ensures .1 (c .before .before .before .before .before .before .if3 .left)))) ∙ c .if5 .left
 
 certificate-of-requires : tie.Need-certificate-of-requires
 certificate-of-requires c κs =
     let p = c .before .before .before .before .before .before .before .before .before .before .before .before .before .before .before .pre in
     let w = asked-of (c .before .before) in
-    rw (c .before .before .before .before .before .ldevid-request-of .ensures .1, c .before .before .before .before .before .before .pair-of .ensures .0) (here (p .0) (parent-is (p .0) w) (λ e. omega arith))
+    rw (c .before .before .before .before .before .ldevid-request-of .ensures .1, c .before .before .before .before .before .before .before .before .form .ensures .1 (c .before .before .before .before .before .before .if3 .left) .named) (here (p .0) (parent-is (p .0) w) (λ e. omega arith))
 
 parentage-requires : tie.Need-parentage-requires
 parentage-requires c κs =
     let p = c .before .before .before .before .before .before .before .before .before .before .before .before .before .before .before .before .pre in
     let w = asked-of (c .before .before .before) in
-    (p .0, p .1, p .2, rw (c .before .before .before .before .before .attested-by .ensures .1 (c .before .before .before .if4 .left) .1, c .before .before .before .before .before .before .ldevid-request-of .ensures .0, c .before .before .before .before .before .before .before .pair-of .ensures .0) (half-declared (p .0) w), rw (c .before .before .before .before .before .attested-by .ensures .1 (c .before .before .before .if4 .left) .0, c .before .before .before .before .before .before .ldevid-request-of .ensures .0, c .before .before .before .before .before .before .before .pair-of .ensures .0) (lak-declared (p .0) w), rw (c .before .before .before .before .before .before .ldevid-request-of .ensures .1, c .before .before .before .before .before .before .before .pair-of .ensures .0) (parent-is (p .0) w), c .certificate-of .ensures .0, c .certificate-of .ensures .2)
+    (p .0, p .1, p .2, rw (c .before .before .before .before .before .attested-by .ensures .1 (c .before .before .before .if4 .left) .1, c .before .before .before .before .before .before .ldevid-request-of .ensures .0, c .before .before .before .before .before .before .before .before .before .form .ensures .1 (c .before .before .before .before .before .before .before .if3 .left) .named) (half-declared (p .0) w), rw (c .before .before .before .before .before .attested-by .ensures .1 (c .before .before .before .if4 .left) .0, c .before .before .before .before .before .before .ldevid-request-of .ensures .0, c .before .before .before .before .before .before .before .before .before .form .ensures .1 (c .before .before .before .before .before .before .before .if3 .left) .named) (lak-declared (p .0) w), rw (c .before .before .before .before .before .before .ldevid-request-of .ensures .1, c .before .before .before .before .before .before .before .before .before .form .ensures .1 (c .before .before .before .before .before .before .before .if3 .left) .named) (parent-is (p .0) w), c .certificate-of .ensures .0, c .certificate-of .ensures .2)
 
 returns-6 : tie.Need-returns-6
 returns-6 c n ledger e =
@@ -146,15 +145,15 @@ returns-6 c n ledger e =
     sym (issue-lak-chain (fileIn (now (a .file))) (stateOf (view (now (a .state))) ledger) (a .party) (a .q) (a .r)
     ∙ chain-passes 13 _ _ (passes-1 (c .before .before .before .before .before .before .before .before .before .before .before .before .before .before))
     ∙ chain-passes 14 _ _ (passes-2 (c .before .before .before .before .before .before .before .before .before .before .before .before))
-    ∙ form-goes _ _ (passes-3 (c .before .before .before .before .before .before .before .before .before .before)) _ _ refl
+    ∙ form-goes _ _ (passes-3 (c .before .before .before .before .before .before .before .before .before)) _ _ refl
     ∙ attest-goes _ _ _ (passes-4 (c .before .before .before .before .before))
     ∙ proof-goes _ _ (passes-5 (c .before .before .before)) _ _ refl
-    ∙ stops _ _ _ (parentage-read (fileIn (now (a .file))) (a .q) (c .before .before .before .before .before .before .before .before .before .pair-of .ensures .0) (c .before .before .before .before .before .before .before .before .ldevid-request-of .ensures .0) (c .before .before .before .before .before .before .before .attested-by .ensures .1 (c .before .before .before .before .before .if4 .left) .0) (c .before .before .before .before .before .before .before .before .ldevid-request-of .ensures .1) (c .before .before .before .before .before .before .before .attested-by .ensures .1 (c .before .before .before .before .before .if4 .left) .1) ledger (c .before .parentage .ensures _ n ledger e)) (c .if6 .taken))
+    ∙ stops _ _ _ (parentage-read (fileIn (now (a .file))) (a .q) (c .before .before .before .before .before .before .before .before .before .before .before .form .ensures .1 (c .before .before .before .before .before .before .before .before .before .if3 .left) .named) (c .before .before .before .before .before .before .before .before .ldevid-request-of .ensures .0) (c .before .before .before .before .before .before .before .attested-by .ensures .1 (c .before .before .before .before .before .if4 .left) .0) (c .before .before .before .before .before .before .before .before .ldevid-request-of .ensures .1) (c .before .before .before .before .before .before .before .attested-by .ensures .1 (c .before .before .before .before .before .if4 .left) .1) ledger (c .before .parentage .ensures _ n ledger e)) (c .if6 .taken))
 
 passes-6 : (c : tie.Else6) → let a = c .before .before .before .before .before .before .before .before .before .before .before .before .before .before .before .before .before .before .args in (words : List ℕ) (n : ℕ) (ledger : List Entry) → Enters (now (a .tables)) words n ledger → chain (parentageTests (fileIn (now (a .file))) ledger (halfAt (fileIn (now (a .file))) (a .q)) (lakAt (fileIn (now (a .file))) (a .q)) (parentAt (fileIn (now (a .file))) (a .q))) ≡ 0
 passes-6 c words n ledger e =
     let a = c .before .before .before .before .before .before .before .before .before .before .before .before .before .before .before .before .before .before .args in
-    sym (parentage-read (fileIn (now (a .file))) (a .q) (c .before .before .before .before .before .before .before .before .before .pair-of .ensures .0) (c .before .before .before .before .before .before .before .before .ldevid-request-of .ensures .0) (c .before .before .before .before .before .before .before .attested-by .ensures .1 (c .before .before .before .before .before .if4 .left) .0) (c .before .before .before .before .before .before .before .before .ldevid-request-of .ensures .1) (c .before .before .before .before .before .before .before .attested-by .ensures .1 (c .before .before .before .before .before .if4 .left) .1) ledger (c .before .parentage .ensures words n ledger e)) ∙ c .if6 .left
+    sym (parentage-read (fileIn (now (a .file))) (a .q) (c .before .before .before .before .before .before .before .before .before .before .before .form .ensures .1 (c .before .before .before .before .before .before .before .before .before .if3 .left) .named) (c .before .before .before .before .before .before .before .before .ldevid-request-of .ensures .0) (c .before .before .before .before .before .before .before .attested-by .ensures .1 (c .before .before .before .before .before .if4 .left) .0) (c .before .before .before .before .before .before .before .before .ldevid-request-of .ensures .1) (c .before .before .before .before .before .before .before .attested-by .ensures .1 (c .before .before .before .before .before .if4 .left) .1) ledger (c .before .parentage .ensures words n ledger e)) ∙ c .if6 .left
 
 called-for-requires : tie.Need-called-for-requires
 called-for-requires c κs =
@@ -167,16 +166,16 @@ returns-7 c n ledger e =
     sym (issue-lak-chain (fileIn (now (a .file))) (stateOf (view (now (a .state))) ledger) (a .party) (a .q) (a .r)
     ∙ chain-passes 13 _ _ (passes-1 (c .before .before .before .before .before .before .before .before .before .before .before .before .before .before .before .before))
     ∙ chain-passes 14 _ _ (passes-2 (c .before .before .before .before .before .before .before .before .before .before .before .before .before .before))
-    ∙ form-goes _ _ (passes-3 (c .before .before .before .before .before .before .before .before .before .before .before .before)) _ _ refl
+    ∙ form-goes _ _ (passes-3 (c .before .before .before .before .before .before .before .before .before .before .before)) _ _ refl
     ∙ attest-goes _ _ _ (passes-4 (c .before .before .before .before .before .before .before))
     ∙ proof-goes _ _ (passes-5 (c .before .before .before .before .before)) _ _ refl
     ∙ parentage-goes _ _ _ _ _ _ (passes-6 (c .before .before) _ n ledger e)
-    ∙ stops _ _ _ (called-read (fileIn (now (a .file))) (a .q) (c .before .before .before .before .before .before .before .before .before .before .before .pair-of .ensures .0) (c .before .before .before .before .before .before .before .before .before .before .ldevid-request-of .ensures .0) (c .before .before .before .before .before .before .before .before .before .attested-by .ensures .1 (c .before .before .before .before .before .before .before .if4 .left) .0) (c .before .before .before .before .before .before .before .before .before .before .ldevid-request-of .ensures .1) (a .party) (a .r) (c .before .before .before .before .certificate-of .ensures .1) (c .before .called-for .ensures)) (c .if7 .taken))
+    ∙ stops _ _ _ (called-read (fileIn (now (a .file))) (a .q) (c .before .before .before .before .before .before .before .before .before .before .before .before .before .form .ensures .1 (c .before .before .before .before .before .before .before .before .before .before .before .if3 .left) .named) (c .before .before .before .before .before .before .before .before .before .before .ldevid-request-of .ensures .0) (c .before .before .before .before .before .before .before .before .before .attested-by .ensures .1 (c .before .before .before .before .before .before .before .if4 .left) .0) (c .before .before .before .before .before .before .before .before .before .before .ldevid-request-of .ensures .1) (a .party) (a .r) (c .before .before .before .before .certificate-of .ensures .1) (c .before .called-for .ensures)) (c .if7 .taken))
 
 passes-7 : (c : tie.Else7) → let a = c .before .before .before .before .before .before .before .before .before .before .before .before .before .before .before .before .before .before .before .before .args in chain (calledTests (fileIn (now (a .file))) (a .party) (a .r) (lakAt (fileIn (now (a .file))) (a .q)) (subject (fileIn (now (a .file))) (parentAt (fileIn (now (a .file))) (a .q)))) ≡ 0
 passes-7 c =
     let a = c .before .before .before .before .before .before .before .before .before .before .before .before .before .before .before .before .before .before .before .before .args in
-    sym (called-read (fileIn (now (a .file))) (a .q) (c .before .before .before .before .before .before .before .before .before .before .before .pair-of .ensures .0) (c .before .before .before .before .before .before .before .before .before .before .ldevid-request-of .ensures .0) (c .before .before .before .before .before .before .before .before .before .attested-by .ensures .1 (c .before .before .before .before .before .before .before .if4 .left) .0) (c .before .before .before .before .before .before .before .before .before .before .ldevid-request-of .ensures .1) (a .party) (a .r) (c .before .before .before .before .certificate-of .ensures .1) (c .before .called-for .ensures)) ∙ c .if7 .left
+    sym (called-read (fileIn (now (a .file))) (a .q) (c .before .before .before .before .before .before .before .before .before .before .before .before .before .form .ensures .1 (c .before .before .before .before .before .before .before .before .before .before .before .if3 .left) .named) (c .before .before .before .before .before .before .before .before .before .before .ldevid-request-of .ensures .0) (c .before .before .before .before .before .before .before .before .before .attested-by .ensures .1 (c .before .before .before .before .before .before .before .if4 .left) .0) (c .before .before .before .before .before .before .before .before .before .before .ldevid-request-of .ensures .1) (a .party) (a .r) (c .before .before .before .before .certificate-of .ensures .1) (c .before .called-for .ensures)) ∙ c .if7 .left
 
 entry-allowed-requires : tie.Need-entry-allowed-requires
 entry-allowed-requires c κs =
@@ -186,7 +185,7 @@ entry-allowed-requires c κs =
     let issued = kind-declared _ (p .3 .1) (λ e. omega arith) in
     let known = kind-declared _ (parent-is (p .0) w) (λ e. omega arith) in
     let m = parent-entered _ _ _ _ (p .4 .2) (passes-6 (c .before .before) _ _ _ (p .4 .2)) in
-    rw (c .before .before .before .before .before .before .before .before .before .before .ldevid-request-of .ensures .1, c .before .before .before .before .before .before .before .before .before .before .before .pair-of .ensures .0) (omega (arith, few, issued), omega (arith, few, known), m .0, m .1)
+    rw (c .before .before .before .before .before .before .before .before .before .before .ldevid-request-of .ensures .1, c .before .before .before .before .before .before .before .before .before .before .before .before .before .form .ensures .1 (c .before .before .before .before .before .before .before .before .before .before .before .if3 .left) .named) (omega (arith, few, issued), omega (arith, few, known), m .0, m .1)
 
 returns-8 : tie.Need-returns-8
 returns-8 c n ledger e =
@@ -194,12 +193,12 @@ returns-8 c n ledger e =
     sym (issue-lak-chain (fileIn (now (a .file))) (stateOf (view (now (a .state))) ledger) (a .party) (a .q) (a .r)
     ∙ chain-passes 13 _ _ (passes-1 (c .before .before .before .before .before .before .before .before .before .before .before .before .before .before .before .before .before))
     ∙ chain-passes 14 _ _ (passes-2 (c .before .before .before .before .before .before .before .before .before .before .before .before .before .before .before))
-    ∙ form-goes _ _ (passes-3 (c .before .before .before .before .before .before .before .before .before .before .before .before .before)) _ _ refl
+    ∙ form-goes _ _ (passes-3 (c .before .before .before .before .before .before .before .before .before .before .before .before)) _ _ refl
     ∙ attest-goes _ _ _ (passes-4 (c .before .before .before .before .before .before .before .before))
     ∙ proof-goes _ _ (passes-5 (c .before .before .before .before .before .before)) _ _ refl
     ∙ parentage-goes _ _ _ _ _ _ (passes-6 (c .before .before .before) _ n ledger e)
     ∙ called-goes _ _ _ _ _ _ refl (passes-7 (c .before))
-    ∙ sym (entry-read (fileIn (now (a .file))) (a .q) (c .before .before .before .before .before .before .before .before .before .before .before .before .pair-of .ensures .0) (c .before .before .before .before .before .before .before .before .before .before .before .ldevid-request-of .ensures .0) (c .before .before .before .before .before .before .before .before .before .before .attested-by .ensures .1 (c .before .before .before .before .before .before .before .before .if4 .left) .0) (c .before .before .before .before .before .before .before .before .before .before .before .ldevid-request-of .ensures .1) ledger (a .r) (c .entry-allowed .ensures n ledger e)))
+    ∙ sym (entry-read (fileIn (now (a .file))) (a .q) (c .before .before .before .before .before .before .before .before .before .before .before .before .before .before .form .ensures .1 (c .before .before .before .before .before .before .before .before .before .before .before .before .if3 .left) .named) (c .before .before .before .before .before .before .before .before .before .before .before .ldevid-request-of .ensures .0) (c .before .before .before .before .before .before .before .before .before .before .attested-by .ensures .1 (c .before .before .before .before .before .before .before .before .if4 .left) .0) (c .before .before .before .before .before .before .before .before .before .before .before .ldevid-request-of .ensures .1) ledger (a .r) (c .entry-allowed .ensures n ledger e)))
 
 pub decide-issue-lak-spec : {M : Type 1} → statement M
 decide-issue-lak-spec =
@@ -211,7 +210,6 @@ decide-issue-lak-spec =
     returns-2
     form-requires
     returns-3
-    pair-of-requires
     ldevid-request-of-requires
     attested-by-requires
     returns-4
