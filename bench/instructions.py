@@ -14,21 +14,28 @@ HERE = os.path.dirname(os.path.abspath(__file__))
 ROOT = os.path.join(HERE, '..')
 
 
-def count(program, file, times, call):
-    out = subprocess.run(['valgrind', '--tool=callgrind', '--callgrind-out-file=/dev/null', program, file, str(times), call],
-                         stdout=subprocess.DEVNULL, stderr=subprocess.PIPE, check=True)
+def collected(command, stdin=subprocess.DEVNULL):
+    """How many instructions a command takes, from its start to its end."""
+    out = subprocess.run(['valgrind', '--tool=callgrind', '--callgrind-out-file=/dev/null'] + command,
+                         stdin=stdin, stdout=subprocess.DEVNULL, stderr=subprocess.PIPE, check=True)
     return int(re.search(rb'Collected : (\d+)', out.stderr).group(1))
 
 
 def instructions(program, file, call):
-    return (count(program, file, 11, call) - count(program, file, 1, call)) // 10
+    return (collected([program, file, '11', call]) - collected([program, file, '1', call])) // 10
+
+
+def calls(where):
+    """calls.c with the static library, built in a folder."""
+    program = os.path.join(where, 'calls')
+    subprocess.run(['gcc', '-O2', '-I', os.path.join(ROOT, 'bind/c'), os.path.join(HERE, 'calls.c'),
+                    os.path.join(ROOT, 'target/staticlib/libbirdweekly.a'), '-o', program], check=True)
+    return program
 
 
 def main():
     with tempfile.TemporaryDirectory() as where:
-        program = os.path.join(where, 'calls')
-        subprocess.run(['gcc', '-O2', '-I', os.path.join(ROOT, 'bind/c'), os.path.join(HERE, 'calls.c'),
-                        os.path.join(ROOT, 'target/staticlib/libbirdweekly.a'), '-o', program], check=True)
+        program = calls(where)
         files = os.path.join(where, 'files')
         os.mkdir(files)
         subprocess.run([os.path.join(HERE, 'target/release/bench'), '--write', files], check=True)

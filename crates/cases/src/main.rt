@@ -18,6 +18,13 @@ fn is_cut(name: &[u8]) -> bool {
     name[3] == b'_'
 }
 
+// Prints a number.
+fn print_number(x: u64) {
+    let mut digits = [0u8; decimal::DIGITS];
+    let n = decimal::decimal_into(&mut digits, 0, x);
+    io::write_all(STDOUT_FILENO, &digits[..n]);
+}
+
 // Lists a whole file: a line with its name, then its listing.
 fn list_whole(name: &[u8], file: &[u8]) {
     io::write_all(STDOUT_FILENO, b"# ");
@@ -31,7 +38,7 @@ fn list_part(name: &[u8], part: &[u8]) {
     io::write_all(STDOUT_FILENO, b"# ");
     io::write_all(STDOUT_FILENO, name);
     io::write_all(STDOUT_FILENO, b" ");
-    io::print_decimal(STDOUT_FILENO, part.len() as u64);
+    print_number(part.len() as u64);
     io::write_all(STDOUT_FILENO, b"\n");
     lines::list(part);
 }

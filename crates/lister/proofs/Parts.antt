@@ -12,10 +12,10 @@ use lib.ListN.{length, getD, take}
 use lib.Seq.{take-suc, length-take-le}
 use Rattle.rules.specs.declared.Entry.{Entry}
 use Rattle.rules.specs.Listing.{line, refusalLines, entryLines}
-use Rattle.lister.specs.Text.{Written}
+use Rattle.decimal.specs.Text.{Written}
 use Rattle.entries.specs.Words.{entriesIn}
 use Rattle.lister.specs.Parts.{outcomeLine, entryLine}
-use Rattle.lister.proofs.Writing.{written-none, written-then}
+use Rattle.decimal.proofs.Writing.{written-none, written-then}
 
 refusals-append : (xs ys : List ℕ) (i : ℕ) → refusalLines i (xs ++ ys) ≡ refusalLines i xs ++ refusalLines (i + length xs) ys
 unfolding refusalLines

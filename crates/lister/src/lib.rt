@@ -1,101 +1,53 @@
 // The listing as bytes.
 ghost use mathlib.Core.Path.{_≡_};
 ghost use mathlib.Core.List.{[], _∷_};
-ghost use Prim.Native.Nat.{_+_, _*_, _^_, _<_, _≤_};
+ghost use Prim.Native.Nat.{_+_, _*_, _<_, _≤_};
 ghost use lib.ListN.{length, take};
 ghost use Rattle.rules.specs.Limits.{commandLimit, termLimit};
 ghost use Rattle.rules.specs.Listing.{decimal, line, refusalLines, entryLines};
-ghost use Rattle.lister.specs.Text.{digitLimit, numberRoom, lineRoom, refusalBytes, entryBytes, totalBytes, listingBytes, Written, Listed, Formed};
+ghost use Rattle.decimal.specs.Text.{Room, Written};
+ghost use Rattle.lister.specs.Text.{refusalBytes, entryBytes, totalBytes, faultBytes, listingBytes, Listed};
 ghost use Rattle.entries.specs.Words.{entriesIn};
 ghost use Rattle.lister.specs.Parts.{outcomeLine, entryLine, runLines, Listable};
 
 // Bytes that are enough for the listing of every file.
 pub const LISTING_BYTES: usize = rules::COMMAND_LIMIT * 11 + rules::TERM_LIMIT * 20 + 29;
 
-// Digits of a number of 64 bits at most.
-const DIGITS: usize = 20;
-
-// One byte, where there is room for it.
-fn byte_into(out: &mut [u8], at: usize, b: u8) -> usize
-    requires { ⌜ at + 1 < 2 ^ 64 ⌝ }
-    ensures { λ r. ⌜ Written (now (out .entry)) at (b ∷ []) (now (out .exit)) r ⌝ }
-{
-    if at >= out.len() {
-        return at + 1;
-    }
-    out[at] = b;
-    at + 1
-}
-
-// The decimal digits of a number, at the end of a buffer; answers where they start.
-fn form_digits(buffer: &mut [u8; DIGITS], x: u64) -> usize
-    requires { ⌜ length (now buffer) ≡ digitLimit ⌝ }
-    ensures { λ r. ⌜ Formed x (now (buffer .exit)) r ⌝ }
-{
-    let mut left = x;
-    let mut from: usize = 19;
-    while left >= 10 {
-        buffer[from] = 48 + (left % 10) as u8;
-        left /= 10;
-        from -= 1;
-    }
-    buffer[from] = 48 + left as u8;
-    from
-}
-
-// The decimal digits of a number.
-pub fn decimal_into(out: &mut [u8], at: usize, x: u64) -> usize
-    requires { ⌜ at + digitLimit < 2 ^ 64 ⌝ }
-    ensures { λ r. ⌜ Written (now (out .entry)) at (decimal x) (now (out .exit)) r ⌝ }
-{
-    let mut buffer = [0u8; DIGITS];
-    let mut i = form_digits(&mut buffer, x);
-    let mut next = at;
-    while i < DIGITS {
-        next = byte_into(out, next, buffer[i]);
-        i += 1;
-    }
-    next
-}
-
 // A number with a space in front.
 fn number_into(out: &mut [u8], at: usize, x: u64) -> usize
-    requires { ⌜ at + numberRoom < 2 ^ 64 ⌝ }
+    requires { ⌜ Room (now out) at (32 ∷ decimal x) ⌝ }
     ensures { λ r. ⌜ Written (now (out .entry)) at (32 ∷ decimal x) (now (out .exit)) r ⌝ }
-    ensures { λ r. ⌜ r ≤ at + numberRoom ⌝ }
 {
-    let next = byte_into(out, at, b' ');
-    decimal_into(out, next, x)
+    let next = decimal::byte_into(out, at, b' ');
+    decimal::decimal_into(out, next, x)
 }
 
 // A line: its letter and two numbers.
 fn line_of_two(out: &mut [u8], at: usize, letter: u8, a: u64, b: u64) -> usize
-    requires { ⌜ at + lineRoom < 2 ^ 64 ⌝ }
+    requires { ⌜ Room (now out) at (line letter (a ∷ b ∷ [])) ⌝ }
     ensures { λ r. ⌜ Written (now (out .entry)) at (line letter (a ∷ b ∷ [])) (now (out .exit)) r ⌝ }
-    ensures { λ r. ⌜ r ≤ at + lineRoom ⌝ }
 {
-    let first = byte_into(out, at, letter);
+    let first = decimal::byte_into(out, at, letter);
     let second = number_into(out, first, a);
     let end = number_into(out, second, b);
-    byte_into(out, end, b'\n')
+    decimal::byte_into(out, end, b'\n')
 }
 
 // A line: its letter and three numbers.
 fn line_of_three(out: &mut [u8], at: usize, letter: u8, a: u64, b: u64, c: u64) -> usize
-    requires { ⌜ at + lineRoom < 2 ^ 64 ⌝ }
+    requires { ⌜ Room (now out) at (line letter (a ∷ b ∷ c ∷ [])) ⌝ }
     ensures { λ r. ⌜ Written (now (out .entry)) at (line letter (a ∷ b ∷ c ∷ [])) (now (out .exit)) r ⌝ }
-    ensures { λ r. ⌜ r ≤ at + lineRoom ⌝ }
 {
-    let first = byte_into(out, at, letter);
+    let first = decimal::byte_into(out, at, letter);
     let second = number_into(out, first, a);
     let third = number_into(out, second, b);
     let end = number_into(out, third, c);
-    byte_into(out, end, b'\n')
+    decimal::byte_into(out, end, b'\n')
 }
 
 // "R ordinal number".
 fn refusal_line(out: &mut [u8], at: usize, ordinal: usize, number: u8) -> usize
-    requires { ⌜ (ordinal < commandLimit) × (at + lineRoom < 2 ^ 64) ⌝ }
+    requires { ⌜ (ordinal < commandLimit) × (at + refusalBytes ≤ length (now out)) ⌝ }
     ensures { λ r. ⌜ Written (now (out .entry)) at (line 0x52 (ordinal ∷ number ∷ [])) (now (out .exit)) r ⌝ }
     ensures { λ r. ⌜ r ≤ at + refusalBytes ⌝ }
 {
@@ -104,7 +56,7 @@ fn refusal_line(out: &mut [u8], at: usize, ordinal: usize, number: u8) -> usize
 
 // "I certificate parent depth".
 fn entry_line(out: &mut [u8], at: usize, certificate: u16, parent: u16, depth: u16) -> usize
-    requires { ⌜ at + lineRoom < 2 ^ 64 ⌝ }
+    requires { ⌜ at + entryBytes ≤ length (now out) ⌝ }
     ensures { λ r. ⌜ Written (now (out .entry)) at (line 0x49 (certificate ∷ parent ∷ depth ∷ [])) (now (out .exit)) r ⌝ }
     ensures { λ r. ⌜ r ≤ at + entryBytes ⌝ }
 {
@@ -120,7 +72,7 @@ fn entry_line(out: &mut [u8], at: usize, certificate: u16, parent: u16, depth: u
 
 // "T accepted refused issued".
 fn total_line(out: &mut [u8], at: usize, accepted: u32, refused: u32, issued: usize) -> usize
-    requires { ⌜ (issued ≤ termLimit) × (at + lineRoom < 2 ^ 64) ⌝ }
+    requires { ⌜ (issued ≤ termLimit) × (at + totalBytes ≤ length (now out)) ⌝ }
     ensures { λ r. ⌜ Written (now (out .entry)) at (line 0x54 (accepted ∷ refused ∷ issued ∷ [])) (now (out .exit)) r ⌝ }
     ensures { λ r. ⌜ r ≤ at + totalBytes ⌝ }
 {
@@ -136,16 +88,16 @@ fn total_line(out: &mut [u8], at: usize, accepted: u32, refused: u32, issued: us
 
 // "F number place".
 fn fault_line(out: &mut [u8], at: usize, number: u32, place: u32) -> usize
-    requires { ⌜ at + lineRoom < 2 ^ 64 ⌝ }
+    requires { ⌜ at + faultBytes ≤ length (now out) ⌝ }
     ensures { λ r. ⌜ Written (now (out .entry)) at (line 0x46 (number ∷ place ∷ [])) (now (out .exit)) r ⌝ }
-    ensures { λ r. ⌜ r ≤ at + lineRoom ⌝ }
+    ensures { λ r. ⌜ r ≤ at + faultBytes ⌝ }
 {
     line_of_two(out, at, b'F', number as u64, place as u64)
 }
 
 // The line of a command's outcome, if it was refused.
 fn outcome_line(out: &mut [u8], at: usize, ordinal: usize, number: u8) -> usize
-    requires { ⌜ (ordinal < commandLimit) × (at + lineRoom < 2 ^ 64) ⌝ }
+    requires { ⌜ (ordinal < commandLimit) × (at + refusalBytes ≤ length (now out)) ⌝ }
     ensures { λ r. ⌜ Written (now (out .entry)) at (outcomeLine ordinal number) (now (out .exit)) r ⌝ }
     ensures { λ r. ⌜ r ≤ at + refusalBytes ⌝ }
 {
@@ -157,7 +109,7 @@ fn outcome_line(out: &mut [u8], at: usize, ordinal: usize, number: u8) -> usize
 
 // The lines of the refused among the first n commands.
 pub fn refusals_into(out: &mut [u8], at: usize, outcomes: &[u8], n: usize) -> usize
-    requires { ⌜ (n ≤ length (now outcomes)) × (n ≤ commandLimit) × (at + lineRoom * n < 2 ^ 64) ⌝ }
+    requires { ⌜ (n ≤ length (now outcomes)) × (n ≤ commandLimit) × (at + refusalBytes * n ≤ length (now out)) ⌝ }
     ensures { λ r. ⌜ Written (now (out .entry)) at (refusalLines 0 (take n (now (outcomes .entry)))) (now (out .exit)) r ⌝ }
     ensures { λ r. ⌜ r ≤ at + refusalBytes * n ⌝ }
 {
@@ -172,7 +124,7 @@ pub fn refusals_into(out: &mut [u8], at: usize, outcomes: &[u8], n: usize) -> us
 
 // The line of the entry at a place of the ledger.
 fn ledger_line(out: &mut [u8], at: usize, ledger: &[u16; entries::WORDS], i: usize) -> usize
-    requires { ⌜ (i < termLimit) × (at + lineRoom < 2 ^ 64) ⌝ }
+    requires { ⌜ (i < termLimit) × (at + entryBytes ≤ length (now out)) ⌝ }
     ensures { λ r. ⌜ Written (now (out .entry)) at (entryLine (now (ledger .entry)) i) (now (out .exit)) r ⌝ }
     ensures { λ r. ⌜ r ≤ at + entryBytes ⌝ }
 {
@@ -189,7 +141,7 @@ pub fn entries_into(
     ledger: &[u16; entries::WORDS],
     issued: usize,
 ) -> usize
-    requires { ⌜ (issued ≤ termLimit) × (at + lineRoom * issued < 2 ^ 64) ⌝ }
+    requires { ⌜ (issued ≤ termLimit) × (at + entryBytes * issued ≤ length (now out)) ⌝ }
     ensures { λ r. ⌜ Written (now (out .entry)) at (entryLines (entriesIn (now (ledger .entry)) issued)) (now (out .exit)) r ⌝ }
     ensures { λ r. ⌜ r ≤ at + entryBytes * issued ⌝ }
 {

@@ -8,6 +8,7 @@ use lib.ListN.{length}
 use borrow.Author.Tests.{leb-true, ltb-true, lt-ltb, eq-eqb}
 use Rattle.rules.specs.Record.{sectionOf, fieldsOf, termSection, commandSection, bodyLength, width, widths}
 use Rattle.rules.specs.Term.{pairKind}
+use Rattle.theorems.proofs.LastArm.{NoneFrom, last-arm}
 use Rattle.records.proofs.EachKind.{values, each-kind, each-number, section-past}
 
 -- sections are at most that of commands
@@ -57,24 +58,8 @@ pub term-kinds : (k : ℕ) → sectionOf k ≡ termSection → (0x10 ≤ k) × (
 unfolding sectionOf
 term-kinds k h = (leb-true 0x10 k (term-test (leb 0x10) refl k h), leb-true k 0x1A (term-test (λ k. leb k 0x1A) refl k h))
 
--- none of the n numbers from m on
-abbrev pub NoneFrom : ℕ → ℕ → ℕ → Type 0
-NoneFrom k m zero = Unit
-NoneFrom k m (suc n) = NoneFrom k m n × (k ≡ m + n → ⊥)
-
-past-none : (k m n : ℕ) → NoneFrom k m n → m ≤ k → m + n ≤ k
-past-none k m zero r h = omega arith
-past-none k m (suc n) r h =
-    let l : m + n ≤ k = past-none k m n (r .0) h in
-    let d : k ≡ m + n → ⊥ = r .1 in
-    omega arith
-
--- the last of a run of kinds
-pub last-kind : (k m n : ℕ) → NoneFrom k m n → m ≤ k → k ≤ m + n → k ≡ m + n
-last-kind k m n r l h = omega (arith, past-none k m n r l)
-
 pub last-term : (k : ℕ) → sectionOf k ≡ termSection → NoneFrom k 0x10 10 → k ≡ pairKind
-last-term k h r = last-kind k 0x10 10 r (term-kinds k h .0) (term-kinds k h .1)
+last-term k h r = last-arm k 0x10 10 r (term-kinds k h .0) (term-kinds k h .1)
 
 -- a kind of no section has no body
 pub no-section : (k : ℕ) → sectionOf k ≡ 0 → bodyLength k ≡ 0

@@ -23,3 +23,5 @@ pub mod Pieces
 pub mod Placed
 pub mod Rows
 pub mod Written
+pub mod Decimal
+pub mod LastArm

@@ -1,2 +1,3 @@
 pub mod Residency
 pub mod Written
+pub mod Decimal

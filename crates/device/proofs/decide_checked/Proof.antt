@@ -3,7 +3,7 @@ use Prim.Native.Nat.{_+_}
 use native.Mathlib.Omega.{arith}
 use borrow.Author.Needs.{needs}
 use Rattle.rules.specs.File.{checkHash, checkSignature, checkCertificate, checkAttributes}
-use Rattle.records.proofs.Lengths.{last-kind}
+use Rattle.theorems.proofs.LastArm.{last-arm}
 use Rattle.lookup.proofs.Fields.{check-hash-there, check-signature-there, check-certificate-there, check-attributes-there, four-bytes, two-read, known-as}
 use Rattle.device.proofs.Read.{five-bytes, six-bytes, decided-as}
 use Rattle.device.proofs.decide_checked.Statement.{statement}
@@ -55,7 +55,7 @@ decide-check-signature-requires : tie.Need-decide-check-signature-requires
 decide-check-signature-requires c κs = let p = c .before .before .before .before .before .before .before .pre in (p .0, known-as (p .2) (two-read checkSignature (check-signature-there _ _ (p .3 ∙ c .match .keys2)) (c .before .before .before .word-at .ensures) (c .before .word-at2 .ensures)), p .1)
 
 decide-check-certificate-requires : tie.Need-decide-check-certificate-requires
-decide-check-certificate-requires c κs = let p = c .before .before .before .before .before .before .before .pre in (p .0, known-as (p .2) (two-read checkCertificate (check-certificate-there _ _ (p .3 ∙ last-kind _ 0x38 2 (c .match .rest) (p .4) (omega arith))) (c .before .before .before .word-at .ensures) (c .before .word-at2 .ensures)), p .1)
+decide-check-certificate-requires c κs = let p = c .before .before .before .before .before .before .before .pre in (p .0, known-as (p .2) (two-read checkCertificate (check-certificate-there _ _ (p .3 ∙ last-arm _ 0x38 2 (c .match .rest) (p .4) (omega arith))) (c .before .before .before .word-at .ensures) (c .before .word-at2 .ensures)), p .1)
 
 returns-2 : tie.Need-returns-2
 returns-2 c = let p = c .before .before .before .before .before .before .before .before .pre in decided-as (p .2) (p .0) (two-read checkHash (check-hash-there _ _ (p .3 ∙ c .before .match .keys1)) (c .before .before .before .before .word-at .ensures) (c .before .before .word-at2 .ensures)) (c .decide-check-hash .ensures)
@@ -64,7 +64,7 @@ returns-3 : tie.Need-returns-3
 returns-3 c = let p = c .before .before .before .before .before .before .before .before .pre in decided-as (p .2) (p .0) (two-read checkSignature (check-signature-there _ _ (p .3 ∙ c .before .match .keys2)) (c .before .before .before .before .word-at .ensures) (c .before .before .word-at2 .ensures)) (c .decide-check-signature .ensures)
 
 returns-4 : tie.Need-returns-4
-returns-4 c = let p = c .before .before .before .before .before .before .before .before .pre in decided-as (p .2) (p .0) (two-read checkCertificate (check-certificate-there _ _ (p .3 ∙ last-kind _ 0x38 2 (c .before .match .rest) (p .4) (omega arith))) (c .before .before .before .before .word-at .ensures) (c .before .before .word-at2 .ensures)) (c .decide-check-certificate .ensures)
+returns-4 c = let p = c .before .before .before .before .before .before .before .before .pre in decided-as (p .2) (p .0) (two-read checkCertificate (check-certificate-there _ _ (p .3 ∙ last-arm _ 0x38 2 (c .before .match .rest) (p .4) (omega arith))) (c .before .before .before .before .word-at .ensures) (c .before .before .word-at2 .ensures)) (c .decide-check-certificate .ensures)
 
 pub decide-checked-spec : {M : Type 1} → statement M
 decide-checked-spec =

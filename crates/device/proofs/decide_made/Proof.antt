@@ -3,7 +3,7 @@ use Prim.Native.Nat.{_+_}
 use native.Mathlib.Omega.{arith}
 use borrow.Author.Needs.{needs}
 use Rattle.rules.specs.File.{hash, sign, certify, makeCredential, activateCredential, makeIdevidRequest, makeLdevidRequest, makePair}
-use Rattle.records.proofs.Lengths.{last-kind}
+use Rattle.theorems.proofs.LastArm.{last-arm}
 use Rattle.lookup.proofs.Fields.{hash-there, sign-there, certify-there, make-credential-there, activate-there, idevid-request-there, ldevid-request-there, pair-there, four-bytes, one-read, known-as}
 use Rattle.device.proofs.Read.{decided-as}
 use Rattle.device.proofs.decide_made.Statement.{statement}
@@ -49,7 +49,7 @@ decide-ldevid-request-requires : tie.Need-decide-ldevid-request-requires
 decide-ldevid-request-requires c κs = let p = c .before .before .before .before .before .pre in (p .0, known-as (p .2) (one-read makeLdevidRequest (ldevid-request-there _ _ (p .3 ∙ c .match .keys7)) (c .before .word-at .ensures)))
 
 decide-pair-requires : tie.Need-decide-pair-requires
-decide-pair-requires c κs = let p = c .before .before .before .before .before .pre in (p .0, known-as (p .2) (one-read makePair (pair-there _ _ (p .3 ∙ last-kind _ 0x30 7 (c .match .rest) (p .4) (p .5))) (c .before .word-at .ensures)))
+decide-pair-requires c κs = let p = c .before .before .before .before .before .pre in (p .0, known-as (p .2) (one-read makePair (pair-there _ _ (p .3 ∙ last-arm _ 0x30 7 (c .match .rest) (p .4) (p .5))) (c .before .word-at .ensures)))
 
 returns : tie.Need-returns
 returns c = let p = c .before .before .before .before .before .before .pre in decided-as (p .2) (p .0) (one-read hash (hash-there _ _ (p .3 ∙ c .before .match .keys1)) (c .before .before .word-at .ensures)) (c .decide-hash .ensures)
@@ -73,7 +73,7 @@ returns-7 : tie.Need-returns-7
 returns-7 c = let p = c .before .before .before .before .before .before .pre in decided-as (p .2) (p .0) (one-read makeLdevidRequest (ldevid-request-there _ _ (p .3 ∙ c .before .match .keys7)) (c .before .before .word-at .ensures)) (c .decide-ldevid-request .ensures)
 
 returns-8 : tie.Need-returns-8
-returns-8 c = let p = c .before .before .before .before .before .before .pre in decided-as (p .2) (p .0) (one-read makePair (pair-there _ _ (p .3 ∙ last-kind _ 0x30 7 (c .before .match .rest) (p .4) (p .5))) (c .before .before .word-at .ensures)) (c .decide-pair .ensures)
+returns-8 c = let p = c .before .before .before .before .before .before .pre in decided-as (p .2) (p .0) (one-read makePair (pair-there _ _ (p .3 ∙ last-arm _ 0x30 7 (c .before .match .rest) (p .4) (p .5))) (c .before .before .word-at .ensures)) (c .decide-pair .ensures)
 
 pub decide-made-spec : {M : Type 1} → statement M
 decide-made-spec =

@@ -4,9 +4,10 @@ use native.Mathlib.Omega.{arith}
 use borrow.Author.Needs.{needs}
 use lib.ListN.{length}
 use Rattle.rules.specs.Listing.{entryLines}
-use Rattle.lister.specs.Text.{entryBytes, Written}
+use Rattle.decimal.specs.Text.{Written}
+use Rattle.lister.specs.Text.{entryBytes}
 use Rattle.entries.specs.Words.{entriesIn}
-use Rattle.lister.proofs.Writing.{written-length}
+use Rattle.decimal.proofs.Writing.{written-length}
 use Rattle.lister.proofs.Parts.{entries-start, entries-next}
 use Rattle.lister.proofs.entries_into.Statement.{statement}
 use Rattle.lister.proofs.entries_into.Tie as tie

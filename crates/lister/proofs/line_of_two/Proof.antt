@@ -1,21 +1,21 @@
-use native.Mathlib.Omega.{arith}
 use borrow.Author.Needs.{needs}
 use Rattle.rules.specs.Listing.{line, numbers}
-use Rattle.lister.proofs.Writing.{written-then}
+use Rattle.decimal.proofs.Writing.{written-then}
+use Rattle.lister.proofs.Room.{letter-room, number-room, end-room, letter-then, number-then}
 use Rattle.lister.proofs.line_of_two.Statement.{statement}
 use Rattle.lister.proofs.line_of_two.Tie as tie
 
 byte-into-requires : tie.Need-byte-into-requires
-byte-into-requires c κs = search needs
+byte-into-requires c κs = letter-room _ _ (c .before .before .pre)
 
 number-into-requires : tie.Need-number-into-requires
-number-into-requires c κs = search needs
+number-into-requires c κs = number-room _ _ (letter-then _ _ (c .before .before .before .before .before .before .pre) (c .before .before .before .byte-into .ensures))
 
 number-into-requires-2 : tie.Need-number-into-requires-2
-number-into-requires-2 c κs = search needs
+number-into-requires-2 c κs = number-room _ _ (number-then _ _ (letter-then _ _ (c .before .before .before .before .before .before .before .before .before .before .pre) (c .before .before .before .before .before .before .before .byte-into .ensures)) (c .before .before .before .number-into .ensures))
 
 byte-into-requires-2 : tie.Need-byte-into-requires-2
-byte-into-requires-2 c κs = search needs
+byte-into-requires-2 c κs = end-room (number-then _ _ (number-then _ _ (letter-then _ _ (c .before .before .before .before .before .before .before .before .before .before .before .before .before .before .pre) (c .before .before .before .before .before .before .before .before .before .before .before .byte-into .ensures)) (c .before .before .before .before .before .before .before .number-into .ensures)) (c .before .before .before .number-into2 .ensures))
 
 same-length : tie.Need-same-length
 same-length c = search needs
@@ -27,7 +27,7 @@ returns c =
     let a = c .before .before .before .before .before .before .before .before .before .before .number-into .ensures in
     let b = c .before .before .before .before .before .before .number-into2 .ensures in
     let end = c .before .before .byte-into2 .ensures in
-    (written-then letter (written-then (a .0) (written-then (b .0) end)), omega (arith, letter .place, a .1, b .1, end .place))
+    written-then letter (written-then a (written-then b end))
 
 pub line-of-two-spec : {M : Type 1} → statement M
 line-of-two-spec =

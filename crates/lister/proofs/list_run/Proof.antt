@@ -1,6 +1,6 @@
 use native.Mathlib.Omega.{arith}
 use borrow.Author.Needs.{needs}
-use Rattle.lister.proofs.Writing.{written-then}
+use Rattle.decimal.proofs.Writing.{written-then}
 use Rattle.lister.proofs.Room.{listed}
 use Rattle.lister.proofs.list_run.Statement.{statement}
 use Rattle.lister.proofs.list_run.Tie as tie

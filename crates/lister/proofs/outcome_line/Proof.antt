@@ -2,7 +2,7 @@ use native.Mathlib.Omega.{arith}
 use borrow.Author.Needs.{needs}
 use borrow.Author.Tests.{eq-eqb, ne-eqb}
 use Rattle.lister.specs.Parts.{outcomeLine}
-use Rattle.lister.proofs.Writing.{written-none}
+use Rattle.decimal.proofs.Writing.{written-none}
 use Rattle.lister.proofs.outcome_line.Statement.{statement}
 use Rattle.lister.proofs.outcome_line.Tie as tie
 

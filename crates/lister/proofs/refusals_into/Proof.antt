@@ -4,8 +4,9 @@ use native.Mathlib.Omega.{arith}
 use borrow.Author.Needs.{needs}
 use lib.ListN.{length, take}
 use Rattle.rules.specs.Listing.{refusalLines}
-use Rattle.lister.specs.Text.{refusalBytes, Written}
-use Rattle.lister.proofs.Writing.{written-length}
+use Rattle.decimal.specs.Text.{Written}
+use Rattle.lister.specs.Text.{refusalBytes}
+use Rattle.decimal.proofs.Writing.{written-length}
 use Rattle.lister.proofs.Parts.{refusals-start, refusals-next}
 use Rattle.lister.proofs.refusals_into.Statement.{statement}
 use Rattle.lister.proofs.refusals_into.Tie as tie

@@ -1,6 +1,6 @@
 use mathlib.Core.Path.{sym, ap}
 use Rattle.rules.specs.Record.{sectionOf, fieldsOf, bodyLength, width, widths}
-use Rattle.records.proofs.Lengths.{last-kind}
+use Rattle.theorems.proofs.LastArm.{last-arm}
 use Rattle.records.proofs.command_length.Statement.{statement}
 use Rattle.records.proofs.command_length.Tie as tie
 
@@ -70,7 +70,7 @@ returns-16 c = sym (ap bodyLength (c .match .keys16))
 
 returns-17 : tie.Need-returns-17
 unfolding bodyLength fieldsOf sectionOf widths width
-returns-17 c = sym (ap bodyLength (last-kind (c .before .args .kind) 0x30 16 (c .match .rest) (c .before .pre .0) (c .before .pre .1)))
+returns-17 c = sym (ap bodyLength (last-arm (c .before .args .kind) 0x30 16 (c .match .rest) (c .before .pre .0) (c .before .pre .1)))
 
 pub command-length-spec : {M : Type 1} → statement M
 command-length-spec =

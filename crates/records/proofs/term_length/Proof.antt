@@ -1,6 +1,6 @@
 use mathlib.Core.Path.{sym, ap}
 use Rattle.rules.specs.Record.{sectionOf, fieldsOf, bodyLength, width, widths}
-use Rattle.records.proofs.Lengths.{last-kind}
+use Rattle.theorems.proofs.LastArm.{last-arm}
 use Rattle.records.proofs.term_length.Statement.{statement}
 use Rattle.records.proofs.term_length.Tie as tie
 
@@ -46,7 +46,7 @@ returns-10 c = sym (ap bodyLength (c .match .keys10))
 
 returns-11 : tie.Need-returns-11
 unfolding bodyLength fieldsOf sectionOf widths width
-returns-11 c = sym (ap bodyLength (last-kind (c .before .args .kind) 0x10 10 (c .match .rest) (c .before .pre .0) (c .before .pre .1)))
+returns-11 c = sym (ap bodyLength (last-arm (c .before .args .kind) 0x10 10 (c .match .rest) (c .before .pre .0) (c .before .pre .1)))
 
 pub term-length-spec : {M : Type 1} → statement M
 term-length-spec =
