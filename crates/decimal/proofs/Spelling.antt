@@ -13,9 +13,9 @@ use lib.ListN.{length, set}
 use lib.Seq.{sets}
 use Rattle.rules.specs.Listing.{decimal}
 use Rattle.theorems.specs.Residency.{All}
-use Rattle.theorems.specs.Decimal.{Digit, readBack, DigitsOf}
+use Rattle.theorems.specs.Decimal.{digitLimit, Digit, readBack}
 use Rattle.theorems.proofs.Decimal.{decimal-laws, numeral-most, numeral-least, read-below, first-taken}
-use Rattle.decimal.specs.Text.{digitLimit, Room, Written, TakenAway}
+use Rattle.decimal.specs.Text.{Room, Written, TakenAway}
 use Rattle.decimal.proofs.Writing.{written-length}
 
 -- at most k digits for a number below 10 ^ k

@@ -5,10 +5,6 @@ use Prim.Native.Nat.{ℕ, _+_, _*_, _<_, _≤_}
 use lib.ListN.{length}
 use lib.Seq.{sets}
 
--- digits of a number of 64 bits at most
-abbrev pub digitLimit : ℕ
-digitLimit = 20
-
 -- A text has room from a place on.
 pub record Room (out : List ℕ) (at : ℕ) (text : List ℕ) : Type 0 where
   pub fits : at + length text ≤ length out

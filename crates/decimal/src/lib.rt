@@ -4,7 +4,8 @@ ghost use mathlib.Core.List.{[], _∷_};
 ghost use Prim.Native.Nat.{_+_, _*_, _^_, _<_};
 ghost use lib.ListN.{length};
 ghost use Rattle.rules.specs.Listing.{decimal};
-ghost use Rattle.decimal.specs.Text.{digitLimit, Room, Written, TakenAway};
+ghost use Rattle.theorems.specs.Decimal.{digitLimit};
+ghost use Rattle.decimal.specs.Text.{Room, Written, TakenAway};
 
 // Digits of a number of 64 bits at most.
 pub const DIGITS: usize = 20;
@@ -92,7 +93,7 @@ pub fn decimal_into(out: &mut [u8], at: usize, x: u64) -> usize
         n -= 1;
         let taken = take_away(left, power_of_ten(n));
         left = taken.left;
-        next = byte_into(out, next, 48 + taken.times);
+        next = byte_into(out, next, b'0' + taken.times);
     }
-    byte_into(out, next, 48 + left as u8)
+    byte_into(out, next, b'0' + left as u8)
 }

@@ -1,6 +1,6 @@
 -- The laws of decimal digits, and that they determine them.
 --     decimal-laws     what the listing prints for a number of 64 bits
---     determined     digits without a 0 in front by the number that they give
+--     determined, decimal-only     digits without a 0 in front by the number that they give
 --     read-below, numeral-most, numeral-least     how large a number is, and how many digits it has
 --     first-taken     the first digit by how often its power of ten can be taken away
 -- Assumes nothing.
@@ -15,7 +15,7 @@ use lib.ListN.{length}
 use borrow.Author.Tests.{ltb-true, ltb-false, lt-ltb}
 use Rattle.rules.specs.Listing.{digits, decimal}
 use Rattle.theorems.specs.Residency.{All}
-use Rattle.theorems.specs.Decimal.{Digit, readBack, NoZeroInFront, Numeral, DigitsOf, DecimalLaws, DigitsDetermined}
+use Rattle.theorems.specs.Decimal.{zeroDigit, Digit, readBack, NoZeroInFront, Numeral, DigitsOf, DecimalLaws, DigitsDetermined, DecimalOnly}
 
 -- digits give less than one more digit would
 pub read-below : (bs : List ℕ) → All Digit bs → readBack bs < 10 ^ length bs
@@ -24,7 +24,7 @@ read-below [] h = omega arith
 read-below (b ∷ bs) h =
     let r = read-below bs (h .1) in
     let p = pow-suc 10 (length bs) in
-    let m = mul-le-mul-right {m = b - 48} {n = 9} (10 ^ length bs) (omega (arith, h .0)) in
+    let m = mul-le-mul-right {m = b - zeroDigit} {n = 9} (10 ^ length bs) (omega (arith, h .0)) in
     omega arith
 
 -- two digits and more, with no 0 in front, give at least the power of ten of the first
@@ -34,8 +34,8 @@ read-from [] n h = absurd (omega arith)
 read-from (b ∷ []) n h = absurd (omega arith)
 read-from (b ∷ c ∷ bs) n h =
     let d = n .each .0 in
-    let e : b ≡ 48 → ⊥ = λ z. absurd (omega (arith, ap length (n .front z))) in
-    let m = mul-le-mul-right {m = 1} {n = b - 48} (10 ^ length (c ∷ bs)) (omega arith) in
+    let e : b ≡ zeroDigit → ⊥ = λ z. absurd (omega (arith, ap length (n .front z))) in
+    let m = mul-le-mul-right {m = 1} {n = b - zeroDigit} (10 ^ length (c ∷ bs)) (omega arith) in
     let o = one-mul (10 ^ length (c ∷ bs)) in
     let l : length (b ∷ c ∷ bs) - 1 ≡ length (c ∷ bs) = omega arith in
     omega (arith, ap (λ (n : ℕ). 10 ^ n) l)
@@ -67,36 +67,36 @@ taken-once p a b r s h k e =
 -- the first digit is how often its power of ten can be taken away, and the others give what is left
 pub first-taken :
     (b : ℕ) (bs : List ℕ) (times left : ℕ) → All Digit (b ∷ bs)
-    → readBack (b ∷ bs) ≡ times * 10 ^ length bs + left → left < 10 ^ length bs → (b ≡ 48 + times) × (readBack bs ≡ left)
+    → readBack (b ∷ bs) ≡ times * 10 ^ length bs + left → left < 10 ^ length bs → (b ≡ zeroDigit + times) × (readBack bs ≡ left)
 unfolding readBack
 first-taken b bs times left h e k =
     let d = h .0 in
-    let t = taken-once (10 ^ length bs) (b - 48) times (readBack bs) left (read-below bs (h .1)) k e in
+    let t = taken-once (10 ^ length bs) (b - zeroDigit) times (readBack bs) left (read-below bs (h .1)) k e in
     (omega (arith, t .0), t .1)
 
-same-digits : (cs bs : List ℕ) → All Digit cs → All Digit bs → length cs ≡ length bs → readBack cs ≡ readBack bs → cs ≡ bs
+same-digits : (bs cs : List ℕ) → All Digit bs → All Digit cs → length bs ≡ length cs → readBack bs ≡ readBack cs → bs ≡ cs
 unfolding readBack
 same-digits [] [] h k l e = refl
-same-digits [] (b ∷ bs) h k l e = absurd (omega arith)
-same-digits (a ∷ cs) [] h k l e = absurd (omega arith)
-same-digits (a ∷ cs) (b ∷ bs) h k l e =
-    let m : length cs ≡ length bs = omega arith in
-    let g = ap (λ (n : ℕ). (a - 48) * 10 ^ n) m in
+same-digits [] (c ∷ cs) h k l e = absurd (omega arith)
+same-digits (b ∷ bs) [] h k l e = absurd (omega arith)
+same-digits (b ∷ bs) (c ∷ cs) h k l e =
+    let m : length bs ≡ length cs = omega arith in
+    let g = ap (λ (n : ℕ). (b - zeroDigit) * 10 ^ n) m in
     let p = ap (λ (n : ℕ). 10 ^ n) m in
-    let t = first-taken b bs (a - 48) (readBack cs) k (omega arith) (omega (arith, read-below cs (h .1))) in
-    let c = h .0 in
-    let x : a ≡ b = omega (arith, t .0) in
-    let y = same-digits cs bs (h .1) (k .1) m (sym (t .1)) in
-    ap (λ (n : ℕ). n ∷ cs) x ∙ ap (λ (l : List ℕ). b ∷ l) y
+    let t = first-taken c cs (b - zeroDigit) (readBack bs) k (omega arith) (omega (arith, read-below bs (h .1))) in
+    let d = h .0 in
+    let x : b ≡ c = omega (arith, t .0) in
+    let y = same-digits bs cs (h .1) (k .1) m (sym (t .1)) in
+    ap (λ (n : ℕ). n ∷ bs) x ∙ ap (λ (l : List ℕ). c ∷ l) y
 
 pub determined : DigitsDetermined
-determined cs bs u v e =
-    let x = some-digit cs (u .front) in
-    let y = some-digit bs (v .front) in
-    let r = read-below cs (u .each) in
-    let s = read-below bs (v .each) in
-    same-digits cs bs (u .each) (v .each)
-    (le-antisymm (numeral-most cs (length bs) u y (omega arith)) (numeral-most bs (length cs) v x (omega arith)))
+determined bs cs u v e =
+    let x = some-digit bs (u .front) in
+    let y = some-digit cs (v .front) in
+    let r = read-below bs (u .each) in
+    let s = read-below cs (v .each) in
+    same-digits bs cs (u .each) (v .each)
+    (le-antisymm (numeral-most bs (length cs) u y (omega arith)) (numeral-most cs (length bs) v x (omega arith)))
     e
 
 -- a digit behind others
@@ -163,3 +163,8 @@ decimal-laws x h =
       gives = omega (arith, f .gives);
       few = omega (arith, f .few);
     }
+
+pub decimal-only : DecimalOnly
+decimal-only x bs h d =
+    let l = decimal-laws x h in
+    determined bs (decimal x) (d .numeral) (l .numeral) (d .gives ∙ sym (l .gives))

@@ -2,7 +2,7 @@ use mathlib.Core.Path.{_≡_, ap}
 use Prim.Native.Nat.{ℕ, _-_, _^_}
 use native.Mathlib.Omega.{arith}
 use borrow.Author.Needs.{needs}
-use Rattle.decimal.specs.Text.{digitLimit}
+use Rattle.theorems.specs.Decimal.{digitLimit}
 use Rattle.decimal.proofs.Spelling.{Counting, counting-start, counting-next, counting-end}
 use Rattle.decimal.proofs.digit_count.Statement.{statement}
 use Rattle.decimal.proofs.digit_count.Tie as tie
@@ -29,7 +29,7 @@ loop-less : tie.Need-loop-less Inv-loop μ-loop
 loop-less c = search needs
 
 loop-again : tie.Need-loop-again Inv-loop μ-loop
-loop-again c = counting-next _ _ (c .before .before .before .loop .inv) (c .before .before .loop-test .taken) (omega (arith, c .if1 .left, c .before .power-of-ten .ensures))
+loop-again c = counting-next _ _ (c .before .before .before .loop .inv) (omega arith) (omega (arith, c .if1 .left, c .before .power-of-ten .ensures))
 
 returns-2 : tie.Need-returns-2 Inv-loop μ-loop
 returns-2 c =

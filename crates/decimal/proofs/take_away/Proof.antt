@@ -22,12 +22,12 @@ loop-less : tie.Need-loop-less Inv-loop μ-loop
 loop-less c = search needs
 
 loop-again : tie.Need-loop-again Inv-loop μ-loop
-loop-again c = taking-next _ _ _ _ (c .before .loop .inv) (c .loop-test .taken)
+loop-again c = taking-next _ _ _ _ (c .before .loop .inv) (omega (arith, c .loop-test .taken))
 
 returns : tie.Need-returns Inv-loop μ-loop
 returns c =
     let w = c .before .loop .inv in
-    record { whole = w; digit = taking-few _ _ _ _ w (c .before .before .pre); less = c .loop-test .left }
+    record { whole = w; digit = taking-few _ _ _ _ w (c .before .before .pre); less = omega (arith, c .loop-test .left) }
 
 pub take-away-spec : {M : Type 1} → statement M
 take-away-spec =
