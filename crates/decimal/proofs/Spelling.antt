@@ -1,12 +1,12 @@
 -- Digits written from the first to the last, as powers of ten are taken away.
---     decimal-short, decimal-width     how many digits there are
+--     decimal-width, decimal-count, decimal-short     how many digits there are
 --     Counting, counting-start, counting-next, counting-end     how many digits there are, counted up
 --     Spelling     the digits still to be written, and what they give
 --     spelling-start, spelling-below, spelling-digit, spelling-room, spelling-next, spelling-last
 -- Assumes nothing.
 use mathlib.Core.Path.{_≡_, refl, sym, ap, _∙_}
 use mathlib.Core.List.{List, [], _∷_}
-use Prim.Native.Nat.{ℕ, zero, suc, _+_, _-_, _*_, _^_, _<_, _≤_}
+use Prim.Native.Nat.{ℕ, suc, _+_, _-_, _*_, _^_, _<_, _≤_}
 use native.Mathlib.Nat.{mul-one, pow-suc}
 use native.Mathlib.Omega.{arith}
 use lib.ListN.{length, set}
