@@ -40,8 +40,8 @@ read-from (b ∷ c ∷ bs) n h =
     let l : length (b ∷ c ∷ bs) - 1 ≡ length (c ∷ bs) = omega arith in
     omega (arith, ap (λ (n : ℕ). 10 ^ n) l)
 
-some-digit : (bs : List ℕ) → NoZeroInFront bs → 0 < length bs
-some-digit [] n = absurd n
+some-digit : (bs : List ℕ) → Numeral bs → 0 < length bs
+some-digit [] n = absurd (n .front)
 some-digit (b ∷ bs) n = omega arith
 
 -- below a power of ten there are no more digits than the power has zeros
@@ -53,7 +53,7 @@ numeral-most bs n u h k =
 -- and from the power before it on no fewer
 pub numeral-least : (bs : List ℕ) (n : ℕ) → Numeral bs → (1 < n → 10 ^ (n - 1) ≤ readBack bs) → n ≤ length bs
 numeral-least bs n u h =
-    let s = some-digit bs (u .front) in
+    let s = some-digit bs u in
     let fewer : length bs < n → ⊥ = λ l. omega (arith, read-below bs (u .each), h (omega arith), pow-le-pow-right {n = 10} (omega arith) {i = length bs} {j = n - 1} (omega arith)) in
     omega arith
 
@@ -91,8 +91,8 @@ same-digits (b ∷ bs) (c ∷ cs) h k l e =
 
 pub determined : DigitsDetermined
 determined bs cs u v e =
-    let x = some-digit bs (u .front) in
-    let y = some-digit cs (v .front) in
+    let x = some-digit bs u in
+    let y = some-digit cs v in
     let r = read-below bs (u .each) in
     let s = read-below cs (v .each) in
     same-digits bs cs (u .each) (v .each)
