@@ -1,6 +1,6 @@
 -- Digits written from the first to the last, as powers of ten are taken away.
 --     decimal-width, decimal-count, decimal-short     how many digits there are
---     Counting, counting-start, counting-next, counting-end     how many digits there are, counted up
+--     Counting, counting-next, counting-end     how many digits there are, counted up
 --     Spelling     the digits still to be written, and what they give
 --     spelling-start, spelling-below, spelling-digit, spelling-room, spelling-next, spelling-last
 -- Assumes nothing.
@@ -40,9 +40,6 @@ pub record Counting (x n : ℕ) : Type 0 where
   pub some : 0 < n
   pub most : n ≤ digitLimit
   pub reached : 1 < n → 10 ^ (n - 1) ≤ x
-
-pub counting-start : (x : ℕ) → Counting x 1
-counting-start x = record { some = omega arith; most = omega arith; reached = λ h. absurd (omega arith) }
 
 pub counting-next : (x n : ℕ) → Counting x n → n < digitLimit → 10 ^ n ≤ x → Counting x (n + 1)
 counting-next x n w h l =

@@ -1,5 +1,5 @@
 -- Text written piece by piece.
---     written-none, written-byte
+--     written-none     no text
 --     written-then     one text after another
 --     written-length     the bytes are as many as before
 -- Assumes nothing.
@@ -19,9 +19,6 @@ sets-append (x ∷ s) t l i =
 
 pub written-none : (l : List ℕ) (i : ℕ) → Written l i [] l i
 written-none l i = record { bytes = refl; place = omega arith }
-
-pub written-byte : (l : List ℕ) (i b : ℕ) → Written l i (b ∷ []) (set l i b) (i + 1)
-written-byte l i b = record { bytes = refl; place = omega arith }
 
 pub written-then : {a b c : List ℕ} {i j k : ℕ} {s t : List ℕ} → Written a i s b j → Written b j t c k → Written a i (s ++ t) c k
 written-then {a} {b} {c} {i} {j} {k} {s} {t} v w = record {

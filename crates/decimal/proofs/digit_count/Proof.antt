@@ -3,7 +3,7 @@ use Prim.Native.Nat.{ℕ, _-_, _^_}
 use native.Mathlib.Omega.{arith}
 use borrow.Author.Needs.{needs}
 use Rattle.theorems.specs.Decimal.{digitLimit}
-use Rattle.decimal.proofs.Spelling.{Counting, counting-start, counting-next, counting-end}
+use Rattle.decimal.proofs.Spelling.{Counting, counting-next, counting-end}
 use Rattle.decimal.proofs.digit_count.Statement.{statement}
 use Rattle.decimal.proofs.digit_count.Tie as tie
 
@@ -14,7 +14,7 @@ abbrev μ-loop : tie.MeasureT-loop
 μ-loop x n₀ n = digitLimit - n
 
 loop-holds : tie.Need-loop-holds Inv-loop μ-loop
-loop-holds c = counting-start _
+loop-holds c = record { some = omega arith; most = omega arith; reached = λ h. omega (arith, h) }
 
 power-of-ten-requires : tie.Need-power-of-ten-requires Inv-loop μ-loop
 power-of-ten-requires c κs = search needs
