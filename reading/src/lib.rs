@@ -2,7 +2,7 @@
 //! written from that text alone, to test another implementation against.
 //!
 //! The numbers in the comments are the kinds of records (hexadecimal, as in
-//! the paper) and the refusals 1 to 30 (decimal).
+//! the paper) and the refusals 1 to 30 but 22 (decimal).
 
 #![forbid(unsafe_code)]
 
@@ -887,13 +887,12 @@ impl World {
                     verdict.demand(self.pairs(form.attested_by, parent.key), 20);
                     let by_desk = self.signing_key_of(parent.signer, &[OEM_DESK, OWNER_DESK]);
                     verdict.demand(by_desk, 21);
-                    let parent_entry = self.entry(form.parent);
-                    verdict.demand(parent_entry.is_some(), 22);
                     verdict.demand(self.attributes(form.lak) == ATTESTATION_KEY, 23);
                     verdict.demand(self.attributes(parent.key) == ATTESTATION_KEY, 23);
                     let called_for = self.is_certificate(r, form.lak, parent.subject, desk);
                     verdict.demand(called_for, 27);
-                    if let Some(parent_entry) = parent_entry {
+                    // A parent that is not in the ledger has no depth.
+                    if let Some(parent_entry) = self.entry(form.parent) {
                         verdict.demand(parent_entry.depth < DEPTH, 29);
                     }
                 }

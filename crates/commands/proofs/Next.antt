@@ -1,6 +1,6 @@
 -- What stands after the command at a place: where it is refused, and where one that enters nothing in the ledger, or a desk's, is accepted.
 --     finds-kept                                                           the tables find what they found, where only the places of entries change
---     open-requested, entered, accepts                                     what a desk command asks of what stands
+--     open-requested, parents-entered, entered, accepts                    what a desk command asks of what stands
 --     zero-decided                                                         0 is the outcome of an accepted command
 --     refused-left, device-left, desk-left, device-stands, desk-stands     what is left, and that it stands
 -- Assumes nothing.
@@ -11,9 +11,11 @@ use native.Mathlib.Omega.{arith}
 use lib.Dec.{eqb}
 use lib.ListN.{length}
 use Rattle.rules.specs.State.{State}
+use Rattle.rules.specs.Desk.{parentCertificateOf}
 use Rattle.rules.specs.Run.{outcome, effectOf, after}
 use Rattle.theorems.proofs.Loading.{Wellformed}
 use Rattle.theorems.proofs.Running.{after-accepted, after-refused}
+use Rattle.theorems.proofs.Requests.{parent-listed}
 use Rattle.state.specs.View.{view}
 use Rattle.state.proofs.Exact.{stateOf}
 use Rattle.tables.specs.Regions.{tablesIn}
@@ -25,7 +27,8 @@ use Rattle.lookup.specs.Commands.{CommandAt}
 use Rattle.loaded.specs.Loaded.{fileIn, Finds, Leaves}
 use Rattle.loaded.specs.Entries.{Enters, Entered, Accepts, SameKeys}
 use Rattle.loaded.proofs.Standing.{checked-here, holds-kept}
-use Rattle.desk.specs.Dispatch.{OpenRequested, DeskLeaves}
+use Rattle.loaded.proofs.Ledger.{column-some}
+use Rattle.desk.specs.Dispatch.{OpenRequested, ParentsEntered, DeskLeaves}
 use Rattle.commands.specs.Standing.{stateIn, Kept, Stands}
 use Rattle.commands.proofs.Keeping.{kept-after}
 use Rattle.commands.proofs.Room.{ledger-below}
@@ -41,6 +44,11 @@ finds-kept {bs} d k = record {
 module _ {bs s tables words : List ℕ} {n : ℕ} (st : Stands bs s tables words n) where
   pub open-requested : OpenRequested bs s
   open-requested c e = st .kept .requested c e
+
+  -- a desk's certificate that somebody knows is listed
+  pub parents-entered : ParentsEntered bs s tables
+  parents-entered p q w =
+      column-some (parentCertificateOf (fileIn bs) q) (st .enters) (parent-listed (fileIn bs) (checked-here (st .holds)) (stateIn s words n) (st .kept .sound) p q w)
 
   pub entered : Entered tables words
   entered = (n, entriesIn words n, st .enters)

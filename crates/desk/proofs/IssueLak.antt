@@ -1,10 +1,9 @@
 -- What an issue of an LAK certificate asks, by what was read.
---     signatureAt, halfAt, lakAt, parentAt   what its request names
+--     signatureAt, halfAt, lakAt, parentAt, keyAt, signerAt   what its request names
 --     no-signed, no-attest, attest-formed, attest-named    a signature over an attest
---     pair-of-read                           a pair of keys whose numbers were read
 --     asked                                  what a request has whose form was accepted
---     here, half-declared, lak-declared, parent-is     what it names is declared
---     parent-entered                         the place of the parent's entry, where the ledger lists it
+--     here, half-declared, lak-declared, parent-is, key-declared, by-declared     what it names is declared
+--     parent-noted, parent-entered           the place of the parent's entry, which the ledger lists where a desk signed it
 --     attest-goes, parentage-goes            parts that pass
 --     attest-read to entry-read              parts by what was read are parts by the request
 --     issue-lak-chain                        the outcome as a chain of its tests, part by part
@@ -22,24 +21,26 @@ use Rattle.rules.specs.declared.Term.the-variants.{Signature, Attest}
 use Rattle.rules.specs.Limits.{ownerDesk, termLimit}
 use Rattle.rules.specs.Refusals.{Test, need}
 use Rattle.rules.specs.Term.{hashKind, signatureKind, attestKind, ldevidRequestKind, certificateKind}
-use Rattle.rules.specs.File.{File, issueLak, isRole, term, kind, isKind, message, signingKey, attestedKey, ldevidMessage, ldevidCertificate, leftOf, subject, paired}
+use Rattle.rules.specs.File.{File, issueLak, isRole, term, kind, isKind, message, signingKey, attestedKey, ldevidMessage, ldevidCertificate, certifiedKey, signer, leftOf, subject, paired}
 use Rattle.rules.specs.State.{State}
 use Rattle.rules.specs.Desk.{requestBody, requestSignature, formTests, proofTests, calledFor, attestSignatureOf, lakOf, parentCertificateOf, issueLakTests}
 use Rattle.rules.specs.Run.{testsOf, outcome}
+use Rattle.theorems.proofs.Requests.{DeskParent}
+use Rattle.state.specs.View.{view}
 use Rattle.tables.specs.Regions.{tablesIn}
 use Rattle.loaded.specs.Chain.{chain}
 use Rattle.loaded.specs.Loaded.{fileIn, Holds, Finds, TermHere}
 use Rattle.loaded.specs.Entries.{Enters}
 use Rattle.loaded.proofs.Chain.{in-order, chain-none, chain-passes, chain-fails, chain-rest}
-use Rattle.loaded.proofs.Halves.{pair-read}
-use Rattle.loaded.proofs.Standing.{checked-here, term-here, kind-declared, signing-key-declared}
+use Rattle.loaded.proofs.Standing.{checked-here, term-here, kind-declared, signing-key-declared, certified-key-declared, signer-declared}
 use Rattle.desk.specs.Formed.{Formed}
 use Rattle.desk.specs.Tests.{calledTests, attestTests, parentageTests, entryTests}
+use Rattle.desk.specs.Dispatch.{ParentsEntered}
 use Rattle.desk.proofs.Read.{kind-is, is-kind-kind, signature-kind, signature-message, attest-key}
-use Rattle.loaded.proofs.Ledger.{entry-most, column-some}
+use Rattle.loaded.proofs.Ledger.{entry-most}
 use Rattle.desk.proofs.Outcomes.{passed, has-form}
 
--- the signature over the attest and the key that made it, the LAK and the parent certificate
+-- the signature over the attest and the key that made it, the LAK, the parent certificate, its key and its signer
 abbrev pub signatureAt : File → ℕ → ℕ
 signatureAt f q = ldevidMessage f (leftOf f q)
 
@@ -51,6 +52,12 @@ lakAt f q = attestedKey f (message f (signatureAt f q))
 
 abbrev pub parentAt : File → ℕ → ℕ
 parentAt f q = ldevidCertificate f (leftOf f q)
+
+abbrev pub keyAt : File → ℕ → ℕ
+keyAt f q = certifiedKey f (parentAt f q)
+
+abbrev pub signerAt : File → ℕ → ℕ
+signerAt f q = signer f (parentAt f q)
 
 module _ (f : File) (t : ℕ) where
   pub no-signed : isKind f signatureKind t ≡ false → chain (attestTests f t) ≡ 19
@@ -66,11 +73,6 @@ module _ (f : File) (t : ℕ) where
     pub attest-formed : isKind f attestKind m ≡ true → chain (attestTests f t) ≡ 0
     attest-formed w =
         chain-passes 19 _ _ (kind-is f t (signature-kind f t e)) ∙ chain-passes 19 _ _ (ap (isKind f attestKind) (signature-message f t e) ∙ w) ∙ chain-none
-
-pub pair-of-read :
-    {bs tables : List ℕ} {k l j i : ℕ} {x b : Bool} → Finds bs tables → k < length (fileIn bs .terms) → j < length (fileIn bs .terms) → l ≡ k → i ≡ j → x ≡ eqb (tablesIn tables .half l) (i + 1) → x ≡ b
-    → paired (fileIn bs) k j ≡ b
-pair-of-read {tables = tables} {i = i} d m n q e w v = pair-read d m n e (w ∙ ap (λ (a : ℕ). eqb (tablesIn tables .half a) (i + 1)) q) v
 
 -- a request whose form was accepted
 pub record Asked (f : File) (q : ℕ) : Type 0 where
@@ -90,6 +92,10 @@ asked f q e w =
 pub here : {bs s : List ℕ} {t k : ℕ} → Holds bs s → kind (fileIn bs) t ≡ k → (k ≡ hashKind → ⊥) → TermHere bs s t × (kind (fileIn bs) t ≡ k)
 here {bs} h e n = (term-here h (kind-declared bs e n), e)
 
+pub parent-noted : (bs s tables : List ℕ) (p q : ℕ) → ParentsEntered bs s tables → DeskParent (fileIn bs) (view s .knows) p q → 0 < tablesIn tables .entry (parentAt (fileIn bs) q)
+unfolding parentCertificateOf requestBody
+parent-noted bs s tables p q noted w = noted p q w
+
 module _ {bs s : List ℕ} {q : ℕ} (h : Holds bs s) (w : Asked (fileIn bs) q) where
   pub half-declared : halfAt (fileIn bs) q < length (fileIn bs .terms)
   half-declared = signing-key-declared h (kind-declared bs (w .signature) (λ e. omega arith)) (w .signature)
@@ -100,20 +106,29 @@ module _ {bs s : List ℕ} {q : ℕ} (h : Holds bs s) (w : Asked (fileIn bs) q) 
   pub parent-is : kind (fileIn bs) (parentAt (fileIn bs) q) ≡ certificateKind
   parent-is = checked-here h .ldevidCertificateKind _ (w .body)
 
-pub parent-entered :
-    (f : File) {tables words : List ℕ} {n : ℕ} {ledger : List Entry} (half lak parent : ℕ) → Enters tables words n ledger → chain (parentageTests f ledger half lak parent) ≡ 0
-    → (0 < tablesIn tables .entry parent) × (tablesIn tables .entry parent ≤ termLimit)
-parent-entered f half lak parent e z =
-    let a = passed 20 _ _ (omega arith) z in
-    let b = passed 21 _ _ (omega arith) (a .1) in
-    (column-some parent e (passed 22 _ _ (omega arith) (b .1) .0), entry-most parent e)
+  pub key-declared : keyAt (fileIn bs) q < length (fileIn bs .terms)
+  key-declared = certified-key-declared h (kind-declared bs parent-is (λ e. omega arith)) parent-is
+
+  pub by-declared : signerAt (fileIn bs) q < length (fileIn bs .terms)
+  by-declared = signer-declared h (kind-declared bs parent-is (λ e. omega arith)) parent-is
+
+  -- past 21 a desk signed the parent
+  pub parent-entered :
+      {tables words : List ℕ} {n : ℕ} {ledger : List Entry} (p : ℕ) → ParentsEntered bs s tables → Enters tables words n ledger → view s .knows p q ≡ true
+      → chain (parentageTests (fileIn bs) (halfAt (fileIn bs) q) (lakAt (fileIn bs) q) (keyAt (fileIn bs) q) (signerAt (fileIn bs) q)) ≡ 0
+      → (0 < tablesIn tables .entry (parentAt (fileIn bs) q)) × (tablesIn tables .entry (parentAt (fileIn bs) q) ≤ termLimit)
+  unfolding parentCertificateOf requestBody
+  parent-entered {tables} p noted e k z =
+      let a = passed 20 _ _ (omega arith) z in
+      let b = passed 21 _ _ (omega arith) (a .1) in
+      (parent-noted bs s tables p q noted (record { known = k; pair = w .formed .pair; body = w .body; signed = b .0 }), entry-most (parentAt (fileIn bs) q) e)
 
 module _ (f : File) (ys : List Test) where
   pub attest-goes : (t : ℕ) → chain (attestTests f t) ≡ 0 → chain (attestTests f t ++ ys) ≡ chain ys
   attest-goes t e = chain-rest 19 (attestTests f t) ys (omega arith) refl e
 
-  pub parentage-goes : (ledger : List Entry) (t k c : ℕ) → chain (parentageTests f ledger t k c) ≡ 0 → chain (parentageTests f ledger t k c ++ ys) ≡ chain ys
-  parentage-goes ledger t k c e = chain-rest 20 (parentageTests f ledger t k c) ys (omega arith) refl e
+  pub parentage-goes : (t k c d : ℕ) → chain (parentageTests f t k c d) ≡ 0 → chain (parentageTests f t k c d ++ ys) ≡ chain ys
+  parentage-goes t k c d e = chain-rest 20 (parentageTests f t k c d) ys (omega arith) refl e
 
 -- by the numbers that were read
 module _ (f : File) (q : ℕ) {body signature : ℕ} (b : body ≡ leftOf f q) (s : signature ≡ ldevidMessage f body) where
@@ -128,23 +143,23 @@ module _ (f : File) (q : ℕ) {body signature : ℕ} (b : body ≡ leftOf f q) (
     proof-read e = e ∙ ap (λ (t : ℕ). chain (proofTests f q t)) lak-read
 
     module _ {parent : ℕ} (c : parent ≡ ldevidCertificate f body) where
-      pub parentage-read : {x half : ℕ} → half ≡ signingKey f signature → (ledger : List Entry) → x ≡ chain (parentageTests f ledger half lak parent) → x ≡ chain (parentageTests f ledger (halfAt f q) (lakAt f q) (parentAt f q))
-      parentage-read h ledger e =
-          e ∙ ap (λ (t : ℕ). chain (parentageTests f ledger t lak parent)) (h ∙ ap (signingKey f) (s ∙ ap (ldevidMessage f) b))
-          ∙ ap (λ (t : ℕ). chain (parentageTests f ledger (halfAt f q) t parent)) lak-read
-          ∙ ap (λ (t : ℕ). chain (parentageTests f ledger (halfAt f q) (lakAt f q) t)) (c ∙ ap (ldevidCertificate f) b)
+      parent-read : parent ≡ parentAt f q
+      parent-read = c ∙ ap (ldevidCertificate f) b
+
+      pub parentage-read : {x half key by : ℕ} → half ≡ signingKey f signature → key ≡ certifiedKey f parent → by ≡ signer f parent → x ≡ chain (parentageTests f half lak key by) → x ≡ chain (parentageTests f (halfAt f q) (lakAt f q) (keyAt f q) (signerAt f q))
+      parentage-read h i j e = e ∙ rw (h, i, j, lak-read, parent-read, s, b) refl
 
       pub called-read : {x : ℕ} (p r : ℕ) {wanted : Subject} → wanted ≡ subject f parent → x ≡ chain (calledTests f p r lak wanted) → x ≡ chain (calledTests f p r (lakAt f q) (subject f (parentAt f q)))
       called-read p r {wanted} w e =
-          e ∙ ap (λ (t : ℕ). chain (calledTests f p r t wanted)) lak-read ∙ ap (λ (x : Subject). chain (calledTests f p r (lakAt f q) x)) (w ∙ ap (subject f) (c ∙ ap (ldevidCertificate f) b))
+          e ∙ ap (λ (t : ℕ). chain (calledTests f p r t wanted)) lak-read ∙ ap (λ (x : Subject). chain (calledTests f p r (lakAt f q) x)) (w ∙ ap (subject f) parent-read)
 
       pub entry-read : {x : ℕ} (ledger : List Entry) (r : ℕ) → x ≡ chain (entryTests ledger r parent) → x ≡ chain (entryTests ledger r (parentAt f q))
-      entry-read ledger r e = e ∙ ap (λ (t : ℕ). chain (entryTests ledger r t)) (c ∙ ap (ldevidCertificate f) b)
+      entry-read ledger r e = e ∙ ap (λ (t : ℕ). chain (entryTests ledger r t)) parent-read
 
 -- 40
 pub issue-lak-chain :
     (f : File) (s : State) (p q r : ℕ)
     → outcome f s (issueLak p q r)
-    ≡ chain (need 13 (isRole f ownerDesk p) ∷ need 14 (s .knows p q) ∷ (formTests f ldevidRequestKind q ++ (attestTests f (signatureAt f q) ++ (proofTests f q (lakAt f q) ++ (parentageTests f (s .ledger) (halfAt f q) (lakAt f q) (parentAt f q) ++ (calledTests f p r (lakAt f q) (subject f (parentAt f q)) ++ entryTests (s .ledger) r (parentAt f q)))))))
+    ≡ chain (need 13 (isRole f ownerDesk p) ∷ need 14 (s .knows p q) ∷ (formTests f ldevidRequestKind q ++ (attestTests f (signatureAt f q) ++ (proofTests f q (lakAt f q) ++ (parentageTests f (halfAt f q) (lakAt f q) (keyAt f q) (signerAt f q) ++ (calledTests f p r (lakAt f q) (subject f (parentAt f q)) ++ entryTests (s .ledger) r (parentAt f q)))))))
 unfolding outcome testsOf issueLakTests formTests proofTests calledFor requestBody requestSignature attestSignatureOf lakOf parentCertificateOf
 issue-lak-chain f s p q r = in-order _ refl refl

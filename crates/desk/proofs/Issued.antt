@@ -1,29 +1,35 @@
 -- What accepted desk commands leave.
 --     challenge-left              3E
 --     iak-new, iak-open, lak-accepted     tests that an accepted 3F or 40 passed
+--     lak-noted                   the place of a 40's parent
 --     same-ledger                 the words hold one ledger
 --     iak-issued, lak-issued      3F, 40
 -- Assumes nothing.
 use mathlib.Core.Path.{_≡_, refl, sym, ap, _∙_}
 use mathlib.Core.Bool.{true, false}
 use mathlib.Core.List.{List, [], _∷_, _++_}
-use Prim.Native.Nat.{ℕ, _+_, _≤_}
+use Prim.Native.Nat.{ℕ, _+_, _<_, _≤_}
 use borrow.Author.Tests.{eqb-true, leb-true, not-true}
 use Rattle.rules.specs.declared.Entry.{Entry}
-use Rattle.rules.specs.Limits.{depthLimit}
+use Rattle.rules.specs.Limits.{termLimit, depthLimit}
 use Rattle.rules.specs.Term.{ldevidRequestKind, pairKind}
 use Rattle.rules.specs.File.{File, challenge, issueIak, issueLak, kind, credentialNumber, idevidCertificate, ldevidCertificate, leftOf}
 use Rattle.rules.specs.State.{State, numberUsed, credentialOpen, credentialClosed, put, listed, depthOf, learnt, opening, closing, entered}
 use Rattle.rules.specs.Desk.{requestBody, formTests, proofTests, ekCertificateOf, parentCertificateOf, calledFor, challengeEffect, issueIakTests, issueIakEffect, issueLakTests, issueLakEffect}
 use Rattle.rules.specs.Run.{testsOf, outcome, effectOf}
 use Rattle.theorems.proofs.Passing.{passed}
+use Rattle.theorems.proofs.Requests.{DeskParent}
 use Rattle.state.specs.View.{Columns, view, withMark, withDesk, withRequest}
 use Rattle.state.proofs.Exact.{stateOf}
+use Rattle.tables.specs.Regions.{tablesIn}
 use Rattle.loaded.specs.Loaded.{fileIn, Learns, Leaves}
 use Rattle.loaded.specs.Entries.{Enters, Accepts, Issues}
+use Rattle.loaded.proofs.Ledger.{entry-most}
 use Rattle.desk.specs.Appends.{Appends}
 use Rattle.desk.specs.Issues.{IssuesIak}
+use Rattle.desk.specs.Dispatch.{ParentsEntered}
 use Rattle.desk.proofs.Read.{is-kind-kind}
+use Rattle.desk.proofs.IssueLak.{parentAt, parent-noted}
 
 -- the columns of an opened credential
 abbrev openedWith : Columns → ℕ → ℕ → ℕ → ℕ → Columns
@@ -63,30 +69,32 @@ pub iak-open : (f : File) (s : State) (p q c r : ℕ) → outcome f s (issueIak 
 unfolding outcome testsOf issueIakTests calledFor
 iak-open f s p q c r e = eqb-true _ _ (passed (issueIakTests f s p q c r) refl e .1 .0)
 
--- an accepted 40: its request's form, a listed parent, a certificate that is not, and the depth
-pub record LakPassed (f : File) (ledger : List Entry) (q r : ℕ) : Type 0 where
-  pub pair : kind f q ≡ pairKind
-  pub body : kind f (leftOf f q) ≡ ldevidRequestKind
-  pub parent : listed ledger (ldevidCertificate f (leftOf f q)) ≡ true
-  pub new : listed ledger r ≡ false
-  pub depth : depthOf ledger (ldevidCertificate f (leftOf f q)) + 1 ≤ depthLimit
+-- an accepted 40: a request whose parent a desk signed, a certificate that is not listed, and the depth
+pub record LakPassed (f : File) (s : State) (p q r : ℕ) : Type 0 where
+  pub parent : DeskParent f (s .knows) p q
+  pub new : listed (s .ledger) r ≡ false
+  pub depth : depthOf (s .ledger) (ldevidCertificate f (leftOf f q)) + 1 ≤ depthLimit
 
-lak-passed : (f : File) (s : State) (p q r : ℕ) → outcome f s (issueLak p q r) ≡ 0 → LakPassed f (s .ledger) q r
+lak-passed : (f : File) (s : State) (p q r : ℕ) → outcome f s (issueLak p q r) ≡ 0 → LakPassed f s p q r
 unfolding outcome testsOf issueLakTests formTests proofTests calledFor requestBody parentCertificateOf
 lak-passed f s p q r e =
     let tests = passed (issueLakTests f s p q r) refl e in
-    let listing = tests .1 .1 .1 .1 .1 .1 .1 .1 .1 .1 .1 .1 in
-    let new = listing .1 .1 .1 .1 .1 .1 in
+    let signed = tests .1 .1 .1 .1 .1 .1 .1 .1 .1 .1 .1 in
+    let new = signed .1 .1 .1 .1 .1 .1 in
     record {
-      pair = is-kind-kind f q (tests .1 .1 .0);
-      body = is-kind-kind f (leftOf f q) (tests .1 .1 .1 .0);
-      parent = listing .0;
+      parent = record { known = tests .1 .0; pair = is-kind-kind f q (tests .1 .1 .0); body = is-kind-kind f (leftOf f q) (tests .1 .1 .1 .0); signed = signed .0 };
       new = not-true _ (new .0);
       depth = leb-true _ depthLimit (new .1 .0);
     }
 
-pub lak-accepted : {bs s tables words : List ℕ} {n p q r : ℕ} (a : Accepts bs s tables words n (issueLak p q r)) → LakPassed (fileIn bs) (a .ledger) q r
+pub lak-accepted : {bs s tables words : List ℕ} {n p q r : ℕ} (a : Accepts bs s tables words n (issueLak p q r)) → LakPassed (fileIn bs) (stateOf (view s) (a .ledger)) p q r
 lak-accepted {bs} {s} {p = p} {q} {r} a = lak-passed (fileIn bs) (stateOf (view s) (a .ledger)) p q r (a .accepted)
+
+-- the place of its parent's entry
+pub lak-noted :
+    {bs s tables words : List ℕ} {n p q r : ℕ} → Accepts bs s tables words n (issueLak p q r) → ParentsEntered bs s tables
+    → (0 < tablesIn tables .entry (parentAt (fileIn bs) q)) × (tablesIn tables .entry (parentAt (fileIn bs) q) ≤ termLimit)
+lak-noted {bs} {s} {tables} {p = p} {q} a noted = (parent-noted bs s tables p q noted (lak-accepted a .parent), entry-most (parentAt (fileIn bs) q) (a .enters))
 
 -- the words hold one ledger
 pub same-ledger : {tables words : List ℕ} {n : ℕ} {a b : List Entry} → Enters tables words n a → Enters tables words n b → a ≡ b

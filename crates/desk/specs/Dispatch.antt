@@ -6,8 +6,10 @@ use lib.ListN.{length}
 use Rattle.rules.specs.declared.Entry.{Entry}
 use Rattle.rules.specs.File.{Command}
 use Rattle.rules.specs.State.{credentialOpen}
+use Rattle.rules.specs.Desk.{parentCertificateOf}
 use Rattle.rules.specs.Run.{effectOf}
 use Rattle.theorems.proofs.Loading.{Wellformed}
+use Rattle.theorems.proofs.Requests.{DeskParent}
 use Rattle.state.specs.View.{view}
 use Rattle.state.proofs.Exact.{stateOf}
 use Rattle.tables.specs.Regions.{tableWords, tablesIn}
@@ -22,6 +24,10 @@ use Rattle.desk.specs.Formed.{Requested}
 abbrev pub OpenRequested : List ℕ → List ℕ → Type 0
 OpenRequested bs s = (c : ℕ) → view s .mark c ≡ credentialOpen → Requested (fileIn bs) (view s .request c)
 
+-- the tables have an entry for the certificate in each known request for an LAK certificate, where a desk signed it
+abbrev pub ParentsEntered : List ℕ → List ℕ → List ℕ → Type 0
+ParentsEntered bs s tables = (p q : ℕ) → DeskParent (fileIn bs) (view s .knows) p q → 0 < tablesIn tables .entry (parentCertificateOf (fileIn bs) q)
+
 -- what an accepted desk command is done by
 pub record DeskEffectReady (bs s tables words : List ℕ) (n at : ℕ) : Type 0 where
   pub holds : Holds bs s
@@ -29,6 +35,7 @@ pub record DeskEffectReady (bs s tables words : List ℕ) (n at : ℕ) : Type 0 
   pub command : CommandAt (Wellformed (fileIn bs)) bs at
   pub isDesk : 0x3D < kindThere bs at
   pub opened : OpenRequested bs s
+  pub parents : ParentsEntered bs s tables
   pub accepts : Accepts bs s tables words n (commandThere bs at)
 
 -- what it leaves: the columns and the ledger of the rules' state, of r entries, which the words and the tables hold

@@ -44,14 +44,13 @@ attestTests f signature =
     ∷ need 19 (isKind f attestKind (message f signature))
     ∷ []
 
--- the private key that signed an attest, the attested key and the parent's certificate
-abbrev pub parentageTests : File → List Entry → ℕ → ℕ → ℕ → List Test
-parentageTests f ledger half lak parent =
-    need 20 (paired f (certifiedKey f parent) half)
-    ∷ need 21 (signsForRole f oemDesk (signer f parent) || signsForRole f ownerDesk (signer f parent))
-    ∷ need 22 (listed ledger parent)
+-- the private key that signed an attest, the attested key, and the key and the signer of the parent's certificate
+abbrev pub parentageTests : File → ℕ → ℕ → ℕ → ℕ → List Test
+parentageTests f half lak key by =
+    need 20 (paired f key half)
+    ∷ need 21 (signsForRole f oemDesk by || signsForRole f ownerDesk by)
     ∷ need 23 (sameAttributes (attributes f lak) iakAttributes)
-    ∷ need 23 (sameAttributes (attributes f (certifiedKey f parent)) iakAttributes)
+    ∷ need 23 (sameAttributes (attributes f key) iakAttributes)
     ∷ []
 
 -- an entry of a certificate below its parent's

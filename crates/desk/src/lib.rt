@@ -31,7 +31,7 @@ ghost use Rattle.desk.specs.Formed.{Names, Requested};
 ghost use Rattle.desk.specs.Tests.{endorsementTests, credentialTests, calledTests, attestTests, parentageTests, entryTests};
 ghost use Rattle.desk.specs.Appends.{Appends};
 ghost use Rattle.desk.specs.Issues.{IssuesIak};
-ghost use Rattle.desk.specs.Dispatch.{OpenRequested, DeskEffectReady, DeskLeaves};
+ghost use Rattle.desk.specs.Dispatch.{OpenRequested, ParentsEntered, DeskEffectReady, DeskLeaves};
 
 // The marks of a used number, and of an open and a closed credential.
 const NUMBER_USED: u8 = 1;
@@ -545,7 +545,7 @@ fn signs_for_desk(file: &[u8], tables: &[u16; tables::WORDS], key: usize, partie
     signs_for_role(file, tables, rules::OWNER_DESK, key, parties)
 }
 
-// The parentage of an LAK: its attest by the key of a desk's certificate, which is listed, and the attributes of both keys.
+// The parentage of an LAK: its attest by the key of a desk's certificate, and the attributes of both keys.
 fn parentage(
     file: &[u8],
     state: &[u8],
@@ -553,20 +553,16 @@ fn parentage(
     parties: usize,
     half: usize,
     lak: usize,
-    parent: usize,
     certificate: Certificate,
 ) -> u8
-    requires { ⌜ Holds (now file) (now state) × Finds (now file) (now tables) × (parties ≡ length (fileIn (now file) .roles)) × (half < length (fileIn (now file) .terms)) × (lak < length (fileIn (now file) .terms)) × (kind (fileIn (now file)) parent ≡ certificateKind) × (certificate .key ≡ certifiedKey (fileIn (now file)) parent) × (certificate .signer ≡ signer (fileIn (now file)) parent) ⌝ }
-    ensures { λ x. ⌜ ((words : List ℕ) (n : ℕ) (ledger : List Entry) → Enters (now (tables .entry)) words n ledger → x ≡ chain (parentageTests (fileIn (now (file .entry))) ledger half lak parent)) ⌝ }
+    requires { ⌜ Holds (now file) (now state) × Finds (now file) (now tables) × (parties ≡ length (fileIn (now file) .roles)) × (half < length (fileIn (now file) .terms)) × (lak < length (fileIn (now file) .terms)) × (certificate .key < length (fileIn (now file) .terms)) × (certificate .signer < length (fileIn (now file) .terms)) ⌝ }
+    ensures { λ x. ⌜ x ≡ chain (parentageTests (fileIn (now (file .entry))) half lak (certificate .key) (certificate .signer)) ⌝ }
 {
     if !loaded::is_half(tables, certificate.key, half) {
         return 20;
     }
     if !signs_for_desk(file, tables, certificate.signer, parties) {
         return 21;
-    }
-    if !is_listed(tables, parent) {
-        return 22;
     }
     if !has_exactly(file, state, lak, Attributes::iak()) {
         return 23;
@@ -608,7 +604,7 @@ pub fn decide_issue_lak(
     q: usize,
     r: usize,
 ) -> u8
-    requires { ⌜ Holds (now file) (now state) × Finds (now file) (now tables) × (parties ≡ length (fileIn (now file) .roles)) × Wellformed (fileIn (now file)) (issueLak party q r) × Entered (now tables) (now words) ⌝ }
+    requires { ⌜ Holds (now file) (now state) × Finds (now file) (now tables) × (parties ≡ length (fileIn (now file) .roles)) × Wellformed (fileIn (now file)) (issueLak party q r) × Entered (now tables) (now words) × ParentsEntered (now file) (now state) (now tables) ⌝ }
     ensures { λ x. ⌜ DecidesBy (now (file .entry)) (now (state .entry)) (now (tables .entry)) (now (words .entry)) (issueLak party q r) x ⌝ }
 {
     if !loaded::is_role(file, party, rules::OWNER_DESK) {
@@ -640,7 +636,6 @@ pub fn decide_issue_lak(
         parties,
         attested.signer,
         lak,
-        parent,
         certificate,
     );
     if descends != 0 {
@@ -717,7 +712,7 @@ pub fn effect_issue_lak(
     q: usize,
     r: usize,
 )
-    requires { ⌜ Holds (now file) (now state) × Wellformed (fileIn (now file)) (issueLak party q r) × Accepts (now file) (now state) (now tables) (now words) n (issueLak party q r) × (length (now tables) ≡ tableWords) ⌝ }
+    requires { ⌜ Holds (now file) (now state) × Wellformed (fileIn (now file)) (issueLak party q r) × Accepts (now file) (now state) (now tables) (now words) n (issueLak party q r) × (length (now tables) ≡ tableWords) × ParentsEntered (now file) (now state) (now tables) ⌝ }
     ensures { λ _. ⌜ Issues (now (file .entry)) (now (state .entry)) (now (tables .entry)) (now (words .entry)) n (issueLak party q r) (now (state .exit)) (now (tables .exit)) (now (words .exit)) ⌝ }
 {
     let request = pair_of(file, state, q);
@@ -737,7 +732,7 @@ pub fn decide(
     parties: usize,
     at: usize,
 ) -> u8
-    requires { ⌜ Holds (now file) (now state) × Finds (now file) (now tables) × (parties ≡ length (fileIn (now file) .roles)) × CommandAt (Wellformed (fileIn (now file))) (now file) at × (0x3D < kindThere (now file) at) × Entered (now tables) (now words) × OpenRequested (now file) (now state) ⌝ }
+    requires { ⌜ Holds (now file) (now state) × Finds (now file) (now tables) × (parties ≡ length (fileIn (now file) .roles)) × CommandAt (Wellformed (fileIn (now file))) (now file) at × (0x3D < kindThere (now file) at) × Entered (now tables) (now words) × OpenRequested (now file) (now state) × ParentsEntered (now file) (now state) (now tables) ⌝ }
     ensures { λ x. ⌜ DecidesBy (now (file .entry)) (now (state .entry)) (now (tables .entry)) (now (words .entry)) (commandThere (now (file .entry)) at) x ⌝ }
 {
     let kind = file[at];

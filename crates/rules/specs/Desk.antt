@@ -121,7 +121,6 @@ issueLakTests f s p q r =
     ++ (proofTests f q (lakOf f q)
     ++ ((need 20 (paired f (certifiedKey f (parentCertificateOf f q)) (signingKey f (attestSignatureOf f q)))
     ∷ need 21 (signsForRole f oemDesk (signer f (parentCertificateOf f q)) || signsForRole f ownerDesk (signer f (parentCertificateOf f q)))
-    ∷ need 22 (listed (s .ledger) (parentCertificateOf f q))
     ∷ need 23 (sameAttributes (attributes f (lakOf f q)) iakAttributes)
     ∷ need 23 (sameAttributes (attributes f (certifiedKey f (parentCertificateOf f q))) iakAttributes)
     ∷ [])

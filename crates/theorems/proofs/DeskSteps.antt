@@ -29,6 +29,7 @@ use Rattle.theorems.proofs.Terms.{isKind-kind, isRole-role, same-attrib
 use Rattle.theorems.proofs.Ledgers.{Listing, at-kept, at-below, listed-kept, listed-last, listed-found}
 use Rattle.theorems.proofs.Knowers.{sole}
 use Rattle.theorems.proofs.Invariant.{DeviceHolds, KnownToDevice, Attested, Secret, Open, EntryGood, Invariant, Fresh, Gained, Step}
+use Rattle.theorems.proofs.Requests.{left-known, parent-listed}
 use Rattle.theorems.proofs.DeviceSteps.{differ, credential-good, certificate-fresh, signer-alone}
 use Rattle.theorems.proofs.Booleans.{not-both}
 
@@ -52,10 +53,6 @@ module _ (f : File) (ck : Checked f) (s : State) (inv : Invariant f s) where
   -- a credential is no number
   unequal : (c n : ℕ) → kind f c ≡ credentialKind → kind f n ≡ numberKind → c ≡ n → ⊥
   unequal c n h k e = differ f c numberKind h tt (ap (kind f) e ∙ k)
-
-  -- who knows a pair knows its two terms
-  pub left-known : (p q : ℕ) → kind f q ≡ pairKind → s .knows p q ≡ true → s .knows p (leftOf f q) ≡ true
-  left-known p q h k = inv .closed p q (leftOf f q) k (first-part f q (leftOf f q) (rightOf f q ∷ []) (parts-pair f q h))
 
   -- 3E
   challenge-passed : (p q r : ℕ) → outcome f s (challenge p q r) ≡ 0 → Passed (challengeTests f s p q r)
@@ -142,7 +139,7 @@ module _ (f : File) (ck : Checked f) (s : State) (inv : Invariant f s) where
     certificate-known : s .knows p (ekCertificateOf f q) ≡ true
     unfolding challengeTests formTests proofTests numberTests ekCertificateOf requestBody
     certificate-known =
-        inv .closed p (leftOf f q) (idevidCertificate f (leftOf f q)) (left-known p q (isKind-kind f pairKind q (tests .1 .1 .0)) (tests .1 .0))
+        inv .closed p (leftOf f q) (idevidCertificate f (leftOf f q)) (left-known f ck s inv p q (isKind-kind f pairKind q (tests .1 .1 .0)) (tests .1 .0))
         (first-part f (leftOf f q) (idevidCertificate f (leftOf f q)) (idevidKey f (leftOf f q) ∷ [])
         (parts-idevidRequest f (leftOf f q) (isKind-kind f idevidRequestKind (leftOf f q) (tests .1 .1 .1 .0))))
 
@@ -338,25 +335,25 @@ module _ (f : File) (ck : Checked f) (s : State) (inv : Invariant f s) where
 
     lakKey : List·Memᴰ (signsWith p (signer f r)) (f .setup)
     unfolding issueLakTests formTests proofTests calledFor
-    lakKey = signs-given f p (signer f r) (lakTests .1 .1 .1 .1 .1 .1 .1 .1 .1 .1 .1 .1 .1 .1 .1 .1 .1 .0)
+    lakKey = signs-given f p (signer f r) (lakTests .1 .1 .1 .1 .1 .1 .1 .1 .1 .1 .1 .1 .1 .1 .1 .1 .0)
 
     lakCertified : certifiedKey f r ≡ lakOf f q
     unfolding issueLakTests formTests proofTests calledFor
-    lakCertified = eqb-true _ _ (lakTests .1 .1 .1 .1 .1 .1 .1 .1 .1 .1 .1 .1 .1 .1 .1 .0)
+    lakCertified = eqb-true _ _ (lakTests .1 .1 .1 .1 .1 .1 .1 .1 .1 .1 .1 .1 .1 .1 .0)
 
     lakSubject : subject f r ≡ subject f (parentCertificateOf f q)
     unfolding issueLakTests formTests proofTests calledFor
-    lakSubject = same-subject _ _ (lakTests .1 .1 .1 .1 .1 .1 .1 .1 .1 .1 .1 .1 .1 .1 .1 .1 .0)
+    lakSubject = same-subject _ _ (lakTests .1 .1 .1 .1 .1 .1 .1 .1 .1 .1 .1 .1 .1 .1 .1 .0)
 
     lakAttributed : attributes f (certifiedKey f r) ≡ iakAttributes
     unfolding issueLakTests formTests proofTests calledFor
-    lakAttributed = ap (attributes f) lakCertified ∙ same-attributes _ _ (lakTests .1 .1 .1 .1 .1 .1 .1 .1 .1 .1 .1 .1 .1 .0)
+    lakAttributed = ap (attributes f) lakCertified ∙ same-attributes _ _ (lakTests .1 .1 .1 .1 .1 .1 .1 .1 .1 .1 .1 .1 .0)
 
     -- the attest's signature is known to the desk
     signature-known : s .knows p (attestSignatureOf f q) ≡ true
     unfolding issueLakTests formTests proofTests calledFor attestSignatureOf requestBody
     signature-known =
-        inv .closed p (leftOf f q) (ldevidMessage f (leftOf f q)) (left-known p q (isKind-kind f pairKind q (lakTests .1 .1 .0)) (lakTests .1 .0))
+        inv .closed p (leftOf f q) (ldevidMessage f (leftOf f q)) (left-known f ck s inv p q (isKind-kind f pairKind q (lakTests .1 .1 .0)) (lakTests .1 .0))
         (first-part f (leftOf f q) (ldevidMessage f (leftOf f q)) (ldevidCertificate f (leftOf f q) ∷ [])
         (parts-ldevidRequest f (leftOf f q) (isKind-kind f ldevidRequestKind (leftOf f q) (lakTests .1 .1 .1 .0))))
 
@@ -372,7 +369,7 @@ module _ (f : File) (ck : Checked f) (s : State) (inv : Invariant f s) where
         (isKind-kind f attestKind (message f (attestSignatureOf f q)) (lakTests .1 .1 .1 .1 .1 .1 .1 .0))
         (subst⁻¹ (λ (a : Attributes). has a flag.restricted ≡ true)
         (sym (pair-attributes f (certifiedKey f (parentCertificateOf f q)) (signingKey f (attestSignatureOf f q)) pairsWithParent)
-        ∙ same-attributes _ _ (lakTests .1 .1 .1 .1 .1 .1 .1 .1 .1 .1 .1 .1 .1 .1 .0)) iak-restricted)
+        ∙ same-attributes _ _ (lakTests .1 .1 .1 .1 .1 .1 .1 .1 .1 .1 .1 .1 .1 .0)) iak-restricted)
 
     lakHeld : DeviceHolds f (certifiedKey f r) (certifiedKey f (parentCertificateOf f q))
     unfolding lakOf
@@ -389,9 +386,18 @@ module _ (f : File) (ck : Checked f) (s : State) (inv : Invariant f s) where
       };
     }
 
+    -- past 21 the certificate in the request is a desk's, and so it is listed
     parentListing : Listing (s .ledger) (parentCertificateOf f q)
-    unfolding issueLakTests formTests proofTests calledFor
-    parentListing = listed-found (s .ledger) (parentCertificateOf f q) (lakTests .1 .1 .1 .1 .1 .1 .1 .1 .1 .1 .1 .1 .0)
+    unfolding issueLakTests formTests proofTests calledFor requestBody
+    parentListing =
+        listed-found (s .ledger) (parentCertificateOf f q)
+        (parent-listed f ck s inv p q
+        (record {
+          known = lakTests .1 .0;
+          pair = isKind-kind f pairKind q (lakTests .1 .1 .0);
+          body = isKind-kind f ldevidRequestKind (leftOf f q) (lakTests .1 .1 .1 .0);
+          signed = lakTests .1 .1 .1 .1 .1 .1 .1 .1 .1 .1 .1 .0;
+        }))
 
     lakGood : EntryGood f lakState (length (s .ledger)) lakEntry
     unfolding lakState lakEntry issueLakEffect entered learnt issueLakTests formTests proofTests calledFor
@@ -403,7 +409,7 @@ module _ (f : File) (ck : Checked f) (s : State) (inv : Invariant f s) where
       fixed = subst⁻¹ (λ (a : Attributes). has a flag.fixedTpm ≡ true) lakAttributed iak-fixed;
       known = learn-own f p r (s .knows);
       least = omega arith;
-      most = leb-true _ depthLimit (lakTests .1 .1 .1 .1 .1 .1 .1 .1 .1 .1 .1 .1 .1 .1 .1 .1 .1 .1 .1 .0);
+      most = leb-true _ depthLimit (lakTests .1 .1 .1 .1 .1 .1 .1 .1 .1 .1 .1 .1 .1 .1 .1 .1 .1 .1 .0);
       earlier =
           inr (
             parentListing .place,
@@ -422,7 +428,7 @@ module _ (f : File) (ck : Checked f) (s : State) (inv : Invariant f s) where
     lakGained = record {
       entry = lakEntry;
       appended = refl;
-      new = λ h. not-both (listed (s .ledger) r) (lakTests .1 .1 .1 .1 .1 .1 .1 .1 .1 .1 .1 .1 .1 .1 .1 .1 .1 .1 .0) h;
+      new = λ h. not-both (listed (s .ledger) r) (lakTests .1 .1 .1 .1 .1 .1 .1 .1 .1 .1 .1 .1 .1 .1 .1 .1 .1 .0) h;
       entryGood = lakGood;
     }
 

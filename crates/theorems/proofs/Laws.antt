@@ -2,7 +2,7 @@
 -- Assumes nothing.
 use mathlib.Core.Path.{_≡_, refl, sym, ap, _∙_}
 use mathlib.Core.Logic.{_⊎_, ⊎-elim}
-use mathlib.Core.Bool.{Bool, true, false, cond}
+use mathlib.Core.Bool.{Bool, true, false, false≢true, cond}
 use mathlib.Core.List.{List, [], _∷_, List·Memᴰ}
 use mathlib.Core.Option.{none, some}
 use Prim.Native.Nat.{ℕ, zero, suc, _+_, _<_, _≤_}
@@ -11,27 +11,36 @@ use lib.Dec.{eqb}
 use lib.ListN.{length, getD, getElem?}
 use Rattle.rules.specs.declared.Entry.{Entry}
 use Rattle.rules.specs.Limits.{termLimit}
+use Rattle.rules.specs.Refusals.{order, refusalOf}
 use Rattle.rules.specs.Attributes.{fixedTpm, has}
 use Rattle.rules.specs.Term.{privateKeyKind, hashKind, certificateKind}
 use Rattle.rules.specs.File.{File, Command, kind, attributes, names, holdsKey}
 use Rattle.rules.specs.Load.{load, loaded, commandsOf}
 use Rattle.rules.specs.Learning.{Knowledge, learn}
 use Rattle.rules.specs.State.{State, start}
-use Rattle.rules.specs.Run.{outcome, after, outcomes, firstCommands, reached, outcomesOf, zeros, others, accepted, refusals, issued}
+use Rattle.rules.specs.Run.{testsOf, outcome, after, outcomes, firstCommands, reached, outcomesOf, zeros, others, accepted, refusals, issued}
 use Rattle.theorems.specs.Residency.{Inside}
 use Rattle.theorems.proofs.Learning.{Closed, learn-kept, learn-inside, learn-only}
+use Rattle.theorems.proofs.Passing.{among, found-among}
 use Rattle.theorems.proofs.Loading.{Checked, checked}
 use Rattle.theorems.proofs.Terms.{declared, holds-given}
 use Rattle.theorems.proofs.Running.{after-refused, reached-none, reached-next, reached-end}
 use Rattle.theorems.proofs.Ledgers.{at-within}
 use Rattle.theorems.proofs.Invariant.{Invariant, Step}
 use Rattle.theorems.proofs.Reaching.{reached-invariant, reached-step}
-use Rattle.theorems.proofs.NotListed.{never}
 use Rattle.theorems.proofs.Pigeonhole.{pigeonhole}
 
 -- a refused command changes nothing
 pub refused-changes-nothing : (f : File) (s : State) (c : Command) → (outcome f s c ≡ 0 → ⊥) → after f s c ≡ s
 refused-changes-nothing = after-refused
+
+-- an outcome is 0 or a number of the order; 22 is none, in whatever state
+pub outcome-in-order : (f : File) (s : State) (c : Command) (n : ℕ) → 0 < n → outcome f s c ≡ n → among n order ≡ true
+unfolding outcome refusalOf
+outcome-in-order f s c n h e = found-among order (testsOf f s c) n h e
+
+pub never-22 : (f : File) (s : State) (c : Command) → outcome f s c ≡ 22 → ⊥
+never-22 f s c e = false≢true (outcome-in-order f s c 22 (omega arith) e)
 
 -- the first n + 1 commands are the first n and then the next; where there is none, they are the first n
 pub first-and-next :
@@ -125,7 +134,3 @@ module _ (bytes : List ℕ) (f : File) (loads : load bytes ≡ loaded f) where
   pub few-issued : (n : ℕ) → issued f n ≤ termLimit
   unfolding issued
   few-issued n = omega (arith, ledger-fits n, ck .fewTerms)
-
-  -- 22 is no outcome
-  pub never-not-listed : (n : ℕ) (c : Command) → outcome f (reached f n) c ≡ 22 → ⊥
-  never-not-listed n c = never f ck (reached f n) (reached-invariant f ck n) c

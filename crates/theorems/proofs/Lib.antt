@@ -12,13 +12,14 @@ pub mod Invariant
 pub mod Inside
 pub mod DeviceSteps
 pub mod Knowers
+pub mod Requests
 pub mod DeskSteps
 pub mod Reaching
-pub mod NotListed
 pub mod Pigeonhole
 pub mod History
 pub mod Demand3
 pub mod Laws
+pub mod Refusal22
 pub mod Pieces
 pub mod Placed
 pub mod Rows

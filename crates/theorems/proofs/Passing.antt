@@ -1,15 +1,15 @@
 -- What an outcome says of a command's tests: at 0 each passed; at a refusal one of that refusal failed, and those of earlier refusals passed.
 -- Assumes nothing.
-use mathlib.Core.Path.{_≡_, refl, sym, subst, _∙_}
+use mathlib.Core.Path.{_≡_, refl, sym, ap, subst, _∙_}
 use mathlib.Core.Logic.{⊎-elim}
 use mathlib.Core.Bool.{Bool, true, false, false≢true, cond, not, _&&_, _||_}
 use mathlib.Core.List.{List, [], _∷_}
 use Prim.Native.Nat.{ℕ, _<_}
 use native.Mathlib.Omega.{arith}
 use lib.Dec.{eqb}
-use borrow.Author.Tests.{eq-eqb, eqb-true, eqb-false}
+use borrow.Author.Tests.{eq-eqb, ne-eqb, eqb-true, eqb-false}
 use Rattle.rules.specs.Refusals.{Test, order, applies, firstOf, refusalOf}
-use Rattle.theorems.proofs.Booleans.{and-true, or-true}
+use Rattle.theorems.proofs.Booleans.{and-true, or-true, or-left, or-right}
 
 -- each test passes
 abbrev pub Passed : List Test → Type 0
@@ -56,7 +56,7 @@ first-clear : (b : Bool) (k n rest : ℕ) → (k ≡ n → ⊥) → cond b k res
 first-clear true k n rest d e = absurd (d e)
 first-clear false k n rest d e = (refl, e)
 
-earlier-clear : (ks : List ℕ) (xs : List Test) (n : ℕ) → firstOf ks xs ≡ n → (m : ℕ) → among m (before n ks) ≡ true → Clear m xs
+pub earlier-clear : (ks : List ℕ) (xs : List Test) (n : ℕ) → firstOf ks xs ≡ n → (m : ℕ) → among m (before n ks) ≡ true → Clear m xs
 unfolding firstOf
 earlier-clear [] xs n e m h = absurd (false≢true h)
 earlier-clear (k ∷ ks) xs n e m h = go (eqb k n) refl h (earlier-clear ks xs n)
@@ -95,3 +95,21 @@ found (k ∷ ns) xs n h e = go (applies k xs) refl e (found ns xs n h)
 pub applied : (xs : List Test) (n : ℕ) → 0 < n → refusalOf xs ≡ n → applies n xs ≡ true
 unfolding refusalOf
 applied xs n h e = found order xs n h e
+
+-- and it is a number of the list
+pub found-among : (ns : List ℕ) (xs : List Test) (n : ℕ) → 0 < n → firstOf ns xs ≡ n → among n ns ≡ true
+unfolding firstOf
+found-among [] xs n h e = absurd (omega arith)
+found-among (k ∷ ns) xs n h e = go (applies k xs) e (found-among ns xs n h)
+  where
+    go : (b : Bool) → cond b k (firstOf ns xs) ≡ n → (firstOf ns xs ≡ n → among n ns ≡ true) → (eqb k n || among n ns) ≡ true
+    go true e more = or-left (eqb k n) (among n ns) (eq-eqb k n e)
+    go false e more = or-right (eqb k n) (among n ns) (more e)
+
+-- a number that is not in the list applies to no test whose refusals are
+pub absent : (ns : List ℕ) (xs : List Test) (n : ℕ) → ordered ns xs ≡ true → among n ns ≡ false → applies n xs ≡ false
+unfolding applies
+absent ns [] n o a = refl
+absent ns (x ∷ xs) n o a =
+    let oo = and-true (among (x .refusal) ns) (ordered ns xs) o in
+    rw (ne-eqb (x .refusal) n (λ e. false≢true (sym a ∙ ap (λ (m : ℕ). among m ns) (sym e) ∙ oo .0)), absent ns xs n (oo .1) a) refl

@@ -1,19 +1,26 @@
 -- Laws of a command and of the first n commands.
 --     after-accepted, after-refused     an accepted command has its effect; a refused one changes nothing
+--     tests-ordered                     the refusals of a command's tests are in the order
+--     first-member                      the first n commands are commands of the file
 --     reached-next, reached-end         the first n + 1 commands are the first n and then one, where there is one more
 -- Assumes nothing.
 use mathlib.Core.Path.{_≡_, refl, ap, _∙_}
 use mathlib.Core.Logic.{_⊎_, inl, inr, ⊎-elim}
+use mathlib.Core.Bool.{true}
 use mathlib.Core.List.{List, [], _∷_, _++_, reverse, reverseAux, List·Memᴰ, List·Memᴰ·head, List·Memᴰ·tail, List·Memᴰ·cases-cons}
 use mathlib.Core.Option.{none, some}
 use Prim.Native.Nat.{ℕ, zero, suc}
 use native.Mathlib.Omega.{arith}
 use lib.ListN.{take, getElem?}
 use borrow.Author.Tests.{eq-eqb, ne-eqb}
-use Rattle.rules.specs.File.{File, Command}
+use Rattle.rules.specs.Refusals.{order}
+use Rattle.rules.specs.File.{File, Command, hash, sign, certify, makeCredential, activateCredential, makeIdevidRequest, makeLdevidRequest, makePair, checkHash, checkSignature, checkCertificate, checkAttributes, send, selfIssue, challenge, issueIak, issueLak}
 use Rattle.rules.specs.Load.{commandsOf}
 use Rattle.rules.specs.State.{State, start}
-use Rattle.rules.specs.Run.{effectOf, outcome, after, run, firstCommands, reached}
+use Rattle.rules.specs.Device.{deviceRole, hashTests, signTests, certifyTests, makeCredentialTests, activateCredentialTests, bothKnownTests, sendTests, selfIssueTests, checkRole, checkTests}
+use Rattle.rules.specs.Desk.{formTests, proofTests, numberTests, challengeTests, calledFor, issueIakTests, issueLakTests}
+use Rattle.rules.specs.Run.{testsOf, effectOf, outcome, after, run, firstCommands, reached}
+use Rattle.theorems.proofs.Passing.{ordered}
 
 pub after-accepted : (f : File) (s : State) (c : Command) → outcome f s c ≡ 0 → after f s c ≡ effectOf f s c
 unfolding after
@@ -22,6 +29,26 @@ after-accepted f s c e = rw (eq-eqb (outcome f s c) 0 e)
 pub after-refused : (f : File) (s : State) (c : Command) → (outcome f s c ≡ 0 → ⊥) → after f s c ≡ s
 unfolding after
 after-refused f s c n = rw (ne-eqb (outcome f s c) 0 n)
+
+pub tests-ordered : (f : File) (s : State) (c : Command) → ordered order (testsOf f s c) ≡ true
+unfolding testsOf deviceRole hashTests signTests certifyTests makeCredentialTests activateCredentialTests bothKnownTests sendTests selfIssueTests checkRole checkTests challengeTests formTests proofTests numberTests issueIakTests calledFor issueLakTests
+tests-ordered f s (hash p r) = refl
+tests-ordered f s (sign p r) = refl
+tests-ordered f s (certify p r) = refl
+tests-ordered f s (makeCredential p r) = refl
+tests-ordered f s (activateCredential p r) = refl
+tests-ordered f s (makeIdevidRequest p r) = refl
+tests-ordered f s (makeLdevidRequest p r) = refl
+tests-ordered f s (makePair p r) = refl
+tests-ordered f s (checkHash p h t) = refl
+tests-ordered f s (checkSignature p t k) = refl
+tests-ordered f s (checkCertificate p c k) = refl
+tests-ordered f s (checkAttributes p k a) = refl
+tests-ordered f s (send p q t) = refl
+tests-ordered f s (selfIssue p r) = refl
+tests-ordered f s (challenge p q r) = refl
+tests-ordered f s (issueIak p q c r) = refl
+tests-ordered f s (issueLak p q r) = refl
 
 -- the commands in two parts
 pub run-append : (f : File) (xs ys : List Command) (s : State) → run f (xs ++ ys) s ≡ run f ys (run f xs s)
@@ -46,15 +73,27 @@ module _ {A : Type 0} where
   at-member (y ∷ xs) zero x e = List·Memᴰ·head (let h : x ≡ y = cc in h)
   at-member (y ∷ xs) (suc n) x e = List·Memᴰ·tail (at-member xs n x e)
 
+  take-member : (n : ℕ) (xs : List A) (x : A) → List·Memᴰ x (take n xs) → List·Memᴰ x xs
+  take-member zero xs x m = elim m [ ]
+  take-member (suc n) [] x m = elim m [ ]
+  take-member (suc n) (y ∷ xs) x m = ⊎-elim (λ h. List·Memᴰ·head h) (λ i. List·Memᴰ·tail (take-member n xs x i)) (List·Memᴰ·cases-cons m)
+
   reversed-member : (xs ys : List A) (x : A) → List·Memᴰ x (reverseAux xs ys) → List·Memᴰ x xs ⊎ List·Memᴰ x ys
   reversed-member [] ys x m = inr m
   reversed-member (y ∷ xs) ys x m =
       ⊎-elim (λ i. inl (List·Memᴰ·tail i)) (λ i. ⊎-elim (λ h. inl (List·Memᴰ·head h)) inr (List·Memᴰ·cases-cons i)) (reversed-member xs (y ∷ ys) x m)
 
 -- a command of the file's order is one of the file
-pub command-member : (f : File) (n : ℕ) (c : Command) → getElem? (commandsOf f) n ≡ some c → List·Memᴰ c (f .commands)
+in-file : (f : File) (c : Command) → List·Memᴰ c (commandsOf f) → List·Memᴰ c (f .commands)
 unfolding commandsOf
-command-member f n c e = ⊎-elim (λ i. i) (λ i. elim i [ ]) (reversed-member (f .commands) [] c (at-member (reverse (f .commands)) n c e))
+in-file f c m = ⊎-elim (λ i. i) (λ i. elim i [ ]) (reversed-member (f .commands) [] c m)
+
+pub command-member : (f : File) (n : ℕ) (c : Command) → getElem? (commandsOf f) n ≡ some c → List·Memᴰ c (f .commands)
+command-member f n c e = in-file f c (at-member (commandsOf f) n c e)
+
+pub first-member : (f : File) (n : ℕ) (c : Command) → List·Memᴰ c (firstCommands f n) → List·Memᴰ c (f .commands)
+unfolding firstCommands
+first-member f n c m = in-file f c (take-member n (commandsOf f) c m)
 
 pub reached-next : (f : File) (n : ℕ) (c : Command) → getElem? (commandsOf f) n ≡ some c → reached f (suc n) ≡ after f (reached f n) c
 unfolding reached firstCommands run

@@ -1,6 +1,7 @@
 //! Desk commands, 3E, 3F and 40: refusals 13 to 29 but 22.
 //!
-//! 22 cannot be built: a 19 signed by a desk's key becomes known only by an
+//! 22 is no refusal any more. A 40 whose parent is not in the ledger is 14 or
+//! 21 at the latest: a 19 signed by a desk's key first becomes known by an
 //! accepted 3F or 40, which puts it in the ledger.
 
 use crate::builder::*;
@@ -532,6 +533,36 @@ fn issue_lak_signer() {
 }
 
 #[test]
+fn issue_lak_parent_not_in_the_ledger() {
+    // Of a desk's key but not issued: all is as called for, but nobody can
+    // know the parent, so the request never reaches the desk.
+    let (b, n, l) = lak_asked();
+    for signer in [n.oem_private, n.owner_private] {
+        let mut b = b.clone();
+        let parent = b.certificate(n.iak, DEV, 201, signer);
+        let csr = b.ldevid(l.signed_attest, parent);
+        let hash = b.hash(csr);
+        let signature = b.signature(hash, l.private);
+        let request = b.pair(csr, signature);
+        let r = b.certificate(l.public, DEV, 201, n.owner_private);
+        for (kind, t, expected) in [
+            (0x3D, parent, 15),
+            (0x36, csr, 14),
+            (0x30, hash, 14),
+            (0x31, signature, 17),
+            (0x37, request, 14),
+        ] {
+            let at = b.act(kind, n.device, t);
+            refused_cleanly(&b, at, expected);
+        }
+        let at = b.send(n.device, n.owner, request);
+        refused_cleanly(&b, at, 14);
+        let last = b.issue_lak(n.owner, request, r);
+        refused_cleanly(&b, last, 14);
+    }
+}
+
+#[test]
 fn issue_lak_attributes() {
     for attributes in 0..16 {
         let (mut b, n) = honest();
@@ -554,7 +585,7 @@ fn issue_lak_attributes() {
         assert_eq!(b.outcome(last), expected, "LAK {attributes:x}");
     }
     // A parent of other attributes is never in the ledger, so it is 21 if its
-    // signer is no desk. (22 and the parent's 23 cannot be built.)
+    // signer is no desk. (The parent's 23 cannot be built.)
     let (mut b, n, l) = lak_asked();
     let own = b.private(60, 2);
     let parent = b.public(61, CA);

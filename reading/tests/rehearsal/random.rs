@@ -37,6 +37,7 @@ fn check(file: &[u8], n: usize) {
             assert_eq!(refusals, refused as usize);
             for outcome in &ran.outcomes {
                 assert!(*outcome == 0 || (13..=29).contains(outcome));
+                // No refusal any more, and the number is never used again.
                 assert_ne!(*outcome, 22);
             }
             assert_eq!(run_bytes(file, 0).state, state);

@@ -94,7 +94,7 @@ decide-issue-lak-requires : tie.Need-decide-issue-lak-requires
 decide-issue-lak-requires c κs =
     let p = c .before .before .before .before .before .before .before .before .pre in
     let e = two-read issueLak (issue-lak-there _ _ (lak-kind (p .3) (p .4) (c .before .before .before .if1 .left) (c .if2 .left))) (c .before .before .word-at3 .ensures) (c .before .word-at4 .ensures) in
-    (p .0, p .1, p .2, known-as (p .3) e, p .5)
+    (p .0, p .1, p .2, known-as (p .3) e, p .5, p .7)
 
 returns-3 : tie.Need-returns-3
 returns-3 c =

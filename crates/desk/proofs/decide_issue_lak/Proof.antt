@@ -20,7 +20,7 @@ use Rattle.loaded.proofs.Standing.{party-here, checked-here, term-here, kind-de
 use Rattle.desk.specs.Tests.{calledTests, attestTests, parentageTests}
 use Rattle.desk.proofs.Outcomes.{stops, form-goes, proof-goes, has-form}
 use Rattle.desk.proofs.Called.{called-goes}
-use Rattle.desk.proofs.IssueLak.{signatureAt, halfAt, lakAt, parentAt, Asked, asked, here, half-declared, lak-declared, parent-is, parent-entered, attest-goes, parentage-goes, attest-read, proof-read, parentage-read, called-read, entry-read, issue-lak-chain}
+use Rattle.desk.proofs.IssueLak.{signatureAt, halfAt, lakAt, parentAt, keyAt, signerAt, Asked, asked, here, half-declared, lak-declared, parent-is, key-declared, by-declared, parent-entered, attest-goes, parentage-goes, attest-read, proof-read, parentage-read, called-read, entry-read, issue-lak-chain}
 use Rattle.desk.proofs.decide_issue_lak.Statement.{statement}
 use Rattle.desk.proofs.decide_issue_lak.Tie as tie
 
@@ -137,7 +137,7 @@ parentage-requires : tie.Need-parentage-requires
 parentage-requires c κs =
     let p = c .before .before .before .before .before .before .before .before .before .before .before .before .before .before .before .before .pre in
     let w = asked-of (c .before .before .before) in
-    (p .0, p .1, p .2, rw (c .before .before .before .before .before .attested-by .ensures .1 (c .before .before .before .if4 .left) .1, c .before .before .before .before .before .before .ldevid-request-of .ensures .0, c .before .before .before .before .before .before .before .before .before .form .ensures .1 (c .before .before .before .before .before .before .before .if3 .left) .named) (half-declared (p .0) w), rw (c .before .before .before .before .before .attested-by .ensures .1 (c .before .before .before .if4 .left) .0, c .before .before .before .before .before .before .ldevid-request-of .ensures .0, c .before .before .before .before .before .before .before .before .before .form .ensures .1 (c .before .before .before .before .before .before .before .if3 .left) .named) (lak-declared (p .0) w), rw (c .before .before .before .before .before .before .ldevid-request-of .ensures .1, c .before .before .before .before .before .before .before .before .before .form .ensures .1 (c .before .before .before .before .before .before .before .if3 .left) .named) (parent-is (p .0) w), c .certificate-of .ensures .0, c .certificate-of .ensures .2)
+    (p .0, p .1, p .2, rw (c .before .before .before .before .before .attested-by .ensures .1 (c .before .before .before .if4 .left) .1, c .before .before .before .before .before .before .ldevid-request-of .ensures .0, c .before .before .before .before .before .before .before .before .before .form .ensures .1 (c .before .before .before .before .before .before .before .if3 .left) .named) (half-declared (p .0) w), rw (c .before .before .before .before .before .attested-by .ensures .1 (c .before .before .before .if4 .left) .0, c .before .before .before .before .before .before .ldevid-request-of .ensures .0, c .before .before .before .before .before .before .before .before .before .form .ensures .1 (c .before .before .before .before .before .before .before .if3 .left) .named) (lak-declared (p .0) w), rw (c .certificate-of .ensures .0, c .before .before .before .before .before .before .ldevid-request-of .ensures .1, c .before .before .before .before .before .before .before .before .before .form .ensures .1 (c .before .before .before .before .before .before .before .if3 .left) .named) (key-declared (p .0) w), rw (c .certificate-of .ensures .2, c .before .before .before .before .before .before .ldevid-request-of .ensures .1, c .before .before .before .before .before .before .before .before .before .form .ensures .1 (c .before .before .before .before .before .before .before .if3 .left) .named) (by-declared (p .0) w))
 
 returns-6 : tie.Need-returns-6
 returns-6 c n ledger e =
@@ -148,12 +148,12 @@ returns-6 c n ledger e =
     ∙ form-goes _ _ (passes-3 (c .before .before .before .before .before .before .before .before .before)) _ _ refl
     ∙ attest-goes _ _ _ (passes-4 (c .before .before .before .before .before))
     ∙ proof-goes _ _ (passes-5 (c .before .before .before)) _ _ refl
-    ∙ stops _ _ _ (parentage-read (fileIn (now (a .file))) (a .q) (c .before .before .before .before .before .before .before .before .before .before .before .form .ensures .1 (c .before .before .before .before .before .before .before .before .before .if3 .left) .named) (c .before .before .before .before .before .before .before .before .ldevid-request-of .ensures .0) (c .before .before .before .before .before .before .before .attested-by .ensures .1 (c .before .before .before .before .before .if4 .left) .0) (c .before .before .before .before .before .before .before .before .ldevid-request-of .ensures .1) (c .before .before .before .before .before .before .before .attested-by .ensures .1 (c .before .before .before .before .before .if4 .left) .1) ledger (c .before .parentage .ensures _ n ledger e)) (c .if6 .taken))
+    ∙ stops _ _ _ (parentage-read (fileIn (now (a .file))) (a .q) (c .before .before .before .before .before .before .before .before .before .before .before .form .ensures .1 (c .before .before .before .before .before .before .before .before .before .if3 .left) .named) (c .before .before .before .before .before .before .before .before .ldevid-request-of .ensures .0) (c .before .before .before .before .before .before .before .attested-by .ensures .1 (c .before .before .before .before .before .if4 .left) .0) (c .before .before .before .before .before .before .before .before .ldevid-request-of .ensures .1) (c .before .before .before .before .before .before .before .attested-by .ensures .1 (c .before .before .before .before .before .if4 .left) .1) (c .before .before .certificate-of .ensures .0) (c .before .before .certificate-of .ensures .2) (c .before .parentage .ensures)) (c .if6 .taken))
 
-passes-6 : (c : tie.Else6) → let a = c .before .before .before .before .before .before .before .before .before .before .before .before .before .before .before .before .before .before .args in (words : List ℕ) (n : ℕ) (ledger : List Entry) → Enters (now (a .tables)) words n ledger → chain (parentageTests (fileIn (now (a .file))) ledger (halfAt (fileIn (now (a .file))) (a .q)) (lakAt (fileIn (now (a .file))) (a .q)) (parentAt (fileIn (now (a .file))) (a .q))) ≡ 0
-passes-6 c words n ledger e =
+passes-6 : (c : tie.Else6) → let a = c .before .before .before .before .before .before .before .before .before .before .before .before .before .before .before .before .before .before .args in chain (parentageTests (fileIn (now (a .file))) (halfAt (fileIn (now (a .file))) (a .q)) (lakAt (fileIn (now (a .file))) (a .q)) (keyAt (fileIn (now (a .file))) (a .q)) (signerAt (fileIn (now (a .file))) (a .q))) ≡ 0
+passes-6 c =
     let a = c .before .before .before .before .before .before .before .before .before .before .before .before .before .before .before .before .before .before .args in
-    sym (parentage-read (fileIn (now (a .file))) (a .q) (c .before .before .before .before .before .before .before .before .before .before .before .form .ensures .1 (c .before .before .before .before .before .before .before .before .before .if3 .left) .named) (c .before .before .before .before .before .before .before .before .ldevid-request-of .ensures .0) (c .before .before .before .before .before .before .before .attested-by .ensures .1 (c .before .before .before .before .before .if4 .left) .0) (c .before .before .before .before .before .before .before .before .ldevid-request-of .ensures .1) (c .before .before .before .before .before .before .before .attested-by .ensures .1 (c .before .before .before .before .before .if4 .left) .1) ledger (c .before .parentage .ensures words n ledger e)) ∙ c .if6 .left
+    sym (parentage-read (fileIn (now (a .file))) (a .q) (c .before .before .before .before .before .before .before .before .before .before .before .form .ensures .1 (c .before .before .before .before .before .before .before .before .before .if3 .left) .named) (c .before .before .before .before .before .before .before .before .ldevid-request-of .ensures .0) (c .before .before .before .before .before .before .before .attested-by .ensures .1 (c .before .before .before .before .before .if4 .left) .0) (c .before .before .before .before .before .before .before .before .ldevid-request-of .ensures .1) (c .before .before .before .before .before .before .before .attested-by .ensures .1 (c .before .before .before .before .before .if4 .left) .1) (c .before .before .certificate-of .ensures .0) (c .before .before .certificate-of .ensures .2) (c .before .parentage .ensures)) ∙ c .if6 .left
 
 called-for-requires : tie.Need-called-for-requires
 called-for-requires c κs =
@@ -169,7 +169,7 @@ returns-7 c n ledger e =
     ∙ form-goes _ _ (passes-3 (c .before .before .before .before .before .before .before .before .before .before .before)) _ _ refl
     ∙ attest-goes _ _ _ (passes-4 (c .before .before .before .before .before .before .before))
     ∙ proof-goes _ _ (passes-5 (c .before .before .before .before .before)) _ _ refl
-    ∙ parentage-goes _ _ _ _ _ _ (passes-6 (c .before .before) _ n ledger e)
+    ∙ parentage-goes _ _ _ _ _ _ (passes-6 (c .before .before))
     ∙ stops _ _ _ (called-read (fileIn (now (a .file))) (a .q) (c .before .before .before .before .before .before .before .before .before .before .before .before .before .form .ensures .1 (c .before .before .before .before .before .before .before .before .before .before .before .if3 .left) .named) (c .before .before .before .before .before .before .before .before .before .before .ldevid-request-of .ensures .0) (c .before .before .before .before .before .before .before .before .before .attested-by .ensures .1 (c .before .before .before .before .before .before .before .if4 .left) .0) (c .before .before .before .before .before .before .before .before .before .before .ldevid-request-of .ensures .1) (a .party) (a .r) (c .before .before .before .before .certificate-of .ensures .1) (c .before .called-for .ensures)) (c .if7 .taken))
 
 passes-7 : (c : tie.Else7) → let a = c .before .before .before .before .before .before .before .before .before .before .before .before .before .before .before .before .before .before .before .before .args in chain (calledTests (fileIn (now (a .file))) (a .party) (a .r) (lakAt (fileIn (now (a .file))) (a .q)) (subject (fileIn (now (a .file))) (parentAt (fileIn (now (a .file))) (a .q)))) ≡ 0
@@ -184,7 +184,7 @@ entry-allowed-requires c κs =
     let few = checked-here (p .0) .fewTerms in
     let issued = kind-declared _ (p .3 .1) (λ e. omega arith) in
     let known = kind-declared _ (parent-is (p .0) w) (λ e. omega arith) in
-    let m = parent-entered _ _ _ _ (p .4 .2) (passes-6 (c .before .before) _ _ _ (p .4 .2)) in
+    let m = parent-entered (p .0) w _ (p .5) (p .4 .2) (passes-2 (c .before .before .before .before .before .before .before .before .before .before .before .before .before .before)) (passes-6 (c .before .before)) in
     rw (c .before .before .before .before .before .before .before .before .before .before .ldevid-request-of .ensures .1, c .before .before .before .before .before .before .before .before .before .before .before .before .before .form .ensures .1 (c .before .before .before .before .before .before .before .before .before .before .before .if3 .left) .named) (omega (arith, few, issued), omega (arith, few, known), m .0, m .1)
 
 returns-8 : tie.Need-returns-8
@@ -196,7 +196,7 @@ returns-8 c n ledger e =
     ∙ form-goes _ _ (passes-3 (c .before .before .before .before .before .before .before .before .before .before .before .before)) _ _ refl
     ∙ attest-goes _ _ _ (passes-4 (c .before .before .before .before .before .before .before .before))
     ∙ proof-goes _ _ (passes-5 (c .before .before .before .before .before .before)) _ _ refl
-    ∙ parentage-goes _ _ _ _ _ _ (passes-6 (c .before .before .before) _ n ledger e)
+    ∙ parentage-goes _ _ _ _ _ _ (passes-6 (c .before .before .before))
     ∙ called-goes _ _ _ _ _ _ refl (passes-7 (c .before))
     ∙ sym (entry-read (fileIn (now (a .file))) (a .q) (c .before .before .before .before .before .before .before .before .before .before .before .before .before .before .form .ensures .1 (c .before .before .before .before .before .before .before .before .before .before .before .before .if3 .left) .named) (c .before .before .before .before .before .before .before .before .before .before .before .ldevid-request-of .ensures .0) (c .before .before .before .before .before .before .before .before .before .before .attested-by .ensures .1 (c .before .before .before .before .before .before .before .before .if4 .left) .0) (c .before .before .before .before .before .before .before .before .before .before .before .ldevid-request-of .ensures .1) ledger (a .r) (c .entry-allowed .ensures n ledger e)))
 

@@ -95,7 +95,7 @@ effect-issue-lak-requires : tie.Need-effect-issue-lak-requires
 effect-issue-lak-requires c κs =
     let p = c .before .before .before .before .before .before .before .before .before .before .before .pre in
     let e = two-read issueLak (issue-lak-there _ _ (lak-kind (p .command) (p .isDesk) (c .before .before .before .before .before .before .if1 .left) (c .before .before .before .if2 .left))) (c .before .before .before .before .before .word-at3 .ensures) (c .before .before .before .before .word-at4 .ensures) in
-    (p .holds, known-as (p .command) e, accepts-as _ _ e (p .accepts), p .keys)
+    (p .holds, known-as (p .command) e, accepts-as _ _ e (p .accepts), p .keys, p .parents)
 
 add-result-2 : tie.Need-add-result-2
 add-result-2 c = search needs

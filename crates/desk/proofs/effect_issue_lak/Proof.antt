@@ -1,8 +1,7 @@
 use native.Mathlib.Omega.{arith}
 use borrow.Author.Needs.{needs}
 use Rattle.loaded.proofs.Standing.{checked-here, kind-declared, term-here, left-declared, ldevid-certificate-declared}
-use Rattle.loaded.proofs.Ledger.{entry-most, column-some}
-use Rattle.desk.proofs.Issued.{lak-accepted, lak-issued}
+use Rattle.desk.proofs.Issued.{lak-accepted, lak-noted, lak-issued}
 use Rattle.desk.proofs.effect_issue_lak.Statement.{statement}
 use Rattle.desk.proofs.effect_issue_lak.Tie as tie
 
@@ -10,21 +9,21 @@ pair-of-requires : tie.Need-pair-of-requires
 pair-of-requires c κs =
     let p = c .before .before .before .pre in
     let t = lak-accepted (p .2) in
-    (term-here (p .0) (p .1 .2), t .pair)
+    (term-here (p .0) (p .1 .2), t .parent .pair)
 
 ldevid-request-of-requires : tie.Need-ldevid-request-of-requires
 ldevid-request-of-requires c κs =
     let p = c .before .before .before .before .before .pre in
     let t = lak-accepted (p .2) in
-    rw (c .before .pair-of .ensures .0) (term-here (p .0) (left-declared (p .0) (p .1 .2) (t .pair)), t .body)
+    rw (c .before .pair-of .ensures .0) (term-here (p .0) (left-declared (p .0) (p .1 .2) (t .parent .pair)), t .parent .body)
 
 depth-of-requires : tie.Need-depth-of-requires
 depth-of-requires c κs =
     let p = c .before .before .before .before .before .before .before .before .pre in
     let t = lak-accepted (p .2) in
     let few = checked-here (p .0) .fewTerms in
-    let m = ldevid-certificate-declared (p .0) (left-declared (p .0) (p .1 .2) (t .pair)) (t .body) in
-    rw (c .before .before .ldevid-request-of .ensures .1, c .before .before .before .before .pair-of .ensures .0) (omega (arith, few, m), column-some _ (p .2 .enters) (t .parent), entry-most _ (p .2 .enters))
+    let m = ldevid-certificate-declared (p .0) (left-declared (p .0) (p .1 .2) (t .parent .pair)) (t .parent .body) in
+    rw (c .before .before .ldevid-request-of .ensures .1, c .before .before .before .before .pair-of .ensures .0) (omega (arith, few, m), lak-noted (p .2) (p .4) .0, lak-noted (p .2) (p .4) .1)
 
 learn-requires : tie.Need-learn-requires
 learn-requires c κs =
@@ -46,7 +45,7 @@ append-requires c κs =
     let t = lak-accepted (p .2) in
     let few = checked-here (p .0) .fewTerms in
     let l = kind-declared _ (p .1 .1) (λ x. omega arith) in
-    let m = ldevid-certificate-declared (p .0) (left-declared (p .0) (p .1 .2) (t .pair)) (t .body) in
+    let m = ldevid-certificate-declared (p .0) (left-declared (p .0) (p .1 .2) (t .parent .pair)) (t .parent .body) in
     (p .3, p .2 .enters .room, p .2 .more, omega (arith, few, l), rw (c .before .before .before .before .before .before .before .before .before .ldevid-request-of .ensures .1, c .before .before .before .before .before .before .before .before .before .before .before .pair-of .ensures .0) (omega (arith, few, m)))
 
 same-length : tie.Need-same-length
