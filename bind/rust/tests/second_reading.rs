@@ -187,7 +187,9 @@ fn every_call_agrees() {
         seen.refusals,
         seen.outcomes
     );
-    // The comparison is worth something: each refusal and each outcome but 22 occurred.
+    // 22 is no refusal any more.
+    assert_eq!(seen.outcomes[22], 0);
+    // The comparison is worth something: each refusal and each outcome occurred.
     if seeds >= SEEDS && first == 0 {
         for number in (1..=12).chain([30]) {
             assert!(seen.refusals[number] > 0, "no refusal {number}");

@@ -9,11 +9,10 @@
 --     issue-lak-chain                        the outcome as a chain of its tests, part by part
 -- Assumes nothing.
 use mathlib.Core.Path.{_≡_, refl, ap, _∙_}
-use mathlib.Core.Bool.{Bool, true, false}
+use mathlib.Core.Bool.{true, false}
 use mathlib.Core.List.{List, _∷_, _++_}
 use Prim.Native.Nat.{ℕ, _+_, _<_, _≤_}
 use native.Mathlib.Omega.{arith}
-use lib.Dec.{eqb}
 use lib.ListN.{length}
 use Rattle.rules.specs.declared.Entry.{Entry}
 use Rattle.rules.specs.declared.Subject.{Subject}
@@ -21,7 +20,7 @@ use Rattle.rules.specs.declared.Term.the-variants.{Signature, Attest}
 use Rattle.rules.specs.Limits.{ownerDesk, termLimit}
 use Rattle.rules.specs.Refusals.{Test, need}
 use Rattle.rules.specs.Term.{hashKind, signatureKind, attestKind, ldevidRequestKind, certificateKind}
-use Rattle.rules.specs.File.{File, issueLak, isRole, term, kind, isKind, message, signingKey, attestedKey, ldevidMessage, ldevidCertificate, certifiedKey, signer, leftOf, subject, paired}
+use Rattle.rules.specs.File.{File, issueLak, isRole, term, kind, isKind, message, signingKey, attestedKey, ldevidMessage, ldevidCertificate, certifiedKey, signer, leftOf, subject}
 use Rattle.rules.specs.State.{State}
 use Rattle.rules.specs.Desk.{requestBody, requestSignature, formTests, proofTests, calledFor, attestSignatureOf, lakOf, parentCertificateOf, issueLakTests}
 use Rattle.rules.specs.Run.{testsOf, outcome}
@@ -29,7 +28,7 @@ use Rattle.theorems.proofs.Requests.{DeskParent}
 use Rattle.state.specs.View.{view}
 use Rattle.tables.specs.Regions.{tablesIn}
 use Rattle.loaded.specs.Chain.{chain}
-use Rattle.loaded.specs.Loaded.{fileIn, Holds, Finds, TermHere}
+use Rattle.loaded.specs.Loaded.{fileIn, Holds, TermHere}
 use Rattle.loaded.specs.Entries.{Enters}
 use Rattle.loaded.proofs.Chain.{in-order, chain-none, chain-passes, chain-fails, chain-rest}
 use Rattle.loaded.proofs.Standing.{checked-here, term-here, kind-declared, signing-key-declared, certified-key-declared, signer-declared}

@@ -6,14 +6,13 @@
 --     iak-issued, lak-issued      3F, 40
 -- Assumes nothing.
 use mathlib.Core.Path.{_≡_, refl, sym, ap, _∙_}
-use mathlib.Core.Bool.{true, false}
+use mathlib.Core.Bool.{false}
 use mathlib.Core.List.{List, [], _∷_, _++_}
 use Prim.Native.Nat.{ℕ, _+_, _<_, _≤_}
 use borrow.Author.Tests.{eqb-true, leb-true, not-true}
 use Rattle.rules.specs.declared.Entry.{Entry}
 use Rattle.rules.specs.Limits.{termLimit, depthLimit}
-use Rattle.rules.specs.Term.{ldevidRequestKind, pairKind}
-use Rattle.rules.specs.File.{File, challenge, issueIak, issueLak, kind, credentialNumber, idevidCertificate, ldevidCertificate, leftOf}
+use Rattle.rules.specs.File.{File, challenge, issueIak, issueLak, credentialNumber, idevidCertificate, ldevidCertificate, leftOf}
 use Rattle.rules.specs.State.{State, numberUsed, credentialOpen, credentialClosed, put, listed, depthOf, learnt, opening, closing, entered}
 use Rattle.rules.specs.Desk.{requestBody, formTests, proofTests, ekCertificateOf, parentCertificateOf, calledFor, challengeEffect, issueIakTests, issueIakEffect, issueLakTests, issueLakEffect}
 use Rattle.rules.specs.Run.{testsOf, outcome, effectOf}

@@ -2,8 +2,9 @@
 use mathlib.Core.Path.{_≡_, refl}
 use mathlib.Core.List.{List, [], _∷_, _++_}
 use Prim.Native.Nat.{ℕ, zero, suc, _+_, _*_}
+use Rattle.rules.specs.Load.{load}
 use Rattle.rules.specs.Listing.{listing}
-use Rattle.rules.proofs.Computed.{Result, ran, notLoaded, result}
+use Rattle.rules.proofs.Computed.{Result, ran, notLoaded, result, withLedger, outcomesUnlisted}
 use Rattle.rules.proofs.Records.{Bytes, written, aDevice, aTpmMaker, anOemDesk, anOwnerDesk, tpm, device, publicKey, privateKey, hash, signature, attest, credential, number, idevidRequest, ldevidRequest, certificate, pair, learns, holds, signsWith, makeHash, sign, certify, makeCredential, activateCredential, makeIdevidRequest, makeLdevidRequest, makePair, send, challenge, issueIak, issueLak}
 
 -- A file and what it gives.
@@ -472,6 +473,14 @@ sameLak = record {
 sameLak-holds : Holds sameLak
 unfolding result
 sameLak-holds = refl
+
+-- 40 does not ask, under any number, whether its parent is listed: command 16, the 40 of the honest LAK, with an empty ledger.
+abbrev honestLak : Bytes
+honestLak = withOwner (laksTerms 1) (laksHeld 1) (laksCommands 1)
+
+parent-unasked : outcomesUnlisted 16 (load honestLak) ≡ 0 ∷ []
+unfolding result outcomesUnlisted withLedger
+parent-unasked = refl
 
 -- A Restricted key that signs a private key of its TPM, itself.
 abbrev privateSigned : Situation

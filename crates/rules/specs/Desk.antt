@@ -110,7 +110,8 @@ lakOf f q = attestedKey f (message f (attestSignatureOf f q))
 unfoldable pub parentCertificateOf : File → ℕ → ℕ
 parentCertificateOf f q = ldevidCertificate f (requestBody f q)
 
--- 40 (owner desk p, request q, certificate r)
+-- 40 (owner desk p, request q, certificate r). That the parent "is in the ledger" is no test: whatever commands came before, it is
+-- wherever the tests up to 21 pass (request 5 of document 02).
 unfoldable pub issueLakTests : File → State → ℕ → ℕ → ℕ → List Test
 issueLakTests f s p q r =
     (need 13 (isRole f ownerDesk p) ∷ need 14 (s .knows p q) ∷ [])

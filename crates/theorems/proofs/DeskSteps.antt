@@ -3,7 +3,7 @@
 use mathlib.Core.Path.{_≡_, refl, sym, ap, subst, subst⁻¹, _∙_}
 use mathlib.Core.Logic.{_⊎_, inl, inr, ⊎-elim}
 use mathlib.Core.Bool.{true}
-use mathlib.Core.List.{List, [], _∷_, List·Memᴰ, List·Memᴰ·head, List·Memᴰ·tail}
+use mathlib.Core.List.{[], _∷_, List·Memᴰ, List·Memᴰ·head, List·Memᴰ·tail}
 use Prim.Native.Nat.{ℕ, _+_, _<_}
 use native.Mathlib.Omega.{arith}
 use native.Mathlib.Decide.{ℕ-discrete}
@@ -16,7 +16,7 @@ use Rattle.rules.specs.Limits.{device, tpmMaker, oemDesk, ownerDesk, partyLimit
 use Rattle.rules.specs.Attributes as flag
 use Rattle.rules.specs.Attributes.{has, iakAttributes}
 use Rattle.rules.specs.Term.{signatureKind, attestKind, credentialKind, numberKind, idevidRequestKind, ldevidRequestKind, pairKind}
-use Rattle.rules.specs.File.{File, signsWith, challenge, issueIak, issueLak, roleOf, kind, attributes, subject, message, signingKey, certifiedKey, signer, credentialNumber, idevidCertificate, idevidKey, ldevidMessage, ldevidCertificate, leftOf, rightOf, paired}
+use Rattle.rules.specs.File.{File, signsWith, challenge, issueIak, issueLak, roleOf, kind, attributes, subject, message, signingKey, certifiedKey, signer, credentialNumber, idevidCertificate, idevidKey, ldevidMessage, ldevidCertificate, leftOf, paired}
 use Rattle.rules.specs.State.{State, numberUsed, credentialOpen, credentialClosed, listed, depthOf, put, learnt, opening, closing, entered}
 use Rattle.rules.specs.Desk.{requestBody, formTests, proofTests, numberTests, iakOf, ekCertificateOf, ekOf, challengeTests, challengeEffect, calledFor, issueIakTests, issueIakEffect, attestSignatureOf, lakOf, parentCertificateOf, issueLakTests, issueLakEffect}
 use Rattle.rules.specs.Run.{testsOf, effectOf, outcome}
@@ -25,7 +25,7 @@ use Rattle.theorems.proofs.Passing.{Passed, passed}
 use Rattle.theorems.proofs.Inside.{inside-none, first-part}
 use Rattle.theorems.proofs.Learning.{learn-kept, learn-own, learn-only}
 use Rattle.theorems.proofs.Loading.{Checked, Wellformed}
-use Rattle.theorems.proofs.Terms.{isKind-kind, isRole-role, same-attributes, same-subject, device-subject, pair-kinds, pair-attributes, parts-credential, parts-idevidRequest, parts-ldevidRequest, parts-pair, signs-given, signs-role-given}
+use Rattle.theorems.proofs.Terms.{isKind-kind, isRole-role, same-attributes, same-subject, device-subject, pair-kinds, pair-attributes, parts-credential, parts-idevidRequest, parts-ldevidRequest, signs-given, signs-role-given}
 use Rattle.theorems.proofs.Ledgers.{Listing, at-kept, at-below, listed-kept, listed-last, listed-found}
 use Rattle.theorems.proofs.Knowers.{sole}
 use Rattle.theorems.proofs.Invariant.{DeviceHolds, KnownToDevice, Attested, Secret, Open, EntryGood, Invariant, Fresh, Gained, Step}

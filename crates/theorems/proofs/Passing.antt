@@ -26,7 +26,7 @@ among n [] = false
 among n (m ∷ ms) = eqb m n || among n ms
 
 -- the numbers before n
-abbrev before : ℕ → List ℕ → List ℕ
+abbrev pub before : ℕ → List ℕ → List ℕ
 before n [] = []
 before n (k ∷ ks) = cond (eqb k n) [] (k ∷ before n ks)
 

@@ -3,26 +3,23 @@
 --     same-outcome          past 21 the certificate in the request is listed, so the check passes where it is looked for
 --     same-run              the commands one after the other
 -- Assumes nothing.
-use mathlib.Core.Path.{_≡_, refl, sym, ap, subst, _∙_}
+use mathlib.Core.Path.{_≡_, refl, sym, subst, _∙_}
 use mathlib.Core.Logic.{⊎-elim}
 use mathlib.Core.Bool.{Bool, true, false, false≢true, cond, not, _&&_, _||_}
 use mathlib.Core.List.{List, [], _∷_, _++_, List·Memᴰ, List·Memᴰ·head, List·Memᴰ·tail, List·Memᴰ·cases-cons}
 use Prim.Native.Nat.{ℕ}
-use native.Mathlib.Omega.{arith}
-use lib.Dec.{eqb, leb}
-use lib.ListN.{length}
+use lib.Dec.{eqb}
 use borrow.Author.Tests.{eqb-false, ne-eqb}
-use Rattle.rules.specs.Limits.{fileLimit, pathPlaces}
 use Rattle.rules.specs.Refusals.{Test, need, order, applies, firstOf, refusalOf}
 use Rattle.rules.specs.Term.{ldevidRequestKind, pairKind}
 use Rattle.rules.specs.File.{File, Command, hash, sign, certify, makeCredential, activateCredential, makeIdevidRequest, makeLdevidRequest, makePair, checkHash, checkSignature, checkCertificate, checkAttributes, send, selfIssue, challenge, issueIak, issueLak, leftOf}
 use Rattle.rules.specs.Load.{Load, loaded, refused, load}
 use Rattle.rules.specs.State.{State, start, listed}
-use Rattle.rules.specs.Desk.{requestBody, formTests, proofTests, calledFor, parentCertificateOf, issueLakTests}
-use Rattle.rules.specs.Run.{testsOf, effectOf, outcome, after, run, outcomes, firstCommands, reached, outcomesOf, accepted, refusals, issued}
-use Rattle.rules.specs.Lent.{Answer, refusal, Lent, longEnough, answered, runAnswer, leaves, runLeaves, found, pathAnswered, pathAnswer, pathBuffers, pathWritten, pathListed, pathLeaves}
-use Rattle.theorems.specs.Refusal22.{orderWith22, check22, testsWith22, outcomeWith22, afterWith22, runWith22, outcomesWith22, reachedWith22, outcomesOfWith22, answeredWith22, runAnswerWith22, leavesWith22, runLeavesWith22, pathAnsweredWith22, pathAnswerWith22, pathBuffersWith22, pathListedWith22, pathLeavesWith22, Never22, Same, SameWithout22}
-use Rattle.theorems.proofs.Passing.{among, Clear, earlier-clear, absent}
+use Rattle.rules.specs.Desk.{requestBody, formTests, proofTests, parentCertificateOf, issueLakTests}
+use Rattle.rules.specs.Run.{testsOf, outcome, after, run, outcomes, firstCommands, reached, outcomesOf, accepted, refusals, issued}
+use Rattle.rules.specs.Lent.{Lent, answered, runAnswer, leaves, runLeaves, found, pathAnswered, pathAnswer, pathBuffers, pathWritten, pathListed, pathLeaves}
+use Rattle.theorems.specs.Refusal22.{orderWith22, check22, testsWith22, outcomeWith22, afterWith22, runWith22, outcomesWith22, reachedWith22, outcomesOfWith22, answeredWith22, runAnswerWith22, leavesWith22, runLeavesWith22, pathAnsweredWith22, pathAnswerWith22, pathBuffersWith22, pathListedWith22, pathLeavesWith22, Never22, SameWithout22}
+use Rattle.theorems.proofs.Passing.{among, before, Clear, earlier-clear, absent}
 use Rattle.theorems.proofs.Loading.{Checked, checked, Wellformed}
 use Rattle.theorems.proofs.Terms.{isKind-kind}
 use Rattle.theorems.proofs.Running.{tests-ordered, first-member}
@@ -32,7 +29,7 @@ use Rattle.theorems.proofs.Reaching.{start-invariant, after-invariant}
 use Rattle.theorems.proofs.Laws.{never-22}
 
 -- an order without a number that applies only where one before it does
-left-out : (before later : List ℕ) (n : ℕ) (xs : List Test) → (firstOf before xs ≡ 0 → applies n xs ≡ false) → firstOf (before ++ (n ∷ later)) xs ≡ firstOf (before ++ later) xs
+left-out : (earlier later : List ℕ) (n : ℕ) (xs : List Test) → (firstOf earlier xs ≡ 0 → applies n xs ≡ false) → firstOf (earlier ++ (n ∷ later)) xs ≡ firstOf (earlier ++ later) xs
 unfolding firstOf
 left-out [] later n xs h = rw (h refl) refl
 left-out (k ∷ ks) later n xs h = go (applies k xs) h (left-out ks later n xs)
@@ -54,12 +51,16 @@ unasked (k ∷ ks) x xs e = go (eqb k (x .refusal)) refl e (unasked ks x xs)
     go true d e more = absurd (false≢true (sym e))
     go false d e more = rw (ne-eqb (x .refusal) k (λ i. eqb-false k (x .refusal) d (sym i)), more e) refl
 
--- the numbers before 22
+-- the numbers before 22, and those after it
 abbrev early : List ℕ
-early = 13 ∷ 14 ∷ 15 ∷ 16 ∷ 17 ∷ 18 ∷ 19 ∷ 20 ∷ 21 ∷ []
+early = before 22 orderWith22
+
+abbrev beyond : ℕ → List ℕ → List ℕ
+beyond n [] = []
+beyond n (k ∷ ks) = cond (eqb k n) ks (beyond n ks)
 
 abbrev late : List ℕ
-late = 23 ∷ 24 ∷ 25 ∷ 26 ∷ 27 ∷ 28 ∷ 29 ∷ []
+late = beyond 22 orderWith22
 
 -- 22 may be left out of the order where the check passes whenever it is looked for, and where there is no check
 unlooked : (xs : List Test) → (firstOf early xs ≡ 0 → applies 22 xs ≡ false) → firstOf orderWith22 xs ≡ refusalOf xs
@@ -138,17 +139,17 @@ module _ (f : File) (ck : Checked f) where
   unfolding reachedWith22 reached outcomesOfWith22 outcomesOf
   same-first n = same-run (firstCommands f n) (λ c m. ck .wellformed c (first-member f n c m)) (start f) (start-invariant f ck)
 
-  -- an outcome is that of some command in some state
-  none-22 : (cs : List Command) (s : State) → List·Memᴰ 22 (outcomes f cs s) → ⊥
-  unfolding outcomes
-  none-22 [] s m = elim m [ ]
-  none-22 (c ∷ cs) s m = ⊎-elim (λ e. never-22 f s c (sym e)) (none-22 cs (after f s c)) (List·Memᴰ·cases-cons m)
+-- an outcome is that of some command in some state
+none-22 : (f : File) (cs : List Command) (s : State) → List·Memᴰ 22 (outcomes f cs s) → ⊥
+unfolding outcomes
+none-22 f [] s m = elim m [ ]
+none-22 f (c ∷ cs) s m = ⊎-elim (λ e. never-22 f s c (sym e)) (none-22 f cs (after f s c)) (List·Memᴰ·cases-cons m)
 
 pub never22 : Never22
 unfolding outcomesOf
 never22 bytes f loads n m =
     let ck = checked bytes f loads in
-    none-22 f ck (firstCommands f n) (start f) (subst (List·Memᴰ 22) (same-first f ck n .1) m)
+    none-22 f (firstCommands f n) (start f) (subst (List·Memᴰ 22) (same-first f ck n .1) m)
 
 module _ (bytes : List ℕ) (n : ℕ) where
   same-answered : (l : Load) → load bytes ≡ l → answeredWith22 n l ≡ answered n l

@@ -1,11 +1,8 @@
 use borrow.Author.Tests.{not-true, not-false}
 use mathlib.Core.Path.{_≡_, refl, sym, _∙_}
 use mathlib.Core.Bool.{true}
-use mathlib.Core.List.{List}
-use Prim.Native.Nat.{ℕ}
 use native.Mathlib.Omega.{arith}
 use denote.Ref.{now}
-use Rattle.rules.specs.declared.Entry.{Entry}
 use Rattle.rules.specs.Limits.{ownerDesk}
 use Rattle.rules.specs.Term.{ldevidRequestKind}
 use Rattle.rules.specs.File.{isRole, subject}
@@ -14,7 +11,6 @@ use Rattle.state.specs.View.{view}
 use Rattle.state.proofs.Exact.{stateOf}
 use Rattle.loaded.specs.Chain.{chain}
 use Rattle.loaded.specs.Loaded.{fileIn}
-use Rattle.loaded.specs.Entries.{Enters}
 use Rattle.loaded.proofs.Chain.{chain-passes, chain-fails}
 use Rattle.loaded.proofs.Standing.{party-here, checked-here, term-here, kind-declared, ldevid-message-declared}
 use Rattle.desk.specs.Tests.{calledTests, attestTests, parentageTests}

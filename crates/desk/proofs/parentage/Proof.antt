@@ -2,11 +2,14 @@ use borrow.Author.Needs.{needs}
 use borrow.Author.Tests.{not-true, not-false}
 use mathlib.Core.Path.{_≡_, refl, sym, ap, _∙_}
 use mathlib.Core.Bool.{true, _||_}
+use mathlib.Core.List.{List, _∷_}
 use native.Mathlib.Omega.{arith}
 use denote.Ref.{now}
 use Rattle.rules.specs.Limits.{oemDesk, ownerDesk}
+use Rattle.rules.specs.Refusals.{Test, need}
 use Rattle.rules.specs.Attributes.{sameAttributes, iakAttributes}
 use Rattle.rules.specs.File.{attributes, paired, signsForRole}
+use Rattle.loaded.specs.Chain.{chain}
 use Rattle.loaded.specs.Loaded.{fileIn}
 use Rattle.loaded.proofs.Chain.{chain-none, chain-passes, chain-fails}
 use Rattle.loaded.proofs.Halves.{pair-read}
@@ -68,20 +71,21 @@ iak-requires-2 c κs = search needs
 has-exactly-requires-2 : tie.Need-has-exactly-requires-2
 has-exactly-requires-2 c κs = let p = c .before .before .before .before .before .before .before .before .before .before .pre in term-here (p .0) (p .5)
 
+-- the tests but for the last
+first-three : (c : tie.Else3) (xs : List Test) → let a = c .before .before .before .before .before .before .before .before .before .args in
+    chain (need 20 (paired (fileIn (now (a .file))) (a .certificate .key) (a .half)) ∷ need 21 (signsForRole (fileIn (now (a .file))) oemDesk (a .certificate .signer) || signsForRole (fileIn (now (a .file))) ownerDesk (a .certificate .signer)) ∷ need 23 (sameAttributes (attributes (fileIn (now (a .file))) (a .lak)) iakAttributes) ∷ xs) ≡ chain xs
+first-three c xs = chain-passes 20 _ _ (passes-1 (c .before .before .before .before .before)) ∙ chain-passes 21 _ _ (passes-2 (c .before .before .before)) ∙ chain-passes 23 _ _ (passes-3 c)
+
 returns-4 : tie.Need-returns-4
 returns-4 c =
     let a = c .before .before .before .before .before .before .before .before .before .before .before .before .args in
-    sym (chain-passes 20 _ _ (passes-1 (c .before .before .before .before .before .before .before .before))
-    ∙ chain-passes 21 _ _ (passes-2 (c .before .before .before .before .before .before))
-    ∙ chain-passes 23 _ _ (passes-3 (c .before .before .before))
+    sym (first-three (c .before .before .before) _
     ∙ chain-fails 23 _ _ (ap (sameAttributes (attributes (fileIn (now (a .file))) (a .certificate .key))) (sym (c .before .before .iak2 .ensures)) ∙ sym (c .before .has-exactly2 .ensures) ∙ not-true _ (c .if4 .taken)))
 
 returns-5 : tie.Need-returns-5
 returns-5 c =
     let a = c .before .before .before .before .before .before .before .before .before .before .before .before .args in
-    sym (chain-passes 20 _ _ (passes-1 (c .before .before .before .before .before .before .before .before))
-    ∙ chain-passes 21 _ _ (passes-2 (c .before .before .before .before .before .before))
-    ∙ chain-passes 23 _ _ (passes-3 (c .before .before .before))
+    sym (first-three (c .before .before .before) _
     ∙ chain-passes 23 _ _ (ap (sameAttributes (attributes (fileIn (now (a .file))) (a .certificate .key))) (sym (c .before .before .iak2 .ensures)) ∙ sym (c .before .has-exactly2 .ensures) ∙ not-false _ (c .if4 .left))
     ∙ chain-none)
 
