@@ -183,7 +183,7 @@ same-without-22 bytes n lent t list = record {
   state = rw (same-buffers bytes n lent) refl;
   ledger = rw (same-buffers bytes n lent) refl;
   outcomes = rw (same-buffers bytes n lent) refl;
-  pathAnswer = rw (same-path bytes n t (load bytes) refl) refl;
-  pathBuffers = rw (same-buffers bytes n lent) refl;
-  pathList = rw (same-list bytes n t list (load bytes) refl) refl;
+  answerOfPath = rw (same-path bytes n t (load bytes) refl) refl;
+  buffersOfPath = rw (same-buffers bytes n lent) refl;
+  listOfPath = rw (same-list bytes n t list (load bytes) refl) refl;
 }

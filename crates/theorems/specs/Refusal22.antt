@@ -1,5 +1,5 @@
 -- Refusal 22, "not in the ledger", which request 5 of document 02 took out: the commands with its check as they were, Run and Path by them,
--- and the two statements by which it went. Document 01 and the rules have neither the check nor the number.
+-- and the two statements by which it went. The rules have neither the check nor the number.
 use mathlib.Core.Path.{_≡_}
 use mathlib.Core.Bool.{cond, _&&_}
 use mathlib.Core.List.{List, [], _∷_, _++_, List·Memᴰ}
@@ -112,9 +112,9 @@ pub record Same (bytes : List ℕ) (n : ℕ) (lent : Lent) (t : ℕ) (list : Lis
   pub state : runLeavesWith22 bytes n lent .state ≡ runLeaves bytes n lent .state
   pub ledger : runLeavesWith22 bytes n lent .ledger ≡ runLeaves bytes n lent .ledger
   pub outcomes : runLeavesWith22 bytes n lent .outcomes ≡ runLeaves bytes n lent .outcomes
-  pub pathAnswer : pathAnswerWith22 bytes n lent t list ≡ Rattle.rules.specs.Lent.pathAnswer bytes n lent t list
-  pub pathBuffers : pathBuffersWith22 bytes n lent t list ≡ Rattle.rules.specs.Lent.pathBuffers bytes n lent t list
-  pub pathList : pathLeavesWith22 bytes n lent t list ≡ pathLeaves bytes n lent t list
+  pub answerOfPath : pathAnswerWith22 bytes n lent t list ≡ pathAnswer bytes n lent t list
+  pub buffersOfPath : pathBuffersWith22 bytes n lent t list ≡ pathBuffers bytes n lent t list
+  pub listOfPath : pathLeavesWith22 bytes n lent t list ≡ pathLeaves bytes n lent t list
 
 -- of any bytes, and so of every file that loads, any n and any buffers
 abbrev pub SameWithout22 : Type 0
