@@ -12,7 +12,7 @@ use Rattle.rules.specs.File.{File, subject}
 use Rattle.rules.specs.Desk.{calledFor}
 use Rattle.loaded.specs.Chain.{chain}
 use Rattle.loaded.proofs.Chain.{chain-rest}
-use Rattle.desk.specs.Tests.{calledTests}
+use Rattle.requests.specs.Tests.{calledTests}
 
 module _ (f : File) (desk r key : ℕ) (wanted : Subject) where
   pub called-tests : (from : ℕ) → wanted ≡ subject f from → calledTests f desk r key wanted ≡ calledFor f desk r key from

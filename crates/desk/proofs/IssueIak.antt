@@ -15,7 +15,7 @@ use Rattle.rules.specs.Desk.{requestBody, iakOf, calledFor, issueIakTests}
 use Rattle.rules.specs.Run.{testsOf, outcome}
 use Rattle.loaded.specs.Chain.{chain}
 use Rattle.loaded.proofs.Chain.{in-order}
-use Rattle.desk.specs.Tests.{calledTests}
+use Rattle.requests.specs.Tests.{calledTests}
 
 pub issue-iak-chain :
     (f : File) (s : State) (p q c r : ℕ) {number request body iak : ℕ} {wanted : Subject} → number ≡ credentialNumber f c → request ≡ s .request c → body ≡ leftOf f request → iak ≡ idevidKey f body → wanted ≡ subject f body

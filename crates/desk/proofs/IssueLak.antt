@@ -1,6 +1,5 @@
 -- What an issue of an LAK certificate asks, by what was read.
 --     signatureAt, halfAt, lakAt, parentAt, keyAt, signerAt   what its request names
---     no-signed, no-attest, attest-formed, attest-named    a signature over an attest
 --     asked                                  what a request has whose form was accepted
 --     here, half-declared, lak-declared, parent-is, key-declared, by-declared     what it names is declared
 --     parent-noted, parent-entered           the place of the parent's entry, which the ledger lists where a desk signed it
@@ -9,18 +8,17 @@
 --     issue-lak-chain                        the outcome as a chain of its tests, part by part
 -- Assumes nothing.
 use mathlib.Core.Path.{_≡_, refl, ap, _∙_}
-use mathlib.Core.Bool.{true, false}
+use mathlib.Core.Bool.{true}
 use mathlib.Core.List.{List, _∷_, _++_}
-use Prim.Native.Nat.{ℕ, _+_, _<_, _≤_}
+use Prim.Native.Nat.{ℕ, _<_, _≤_}
 use native.Mathlib.Omega.{arith}
 use lib.ListN.{length}
 use Rattle.rules.specs.declared.Entry.{Entry}
 use Rattle.rules.specs.declared.Subject.{Subject}
-use Rattle.rules.specs.declared.Term.the-variants.{Signature, Attest}
 use Rattle.rules.specs.Limits.{ownerDesk, termLimit}
 use Rattle.rules.specs.Refusals.{Test, need}
 use Rattle.rules.specs.Term.{hashKind, signatureKind, attestKind, ldevidRequestKind, certificateKind}
-use Rattle.rules.specs.File.{File, issueLak, isRole, term, kind, isKind, message, signingKey, attestedKey, ldevidMessage, ldevidCertificate, certifiedKey, signer, leftOf, subject}
+use Rattle.rules.specs.File.{File, issueLak, isRole, kind, message, signingKey, attestedKey, ldevidMessage, ldevidCertificate, certifiedKey, signer, leftOf, subject}
 use Rattle.rules.specs.State.{State}
 use Rattle.rules.specs.Desk.{requestBody, requestSignature, formTests, proofTests, calledFor, attestSignatureOf, lakOf, parentCertificateOf, issueLakTests}
 use Rattle.rules.specs.Run.{testsOf, outcome}
@@ -30,12 +28,13 @@ use Rattle.tables.specs.Regions.{tablesIn}
 use Rattle.loaded.specs.Chain.{chain}
 use Rattle.loaded.specs.Loaded.{fileIn, Holds, TermHere}
 use Rattle.loaded.specs.Entries.{Enters}
-use Rattle.loaded.proofs.Chain.{in-order, chain-none, chain-passes, chain-fails, chain-rest}
+use Rattle.loaded.proofs.Chain.{in-order, chain-rest}
 use Rattle.loaded.proofs.Standing.{checked-here, term-here, kind-declared, signing-key-declared, certified-key-declared, signer-declared}
 use Rattle.desk.specs.Formed.{Formed}
-use Rattle.desk.specs.Tests.{calledTests, attestTests, parentageTests, entryTests}
+use Rattle.requests.specs.Tests.{calledTests, attestTests, parentageTests}
+use Rattle.desk.specs.Tests.{entryTests}
 use Rattle.desk.specs.Dispatch.{ParentsEntered}
-use Rattle.desk.proofs.Read.{kind-is, is-kind-kind, signature-kind, signature-message, attest-key}
+use Rattle.requests.proofs.Read.{is-kind-kind}
 use Rattle.loaded.proofs.Ledger.{entry-most}
 use Rattle.desk.proofs.Outcomes.{passed, has-form}
 
@@ -57,21 +56,6 @@ keyAt f q = certifiedKey f (parentAt f q)
 
 abbrev pub signerAt : File → ℕ → ℕ
 signerAt f q = signer f (parentAt f q)
-
-module _ (f : File) (t : ℕ) where
-  pub no-signed : isKind f signatureKind t ≡ false → chain (attestTests f t) ≡ 19
-  no-signed e = chain-fails 19 _ _ e
-
-  module _ {m k : ℕ} (e : term f t ≡ Signature m k) where
-    pub attest-named : {a : ℕ} → term f m ≡ Attest a → attestedKey f (message f t) ≡ a
-    attest-named w = ap (attestedKey f) (signature-message f t e) ∙ attest-key f m w
-
-    pub no-attest : isKind f attestKind m ≡ false → chain (attestTests f t) ≡ 19
-    no-attest w = chain-passes 19 _ _ (kind-is f t (signature-kind f t e)) ∙ chain-fails 19 _ _ (ap (isKind f attestKind) (signature-message f t e) ∙ w)
-
-    pub attest-formed : isKind f attestKind m ≡ true → chain (attestTests f t) ≡ 0
-    attest-formed w =
-        chain-passes 19 _ _ (kind-is f t (signature-kind f t e)) ∙ chain-passes 19 _ _ (ap (isKind f attestKind) (signature-message f t e) ∙ w) ∙ chain-none
 
 -- a request whose form was accepted
 pub record Asked (f : File) (q : ℕ) : Type 0 where

@@ -27,7 +27,7 @@ use Rattle.loaded.proofs.Ledger.{entry-most}
 use Rattle.desk.specs.Appends.{Appends}
 use Rattle.desk.specs.Issues.{IssuesIak}
 use Rattle.desk.specs.Dispatch.{ParentsEntered}
-use Rattle.desk.proofs.Read.{is-kind-kind}
+use Rattle.requests.proofs.Read.{is-kind-kind}
 use Rattle.desk.proofs.IssueLak.{parentAt, parent-noted}
 
 -- the columns of an opened credential

@@ -1,6 +1,3 @@
-pub mod Read
-pub mod Forms
-pub mod Signers
 pub mod Outcomes
 pub mod Called
 pub mod IssueIak

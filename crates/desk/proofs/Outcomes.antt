@@ -2,7 +2,7 @@
 -- Assumes nothing.
 use mathlib.Core.Path.{_≡_, refl, sym, _∙_}
 use mathlib.Core.Bool.{Bool, true, false}
-use mathlib.Core.List.{List, [], _∷_, _++_}
+use mathlib.Core.List.{List, _∷_, _++_}
 use Prim.Native.Nat.{ℕ, zero, suc, _<_}
 use native.Mathlib.Omega.{arith}
 use Rattle.rules.specs.declared.Subject.{Subject}
@@ -16,8 +16,8 @@ use Rattle.rules.specs.Run.{testsOf, outcome}
 use Rattle.loaded.specs.Chain.{chain}
 use Rattle.loaded.proofs.Chain.{in-order, chain-passes, chain-fails, chain-first, chain-rest}
 use Rattle.desk.specs.Formed.{Formed}
-use Rattle.desk.specs.Tests.{endorsementTests, credentialTests}
-use Rattle.desk.proofs.Read.{is-kind-kind}
+use Rattle.requests.specs.Tests.{endorsementTests, credentialTests}
+use Rattle.requests.proofs.Read.{is-kind-kind}
 
 -- a part that refuses, and parts that pass
 pub stops : (xs ys : List Test) (x : ℕ) → x ≡ chain xs → (x ≡ 0 → ⊥) → chain (xs ++ ys) ≡ x

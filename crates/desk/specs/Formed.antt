@@ -3,19 +3,12 @@ use mathlib.Core.Path.{_≡_}
 use Prim.Native.Nat.{ℕ, _<_}
 use lib.ListN.{length}
 use Rattle.rules.specs.Term.{hashKind, signatureKind, idevidRequestKind, pairKind}
-use Rattle.rules.specs.File.{File, kind, hashedTerm, message, signingKey, leftOf, rightOf}
+use Rattle.rules.specs.File.{File, kind, message, leftOf, rightOf}
 
 pub record Formed (f : File) (q : ℕ) : Type 0 where
   pub pair : kind f q ≡ pairKind
   pub signature : kind f (rightOf f q) ≡ signatureKind
   pub hash : kind f (message f (rightOf f q)) ≡ hashKind
-
--- what it names: its body, what its hash is of, and the private key that signed
-pub record Names (f : File) (q body content signer : ℕ) : Type 0 where
-  pub named : body ≡ leftOf f q
-  pub hashed : content ≡ hashedTerm f (message f (rightOf f q))
-  pub signed : signer ≡ signingKey f (rightOf f q)
-  pub known : signer < length (f .terms)
 
 -- one that a challenge was accepted for
 pub record Requested (f : File) (q : ℕ) : Type 0 where

@@ -13,7 +13,7 @@ use Rattle.loaded.specs.Chain.{chain}
 use Rattle.loaded.specs.Loaded.{fileIn}
 use Rattle.loaded.proofs.Chain.{chain-passes, chain-fails}
 use Rattle.loaded.proofs.Standing.{party-here, checked-here, term-here, kind-declared, ldevid-message-declared}
-use Rattle.desk.specs.Tests.{calledTests, attestTests, parentageTests}
+use Rattle.requests.specs.Tests.{calledTests, attestTests, parentageTests}
 use Rattle.desk.proofs.Outcomes.{stops, form-goes, proof-goes, has-form}
 use Rattle.desk.proofs.Called.{called-goes}
 use Rattle.desk.proofs.IssueLak.{signatureAt, halfAt, lakAt, parentAt, keyAt, signerAt, Asked, asked, here, half-declared, lak-declared, parent-is, key-declared, by-declared, parent-entered, attest-goes, parentage-goes, attest-read, proof-read, parentage-read, called-read, entry-read, issue-lak-chain}
