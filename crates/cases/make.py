@@ -1,13 +1,14 @@
 #!/usr/bin/env python3
-"""Writes the stored scenario files of commands into data/: the situations of document 01, and for each command each refusal
+"""Writes the stored scenario files of commands into data/: the situations of document 01 and of change request 1, and for each command each refusal
 alone and beside the next one of its order. A name says what is expected: c31_15_16 is a 31 to which 15 and 16 apply, and 15 is its outcome.
 Usage: make.py [DIRECTORY]"""
 import os
 import sys
+from collections import namedtuple
 
 DEVICE, MAKER, OEM, OWNER = 0, 1, 2, 3
 RESTRICTED, SIGN, DECRYPT, FIXED = 1, 2, 4, 8
-IAK, EK, DESK = 0x0B, 0x0D, 0x0A
+IAK, EK, DESK, DEVID = 0x0B, 0x0D, 0x0A, 0x0A
 
 
 class World:
@@ -62,25 +63,34 @@ def two(x):
 TPM = lambda n: (0, n)
 BOARD = lambda n: (1, n)
 
-# ---- the parties: a board, a TPM maker, an OEM desk, an owner desk, another board
-B, M, D, O, B2 = 0, 1, 2, 3, 4
+# ---- the parties: a board, a TPM maker, an OEM desk, an owner desk, another board, another OEM desk
+B, M, D, O, B2, D2 = 0, 1, 2, 3, 4, 5
+
+# ---- what is issued on an 18 request: a name, the command, its desk, a desk of another role, the attributes of the new key
+Family = namedtuple("Family", "name kind desk other attributes")
+LAK = Family("lak", 0x40, O, D, IAK)
+IDEVID = Family("idevid", 0x41, D, O, DEVID)
+LDEVID = Family("ldevid", 0x42, O, D, DEVID)
+FAMILIES = LAK, IDEVID, LDEVID
 
 
-def shop():
-    """Parties, their keys and the board's endorsement certificate."""
+def shop(family=LAK):
+    """Parties, their keys and the board's endorsement certificate. The new key is one of the family."""
     w = World(DEVICE, MAKER, OEM, OWNER, DEVICE, OEM)
     w.iak, w.iak_ = w.public(1, IAK), w.private(1, IAK)
     w.ek, w.ek_ = w.public(2, EK), w.private(2, EK)
     w.maker, w.maker_ = w.public(3, DESK), w.private(3, DESK)
     w.oem_ = w.private(4, DESK)
     w.owner_ = w.private(5, DESK)
-    w.lak, w.lak_ = w.public(6, IAK), w.private(6, IAK)
+    w.desk_keys = {D: w.oem_, O: w.owner_}
+    w.family = family
+    w.new, w.new_ = w.public(6, family.attributes), w.private(6, family.attributes)
     w.ek_certificate = w.certificate(w.ek, TPM(1), w.maker_)
     w.subject = BOARD(100)
     w.signs(M, w.maker_)
     w.signs(D, w.oem_)
     w.signs(O, w.owner_)
-    for k in (w.iak_, w.ek_, w.lak_):
+    for k in (w.iak_, w.ek_, w.new_):
         w.holds(B, k)
     for t in (w.iak, w.ek_certificate):
         w.learns(B, t)
@@ -119,39 +129,65 @@ def iak_certificate(w, key=None, subject=None, signer=None):
     return w.certificate(w.iak if key is None else key, subject or w.subject, w.oem_ if signer is None else signer)
 
 
-def enrolled():
+def enrolled(family=LAK):
     """Up to an issued IAK certificate, which the board has."""
-    w = shop()
+    w = shop(family)
+    enrol(w)
+    return w
+
+
+def enrol(w, number=9):
+    """The board gets a certificate of its IAK."""
     request(w)
-    challenge(w)
+    challenge(w, number=number)
     give_back(w)
     w.issued = iak_certificate(w)
     w.issue_iak(D, B, w.open, w.issued)
     w.send(D, B, w.issued)
-    return w
 
 
-def lak_request(w, lak=None, lak_=None, signer=None, parent=None, attest=None, over=None, turned=False, sent=True, to=O, hashed=True, by_certify=True):
-    """The board makes a request for an LAK certificate and sends it."""
-    lak = w.lak if lak is None else lak
-    attest = w.attest(lak) if attest is None else attest
+def attested_request(w, key=None, key_=None, signer=None, parent=None, attest=None, over=None, turned=False, sent=True, to=None, by_certify=True):
+    """The board makes a request with an attest of the new key and sends it."""
+    key = w.new if key is None else key
+    attest = w.attest(key) if attest is None else attest
     w.attested = w.signature(attest, w.iak_ if signer is None else signer)
     w.do(0x32 if by_certify else 0x31, B, w.attested)
-    w.lbody = w.ldevid(w.attested, w.issued if parent is None else parent)
+    attested_body(w, w.attested, key_, parent, over, turned, sent, to)
+
+
+def attested_body(w, message, key_=None, parent=None, over=None, turned=False, sent=True, to=None):
+    """The request from its 18 on, whatever the message is."""
+    w.lbody = w.ldevid(message, w.issued if parent is None else parent)
     w.do(0x36, B, w.lbody)
     digest = w.hash(w.lbody if over is None else over)
-    if hashed:
-        w.do(0x30, B, digest)
-    proof = w.signature(digest, w.lak_ if lak_ is None else lak_)
+    w.do(0x30, B, digest)
+    proof = w.signature(digest, w.new_ if key_ is None else key_)
     w.do(0x31, B, proof)
     w.lrequest = w.pair(proof, w.lbody) if turned else w.pair(w.lbody, proof)
     w.do(0x37, B, w.lrequest)
     if sent:
-        w.send(B, to, w.lrequest)
+        w.send(B, w.family.desk if to is None else to, w.lrequest)
 
 
-def lak_certificate(w, key=None, subject=None, signer=None):
-    return w.certificate(w.lak if key is None else key, subject or w.subject, w.owner_ if signer is None else signer)
+def new_certificate(w, key=None, subject=None, signer=None):
+    return w.certificate(w.new if key is None else key, subject or w.subject, w.desk_keys[w.family.desk] if signer is None else signer)
+
+
+def issue(w, r=None, gives=0):
+    """The desk is asked for r on the last request."""
+    w.do(w.family.kind, w.family.desk, w.lrequest, new_certificate(w) if r is None else r, gives=gives)
+
+
+def grow(w, family, id, parent, gives=0):
+    """A key of the family, with this id, is asked for under a parent. Parents, and what is returned, are certificate and private key."""
+    w.family = family
+    key, key_ = w.public(id, family.attributes), w.private(id, family.attributes)
+    w.holds(B, key_)
+    attested_request(w, key=key, key_=key_, parent=parent[0], signer=parent[1])
+    c = new_certificate(w, key=key)
+    issue(w, c, gives=gives)
+    w.send(family.desk, B, c, gives=14 if gives else 0)
+    return c, key_
 
 
 CASES = {}
@@ -160,6 +196,15 @@ CASES = {}
 def case(f):
     CASES[f.__name__] = f
     return f
+
+
+def each(*families):
+    """A case for each family; NN in its name is the command."""
+    def enter(f):
+        for family in families:
+            CASES[f.__name__.replace("NN", "%02X" % family.kind)] = lambda family=family: f(family)
+        return f
+    return enter
 
 
 # ---- situations of document 01
@@ -249,18 +294,12 @@ def s_same_certificate_by_a_new_challenge():
     return w
 
 
-def chain(last):
-    """Certificates up to a depth, each the parent of the next."""
+def chain(last, family=LAK):
+    """Certificates up to a depth, each the parent of the next; the last one is of the family."""
     w = enrolled()
-    parent, key_ = w.issued, w.iak_
+    w.chain = [(w.issued, w.iak_)]
     for d in range(2, last + 1):
-        lak, lak_ = w.public(20 + d, IAK), w.private(20 + d, IAK)
-        w.holds(B, lak_)
-        lak_request(w, lak=lak, lak_=lak_, signer=key_, parent=parent)
-        c = lak_certificate(w, key=lak)
-        w.do(0x40, O, w.lrequest, c, gives=29 if d > 8 else 0)
-        w.send(O, B, c, gives=14 if d > 8 else 0)
-        parent, key_ = c, lak_
+        w.chain.append(grow(w, family if d == last else LAK, 20 + d, w.chain[-1], gives=29 if d > 8 else 0))
     return w
 
 
@@ -275,8 +314,8 @@ def s_depth_9(): return chain(9)
 @case
 def s_hash_of_an_attest_signed():
     w = shop()
-    a = w.attest(w.lak)
-    w.learns(B, w.lak)
+    a = w.attest(w.new)
+    w.learns(B, w.new)
     h = w.hash(a)
     certified = w.signature(a, w.iak_)
     w.do(0x32, B, certified)
@@ -328,12 +367,58 @@ def s_nested_pairs():
     return w
 
 
-@case
-def s_honest_lak():
-    w = enrolled()
-    lak_request(w)
-    w.do(0x40, O, w.lrequest, lak_certificate(w))
+def honest(family):
+    w = enrolled(family)
+    attested_request(w)
+    issue(w)
     return w
+
+
+for _family in FAMILIES:
+    CASES["s_honest_" + _family.name] = lambda f=_family: honest(f)
+
+
+# ---- situations of change request 1
+
+@case
+def s_idevid_and_ldevid():
+    """An IAK, a LAK, an IDevID and an LDevID of one board."""
+    w = enrolled()
+    iak = w.issued, w.iak_
+    lak = grow(w, LAK, 21, iak)
+    grow(w, IDEVID, 22, iak)
+    grow(w, LDEVID, 23, lak)
+    return w
+
+
+@case
+def s_idevid_and_ldevid_of_one_key():
+    """One request, which both desks answer."""
+    w = enrolled(IDEVID)
+    attested_request(w)
+    issue(w)
+    w.send(B, O, w.lrequest)
+    w.family = LDEVID
+    issue(w)
+    return w
+
+
+@case
+def s_idevid_beside_a_chain():
+    """Beside LAKs of every depth an IDevID is at depth 2, under the IAK alone."""
+    w = chain(8)
+    grow(w, IDEVID, 30, w.chain[0])
+    grow(w, IDEVID, 31, w.chain[1], gives=21)
+    grow(w, IDEVID, 32, w.chain[7], gives=21)
+    return w
+
+
+@case
+def s_ldevid_depth_8(): return chain(8, LDEVID)
+
+
+@case
+def s_ldevid_depth_9(): return chain(9, LDEVID)
 
 
 # ---- slips that document 01 excludes
@@ -366,28 +451,19 @@ def x_attest_by_an_unrestricted_key():
     w = enrolled()
     free_ = w.private(1, SIGN | FIXED)
     w.holds(B, free_)
-    w.learns(B, w.lak)
-    a = w.attest(w.lak)
+    w.learns(B, w.new)
+    a = w.attest(w.new)
     w.do(0x32, B, w.signature(a, free_))
-    w.attested = w.signature(a, free_)
-    w.lbody = w.ldevid(w.attested, w.issued)
-    w.do(0x36, B, w.lbody)
-    digest = w.hash(w.lbody)
-    w.do(0x30, B, digest)
-    proof = w.signature(digest, w.lak_)
-    w.do(0x31, B, proof)
-    w.lrequest = w.pair(w.lbody, proof)
-    w.do(0x37, B, w.lrequest)
-    w.send(B, O, w.lrequest)
-    w.do(0x40, O, w.lrequest, lak_certificate(w), gives=20)
+    attested_body(w, w.signature(a, free_))
+    issue(w, gives=20)
     return w
 
 
 @case
 def x_private_key_signed_by_a_restricted_key():
     w = shop()
-    w.do(0x31, B, w.signature(w.lak_, w.iak_), gives=17)
-    w.do(0x30, B, w.hash(w.lak_), gives=14)
+    w.do(0x31, B, w.signature(w.new_, w.iak_), gives=17)
+    w.do(0x30, B, w.hash(w.new_), gives=14)
     return w
 
 
@@ -411,7 +487,7 @@ def c30_13_14():
 @case
 def c30_14():
     w = shop()
-    w.do(0x30, B, w.hash(w.lak), gives=14)
+    w.do(0x30, B, w.hash(w.new), gives=14)
     return w
 
 
@@ -798,7 +874,7 @@ def c3E_20_hash():
 @case
 def c3E_20_key():
     w = shop()
-    request(w, key_=w.lak_)
+    request(w, key_=w.new_)
     challenge(w, gives=20)
     return w
 
@@ -816,7 +892,7 @@ def self_signed(w, subject=TPM(1), ek=None):
 @case
 def c3E_20_21():
     w = shop()
-    request(w, certificate=self_signed(w), key_=w.lak_)
+    request(w, certificate=self_signed(w), key_=w.new_)
     challenge(w, gives=20)
     return w
 
@@ -917,7 +993,7 @@ def c3E_24_known_to_two():
 def c3E_24_27():
     w = shop()
     request(w)
-    challenge(w, learners=[], name=w.hash(w.lak), gives=24)
+    challenge(w, learners=[], name=w.hash(w.new), gives=24)
     return w
 
 
@@ -925,7 +1001,7 @@ def c3E_24_27():
 def c3E_27_name():
     w = shop()
     request(w)
-    challenge(w, name=w.hash(w.lak), gives=27)
+    challenge(w, name=w.hash(w.new), gives=27)
     return w
 
 
@@ -973,8 +1049,8 @@ def c3F_25_never_opened():
 def c3F_25_other_desk():
     w = challenged()
     oem2_ = w.private(14, DESK)
-    w.signs(5, oem2_)
-    w.issue_iak(5, B, w.open, iak_certificate(w, signer=oem2_), gives=25)
+    w.signs(D2, oem2_)
+    w.issue_iak(D2, B, w.open, iak_certificate(w, signer=oem2_), gives=25)
     return w
 
 
@@ -1002,14 +1078,14 @@ def c3F_26_number_not_known():
 @case
 def c3F_26_27():
     w = challenged()
-    w.issue_iak(D, B2, w.open, iak_certificate(w, key=w.lak), gives=26)
+    w.issue_iak(D, B2, w.open, iak_certificate(w, key=w.new), gives=26)
     return w
 
 
 @case
 def c3F_27_key():
     w = challenged()
-    w.issue_iak(D, B, w.open, iak_certificate(w, key=w.lak), gives=27)
+    w.issue_iak(D, B, w.open, iak_certificate(w, key=w.new), gives=27)
     return w
 
 
@@ -1036,8 +1112,8 @@ def c3F_27_signer():
 
 @case
 def c3F_27_desk_without_key():
-    w = challenged(desk=5)
-    w.issue_iak(5, B, w.open, iak_certificate(w), gives=27)
+    w = challenged(desk=D2)
+    w.issue_iak(D2, B, w.open, iak_certificate(w), gives=27)
     return w
 
 
@@ -1051,115 +1127,114 @@ def c3F_27_28():
     return w
 
 
-# ---- 40
+# ---- 40 to 42
 
-@case
-def c40_13():
-    w = enrolled()
-    lak_request(w, to=D)
-    w.do(0x40, D, w.lrequest, lak_certificate(w, signer=w.oem_), gives=13)
+@each(*FAMILIES)
+def cNN_13(f):
+    w = enrolled(f)
+    attested_request(w, to=f.other)
+    by_the_other_desk(w)
     return w
 
 
-@case
-def c40_13_14():
-    w = enrolled()
-    lak_request(w, sent=False)
-    w.do(0x40, D, w.lrequest, lak_certificate(w, signer=w.oem_), gives=13)
+def by_the_other_desk(w):
+    f = w.family
+    w.do(f.kind, f.other, w.lrequest, new_certificate(w, signer=w.desk_keys[f.other]), gives=13)
+
+
+@each(*FAMILIES)
+def cNN_13_14(f):
+    w = enrolled(f)
+    attested_request(w, sent=False)
+    by_the_other_desk(w)
     return w
 
 
-@case
-def c40_14():
-    w = enrolled()
-    lak_request(w, sent=False)
-    w.do(0x40, O, w.lrequest, lak_certificate(w), gives=14)
+@each(*FAMILIES)
+def cNN_14(f):
+    w = enrolled(f)
+    attested_request(w, sent=False)
+    issue(w, gives=14)
     return w
 
 
-@case
-def c40_14_19():
-    w = enrolled()
-    lak_request(w, sent=False, turned=True)
-    w.do(0x40, O, w.lrequest, lak_certificate(w), gives=14)
+@each(*FAMILIES)
+def cNN_14_19(f):
+    w = enrolled(f)
+    attested_request(w, sent=False, turned=True)
+    issue(w, gives=14)
     return w
 
 
-@case
-def c40_19_turned():
-    w = enrolled()
-    lak_request(w, turned=True)
-    w.do(0x40, O, w.lrequest, lak_certificate(w), gives=19)
+@each(*FAMILIES)
+def cNN_19_turned(f):
+    w = enrolled(f)
+    attested_request(w, turned=True)
+    issue(w, gives=19)
     return w
 
 
-@case
-def c40_19_idevid_request():
-    w = enrolled()
-    w.send(B, O, w.request)
-    w.do(0x40, O, w.request, lak_certificate(w), gives=19)
+@each(*FAMILIES)
+def cNN_19_idevid_request(f):
+    """A pair of a 17 and its signature."""
+    w = enrolled(f)
+    w.lrequest = w.request
+    w.send(B, f.desk, w.lrequest)
+    issue(w, gives=19)
     return w
 
 
-@case
-def c40_19_no_attest():
+@each(*FAMILIES)
+def cNN_19_no_attest(f):
     """The 18's message is a signature over a hash."""
-    w = enrolled()
+    w = enrolled(f)
     h = w.hash(w.iak)
     w.do(0x30, B, h)
-    lak_request(w, attest=h, by_certify=False)
-    w.do(0x40, O, w.lrequest, lak_certificate(w), gives=19)
+    attested_request(w, attest=h, by_certify=False)
+    issue(w, gives=19)
     return w
 
 
-@case
-def c40_19_no_signature():
+@each(*FAMILIES)
+def cNN_19_no_signature(f):
     """The 18's message is no signature."""
-    w = enrolled()
-    w.lbody = w.ldevid(w.iak, w.issued)
-    w.do(0x36, B, w.lbody)
-    digest = w.hash(w.lbody)
-    w.do(0x30, B, digest)
-    proof = w.signature(digest, w.lak_)
-    w.do(0x31, B, proof)
-    w.lrequest = w.pair(w.lbody, proof)
-    w.do(0x37, B, w.lrequest)
-    w.send(B, O, w.lrequest)
-    w.do(0x40, O, w.lrequest, lak_certificate(w), gives=19)
+    w = enrolled(f)
+    attested_body(w, w.iak)
+    issue(w, gives=19)
     return w
 
 
-@case
-def c40_19_20():
-    w = enrolled()
+@each(*FAMILIES)
+def cNN_19_20(f):
+    w = enrolled(f)
     h = w.hash(w.iak)
     w.do(0x30, B, h)
-    lak_request(w, attest=h, by_certify=False, over=w.iak)
-    w.do(0x40, O, w.lrequest, lak_certificate(w), gives=19)
+    attested_request(w, attest=h, by_certify=False, over=w.iak)
+    issue(w, gives=19)
     return w
 
 
-@case
-def c40_20_hash():
-    w = enrolled()
-    lak_request(w, over=w.iak)
-    w.do(0x40, O, w.lrequest, lak_certificate(w), gives=20)
+@each(*FAMILIES)
+def cNN_20_hash(f):
+    w = enrolled(f)
+    attested_request(w, over=w.iak)
+    issue(w, gives=20)
     return w
 
 
-@case
-def c40_20_key():
-    w = enrolled()
-    lak_request(w, lak_=w.iak_)
-    w.do(0x40, O, w.lrequest, lak_certificate(w), gives=20)
+@each(*FAMILIES)
+def cNN_20_key(f):
+    w = enrolled(f)
+    attested_request(w, key_=w.iak_)
+    issue(w, gives=20)
     return w
 
 
-@case
-def c40_20_attest():
-    w = enrolled()
-    lak_request(w, signer=w.lak_)
-    w.do(0x40, O, w.lrequest, lak_certificate(w), gives=20)
+@each(*FAMILIES)
+def cNN_20_attest(f):
+    w = enrolled(f)
+    attested_request(w, signer=w.new_)
+    issue(w, gives=20)
     return w
 
 
@@ -1172,120 +1247,212 @@ def own_parent(w):
     return c
 
 
-@case
-def c40_20_21():
-    w = enrolled()
-    lak_request(w, parent=own_parent(w), signer=w.lak_)
-    w.do(0x40, O, w.lrequest, lak_certificate(w), gives=20)
+@each(*FAMILIES)
+def cNN_20_21(f):
+    w = enrolled(f)
+    attested_request(w, parent=own_parent(w), signer=w.new_)
+    issue(w, gives=20)
     return w
 
 
-@case
-def c40_21():
-    w = enrolled()
-    lak_request(w, parent=own_parent(w))
-    w.do(0x40, O, w.lrequest, lak_certificate(w), gives=21)
+@each(*FAMILIES)
+def cNN_21(f):
+    w = enrolled(f)
+    attested_request(w, parent=own_parent(w))
+    issue(w, gives=21)
     return w
 
 
-@case
-def c40_21_ek_certificate():
+@each(*FAMILIES)
+def cNN_21_ek_certificate(f):
     """The parent is the endorsement certificate: its signer is a TPM maker's."""
-    w = enrolled()
+    w = enrolled(f)
     ek, c = other_ek(w, IAK)
     key_ = w.private(18, IAK)
-    lak_request(w, parent=c, signer=key_)
-    w.do(0x40, O, w.lrequest, lak_certificate(w), gives=21)
+    attested_request(w, parent=c, signer=key_)
+    issue(w, gives=21)
     return w
 
 
-@case
-def c40_21_23():
+def another_new_key(w, attributes):
+    w.new, w.new_ = w.public(21, attributes), w.private(21, attributes)
+    w.holds(B, w.new_)
+
+
+def misfit(f):
+    """Attributes of a new key of the other families: 0A hex for a LAK, 0B hex for the others."""
+    return f.attributes ^ RESTRICTED
+
+
+@each(*FAMILIES)
+def cNN_21_23(f):
+    w = enrolled(f)
+    another_new_key(w, misfit(f))
+    attested_request(w, parent=own_parent(w))
+    issue(w, gives=21)
+    return w
+
+
+def asked_with(f, attributes, subject=None):
+    """A new key of these attributes."""
+    w = enrolled(f)
+    another_new_key(w, attributes)
+    attested_request(w)
+    issue(w, new_certificate(w, subject=subject), gives=23)
+    return w
+
+
+CASES["c40_23"] = lambda: asked_with(LAK, misfit(LAK))
+CASES["c41_23_attestation_key"] = lambda: asked_with(IDEVID, misfit(IDEVID))
+CASES["c42_23_attestation_key"] = lambda: asked_with(LDEVID, misfit(LDEVID))
+
+
+@each(*FAMILIES)
+def cNN_23_not_fixed(f): return asked_with(f, f.attributes - FIXED)
+@each(*FAMILIES)
+def cNN_23_decrypt(f): return asked_with(f, f.attributes + DECRYPT)
+@each(*FAMILIES)
+def cNN_23_27(f): return asked_with(f, misfit(f), subject=BOARD(101))
+
+
+def under(parent, f, gives, fits=True):
+    """Asked for under an issued certificate of another family, or of its own."""
     w = enrolled()
-    lak, lak_ = w.public(21, DESK), w.private(21, DESK)
-    w.holds(B, lak_)
-    lak_request(w, parent=own_parent(w), lak=lak, lak_=lak_)
-    w.do(0x40, O, w.lrequest, lak_certificate(w, key=lak), gives=21)
-    return w
-
-
-def plain_lak():
-    w = enrolled()
-    w.lak, w.lak_ = w.public(21, DESK), w.private(21, DESK)
-    w.holds(B, w.lak_)
-    lak_request(w)
+    above = grow(w, parent, 22, (w.issued, w.iak_))
+    w.family = f
+    another_new_key(w, f.attributes if fits else misfit(f))
+    attested_request(w, parent=above[0], signer=above[1])
+    issue(w, gives=gives)
     return w
 
 
 @case
-def c40_23():
-    w = plain_lak()
-    w.do(0x40, O, w.lrequest, lak_certificate(w), gives=23)
+def c41_21_lak_parent(): return under(LAK, IDEVID, gives=21)
+@case
+def c41_21_23_lak_parent(): return under(LAK, IDEVID, gives=21, fits=False)
+@case
+def c41_21_23_ldevid_parent(): return under(LDEVID, IDEVID, gives=21)
+@each(*FAMILIES)
+def cNN_23_idevid_parent(f): return under(IDEVID, f, gives=23)
+@each(LAK, LDEVID)
+def cNN_23_ldevid_parent(f): return under(LDEVID, f, gives=23)
+
+
+@each(*FAMILIES)
+def cNN_27_key(f):
+    w = enrolled(f)
+    attested_request(w)
+    issue(w, new_certificate(w, key=w.iak), gives=27)
+    return w
+
+
+@each(*FAMILIES)
+def cNN_27_subject(f):
+    w = enrolled(f)
+    attested_request(w)
+    issue(w, new_certificate(w, subject=BOARD(101)), gives=27)
+    return w
+
+
+@each(*FAMILIES)
+def cNN_27_signer(f):
+    w = enrolled(f)
+    attested_request(w)
+    issue(w, new_certificate(w, signer=w.desk_keys[f.other]), gives=27)
+    return w
+
+
+def at_the_second_desk(gives):
+    w = enrolled(IDEVID)
+    attested_request(w, to=D2)
+    w.do(0x41, D2, w.lrequest, new_certificate(w, signer=w.private(14, DESK)), gives=gives)
     return w
 
 
 @case
-def c40_23_27():
-    w = plain_lak()
-    w.do(0x40, O, w.lrequest, lak_certificate(w, subject=BOARD(101)), gives=23)
+def c41_0_under_another_desk():
+    """One OEM desk signed the parent, another one issues."""
+    w = at_the_second_desk(gives=0)
+    w.signs(D2, w.private(14, DESK))
     return w
 
 
 @case
-def c40_27_key():
-    w = enrolled()
-    lak_request(w)
-    w.do(0x40, O, w.lrequest, lak_certificate(w, key=w.iak), gives=27)
+def c41_27_desk_without_key(): return at_the_second_desk(gives=27)
+
+
+@each(*FAMILIES)
+def cNN_27_28(f):
+    w = enrolled(f)
+    attested_request(w)
+    issue(w, w.issued, gives=27)
     return w
 
 
-@case
-def c40_27_subject():
-    w = enrolled()
-    lak_request(w)
-    w.do(0x40, O, w.lrequest, lak_certificate(w, subject=BOARD(101)), gives=27)
+@each(*FAMILIES)
+def cNN_28(f):
+    w = honest(f)
+    issue(w, gives=28)
     return w
 
 
-@case
-def c40_27_signer():
-    w = enrolled()
-    lak_request(w)
-    w.do(0x40, O, w.lrequest, lak_certificate(w, signer=w.oem_), gives=27)
+@each(*FAMILIES)
+def cNN_28_other_iak(f):
+    """A certificate is asked for again under another IAK of the board."""
+    w = honest(f)
+    w.iak, w.iak_ = other_iak(w, IAK)
+    enrol(w, number=10)
+    attested_request(w)
+    issue(w, gives=28)
     return w
 
 
-@case
-def c40_27_28():
-    w = enrolled()
-    lak_request(w)
-    w.do(0x40, O, w.lrequest, w.issued, gives=27)
+@each(LAK, LDEVID)
+def cNN_28_under_a_lak(f):
+    """A certificate issued under the IAK is asked for again under a LAK."""
+    w = honest(f)
+    parent, key_ = grow(w, LAK, 22, (w.issued, w.iak_))
+    w.family = f
+    attested_request(w, parent=parent, signer=key_)
+    issue(w, gives=28)
     return w
 
 
-@case
-def c40_28():
-    w = enrolled()
-    lak_request(w)
-    c = lak_certificate(w)
-    w.do(0x40, O, w.lrequest, c)
-    w.do(0x40, O, w.lrequest, c, gives=28)
-    return w
-
-
-@case
-def c40_28_29():
+@each(LAK, LDEVID)
+def cNN_28_29(f):
     """A certificate issued at depth 2 is asked for again under a parent of depth 8."""
     w = chain(8)
-    deep, deep_ = lak_of_depth(w, 8)
-    c = lak_certificate(w, key=w.public(22, IAK))
-    lak_request(w, lak=w.public(22, IAK), lak_=w.private(22, IAK), signer=deep_, parent=deep)
-    w.do(0x40, O, w.lrequest, c, gives=28)
+    if f != LAK:
+        grow(w, f, 22, w.chain[0])
+    w.new, w.new_ = w.public(22, f.attributes), w.private(22, f.attributes)
+    deep, deep_ = w.chain[7]
+    attested_request(w, parent=deep, signer=deep_)
+    issue(w, gives=28)
     return w
 
 
-def lak_of_depth(w, d):
-    return lak_certificate(w, key=w.public(20 + d, IAK)), w.private(20 + d, IAK)
+def by_another_command(issued, f, gives):
+    """A certificate that one command issued is asked for by another, on the same request."""
+    w = honest(issued)
+    c = new_certificate(w)
+    w.send(B, f.desk, w.lrequest)
+    w.family = f
+    issue(w, c, gives=gives)
+    return w
+
+
+@case
+def c40_23_27_idevid_certificate(): return by_another_command(IDEVID, LAK, gives=23)
+@case
+def c40_23_28_ldevid_certificate(): return by_another_command(LDEVID, LAK, gives=23)
+@case
+def c41_23_27_lak_certificate(): return by_another_command(LAK, IDEVID, gives=23)
+@case
+def c41_27_28_ldevid_certificate(): return by_another_command(LDEVID, IDEVID, gives=27)
+@case
+def c42_23_28_lak_certificate(): return by_another_command(LAK, LDEVID, gives=23)
+@case
+def c42_27_28_idevid_certificate(): return by_another_command(IDEVID, LDEVID, gives=27)
 
 
 def main():

@@ -1,5 +1,6 @@
-//! A second reading of "Rehearsing DevID enrolment",
-//! written from that text alone, to test another implementation against.
+//! A second reading of "Rehearsing DevID enrolment", with points 1 and 5 of its
+//! change requests, written from those texts alone, to test another
+//! implementation against.
 //!
 //! The numbers in the comments are the kinds of records (hexadecimal, as in
 //! the paper) and the refusals 1 to 30 but 22 (decimal).
@@ -234,7 +235,7 @@ const FIXED_TPM: u8 = 8;
 const ATTESTATION_KEY: u8 = RESTRICTED | SIGN | FIXED_TPM;
 /// Attributes of an EK.
 const ENDORSEMENT_KEY: u8 = RESTRICTED | DECRYPT | FIXED_TPM;
-/// Attributes of a signing key that a 22 gives.
+/// Attributes of an IDevID or LDevID, and of a signing key that a 22 gives.
 const SIGNING_KEY: u8 = SIGN | FIXED_TPM;
 
 /// What a public and a private key share; they are a pair if it is equal.
@@ -349,6 +350,36 @@ struct Party {
     signing_key: Option<u16>,
 }
 
+/// What differs between 40, 41 and 42.
+#[derive(Clone, Copy)]
+struct Family {
+    /// The role of the desk.
+    desk: u8,
+    /// The attributes of the new key.
+    attributes: u8,
+    /// The roles whose keys may have signed the parent.
+    parent_signers: &'static [u8],
+}
+
+/// 40.
+const LAK: Family = Family {
+    desk: OWNER_DESK,
+    attributes: ATTESTATION_KEY,
+    parent_signers: &[OEM_DESK, OWNER_DESK],
+};
+/// 41.
+const IDEVID: Family = Family {
+    desk: OEM_DESK,
+    attributes: SIGNING_KEY,
+    parent_signers: &[OEM_DESK],
+};
+/// 42.
+const LDEVID: Family = Family {
+    desk: OWNER_DESK,
+    attributes: SIGNING_KEY,
+    parent_signers: &[OEM_DESK, OWNER_DESK],
+};
+
 const NUMBER_USED: u8 = 1;
 const CREDENTIAL_OPEN: u8 = 2;
 const CREDENTIAL_CLOSED: u8 = 3;
@@ -434,7 +465,9 @@ enum Command {
         credential: u16,
         r: u16,
     },
-    IssueLak {
+    /// 40, 41 and 42.
+    IssueAttested {
+        family: Family,
         desk: u8,
         request: u16,
         r: u16,
@@ -455,11 +488,12 @@ struct IakRequest {
     signed_by: u16,
 }
 
-/// A well-formed request of 40, taken apart.
-struct LakRequest {
+/// A well-formed request of 40, 41 or 42, taken apart.
+struct AttestedRequest {
     /// The 18.
     csr: u16,
-    lak: u16,
+    /// The new key, that of the 14.
+    key: u16,
     /// The private key that signed the 14.
     attested_by: u16,
     /// The certificate in the 18.
@@ -623,7 +657,7 @@ impl World {
     }
 
     /// A pair of an 18, its message a 13 over a 14, and a 13 over a 12.
-    fn lak_request(&self, request: u16) -> Option<LakRequest> {
+    fn attested_request(&self, request: u16) -> Option<AttestedRequest> {
         let Term::Pair { first, second } = self.term(request) else {
             return None;
         };
@@ -641,13 +675,13 @@ impl World {
         else {
             return None;
         };
-        let Term::Attest { key: lak } = self.term(attest) else {
+        let Term::Attest { key } = self.term(attest) else {
             return None;
         };
         let (hashed, signed_by) = self.signed_hash(second)?;
-        Some(LakRequest {
+        Some(AttestedRequest {
             csr: first,
-            lak,
+            key,
             attested_by,
             parent: certificate,
             hashed,
@@ -875,21 +909,26 @@ impl World {
                 }
                 verdict.demand(self.entry(r).is_none(), 28);
             }
-            Command::IssueLak { desk, request, r } => {
-                verdict.demand(self.role(desk) == OWNER_DESK, 13);
+            Command::IssueAttested {
+                family,
+                desk,
+                request,
+                r,
+            } => {
+                verdict.demand(self.role(desk) == family.desk, 13);
                 verdict.demand(self.known(request, desk), 14);
-                let form = self.lak_request(request);
+                let form = self.attested_request(request);
                 verdict.demand(form.is_some(), 19);
                 if let Some(form) = form {
                     let parent = self.certificate(form.parent);
                     verdict.demand(form.hashed == form.csr, 20);
-                    verdict.demand(self.pairs(form.signed_by, form.lak), 20);
+                    verdict.demand(self.pairs(form.signed_by, form.key), 20);
                     verdict.demand(self.pairs(form.attested_by, parent.key), 20);
-                    let by_desk = self.signing_key_of(parent.signer, &[OEM_DESK, OWNER_DESK]);
+                    let by_desk = self.signing_key_of(parent.signer, family.parent_signers);
                     verdict.demand(by_desk, 21);
-                    verdict.demand(self.attributes(form.lak) == ATTESTATION_KEY, 23);
+                    verdict.demand(self.attributes(form.key) == family.attributes, 23);
                     verdict.demand(self.attributes(parent.key) == ATTESTATION_KEY, 23);
-                    let called_for = self.is_certificate(r, form.lak, parent.subject, desk);
+                    let called_for = self.is_certificate(r, form.key, parent.subject, desk);
                     verdict.demand(called_for, 27);
                     // A parent that is not in the ledger has no depth.
                     if let Some(parent_entry) = self.entry(form.parent) {
@@ -957,8 +996,10 @@ impl World {
                 }
                 self.learn(r, desk);
             }
-            Command::IssueLak { desk, request, r } => {
-                if let Some(form) = self.lak_request(request)
+            Command::IssueAttested {
+                desk, request, r, ..
+            } => {
+                if let Some(form) = self.attested_request(request)
                     && let Some(parent) = self.entry(form.parent)
                 {
                     self.issue(r, form.parent, parent.depth + 1);
@@ -1019,7 +1060,7 @@ fn shape(kind: u8) -> Option<(Section, usize)> {
         0x01 => Section::Parties,
         0x10..=0x1A => Section::Terms,
         0x20..=0x22 => Section::SetUp,
-        0x30..=0x40 => Section::Commands,
+        0x30..=0x42 => Section::Commands,
         _ => return None,
     };
     let length = match kind {
@@ -1027,7 +1068,7 @@ fn shape(kind: u8) -> Option<(Section, usize)> {
         0x12 | 0x14 | 0x16 => 2,
         0x10 | 0x11 | 0x20..=0x22 | 0x30..=0x37 | 0x3D => 3,
         0x13 | 0x18 | 0x1A | 0x3B | 0x3C => 4,
-        0x38..=0x3A | 0x3E | 0x40 => 5,
+        0x38..=0x3A | 0x3E | 0x40..=0x42 => 5,
         0x15 | 0x3F => 6,
         0x17 | 0x19 => 7,
         _ => return None,
@@ -1351,7 +1392,12 @@ impl World {
                 credential: body.term_of(self, 0x15)?,
                 r: body.term_of(self, 0x19)?,
             },
-            0x40 => Command::IssueLak {
+            0x40..=0x42 => Command::IssueAttested {
+                family: match kind {
+                    0x40 => LAK,
+                    0x41 => IDEVID,
+                    _ => LDEVID,
+                },
                 desk: party,
                 request: body.term(self)?,
                 r: body.term_of(self, 0x19)?,

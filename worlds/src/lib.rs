@@ -123,6 +123,8 @@ pub const OWNER: u8 = 3;
 
 /// Attributes of an attestation key (IAK, LAK).
 pub const AK: u8 = 0x0B;
+/// Attributes of an IDevID or LDevID key.
+pub const DEVID: u8 = 0x0A;
 /// Attributes of an endorsement key.
 pub const EK: u8 = 0x0D;
 /// Attributes of a signing key of a desk or a TPM maker.
@@ -268,8 +270,9 @@ pub fn issue_iak(desk: u8, returning: u8, credential: u16, r: u16) -> Record {
         .word(credential)
         .word(r)
 }
-pub fn issue_lak(desk: u8, request: u16, r: u16) -> Record {
-    Record::new(0x40).byte(desk).word(request).word(r)
+/// 40 to 42: desk, 18 request and certificate.
+pub fn issue(kind: u8, desk: u8, request: u16, r: u16) -> Record {
+    Record::new(kind).byte(desk).word(request).word(r)
 }
 
 /// What stands in the body of a record.
@@ -324,7 +327,7 @@ fn fields(kind: u8) -> &'static [Field] {
         0x3D => &[Party, Term(0x19)],
         0x3E => &[Party, Any, Term(0x15)],
         0x3F => &[Party, Party, Term(0x15), Term(0x19)],
-        0x40 => &[Party, Any, Term(0x19)],
+        0x40..=0x42 => &[Party, Any, Term(0x19)],
         _ => &[],
     }
 }
@@ -341,6 +344,15 @@ fn starts(file: &[u8]) -> Vec<usize> {
             .sum::<usize>();
     }
     places
+}
+
+/// Kinds of the commands of a file that loads, in their order.
+pub fn command_kinds(file: &[u8]) -> Vec<u8> {
+    starts(file)
+        .into_iter()
+        .map(|place| file[place])
+        .filter(|&kind| kind >= 0x30)
+        .collect()
 }
 
 /// A record of this kind with fields that fit the draft, if it has such terms.
@@ -388,13 +400,13 @@ fn fitting(rng: &mut Rng, draft: &Draft, kind: u8, ids: usize) -> Option<Record>
 /// commands are done by `main`, if there is one.
 fn stray(rng: &mut Rng, draft: &Draft, main: Option<u8>) -> Option<Record> {
     for _ in 0..8 {
-        let kind = 0x30 + rng.below(17) as u8;
+        let kind = 0x30 + rng.below(19) as u8;
         let Some(mut record) = fitting(rng, draft, kind, 4) else {
             continue;
         };
         let role = match kind {
-            0x3E | 0x3F => OEM,
-            0x40 => OWNER,
+            0x3E | 0x3F | 0x41 => OEM,
+            0x40 | 0x42 => OWNER,
             _ => DEVICE,
         };
         match main {
@@ -406,7 +418,7 @@ fn stray(rng: &mut Rng, draft: &Draft, main: Option<u8>) -> Option<Record> {
             }
             _ => {}
         }
-        if matches!(kind, 0x3E | 0x40) && rng.chance(85) {
+        if matches!(kind, 0x3E | 0x40..=0x42) && rng.chance(85) {
             if let Some(t) = rng.try_pick(draft.of_kind(0x1A)) {
                 record.bytes[2..4].copy_from_slice(&t.to_be_bytes());
             }
@@ -422,9 +434,14 @@ fn stray(rng: &mut Rng, draft: &Draft, main: Option<u8>) -> Option<Record> {
     None
 }
 
-/// The same command with one field taken anew.
+/// The same command with one field taken anew, or another one of the same body.
 fn twisted(rng: &mut Rng, draft: &Draft, command: Record) -> Option<Record> {
     let kind = command.kind();
+    if matches!(kind, 0x40..=0x42) && rng.chance(30) {
+        let mut record = command;
+        record.bytes[0] = 0x40 + rng.below(3) as u8;
+        return Some(record);
+    }
     let other = fitting(rng, draft, kind, 4)?;
     let list = fields(kind);
     let chosen = rng.below(list.len());
@@ -441,7 +458,33 @@ fn twisted(rng: &mut Rng, draft: &Draft, command: Record) -> Option<Record> {
 // ---------------------------------------------------------------------------
 // Enrolment worlds
 
-/// Where an enrolment of an attestation key leaves the honest way.
+/// What a desk issues on an 18 request.
+#[derive(Clone, Copy)]
+struct Family {
+    kind: u8,
+    /// Of the desk.
+    role: u8,
+    /// Of the new key.
+    attributes: u8,
+}
+
+const LAK: Family = Family {
+    kind: 0x40,
+    role: OWNER,
+    attributes: AK,
+};
+const IDEVID: Family = Family {
+    kind: 0x41,
+    role: OEM,
+    attributes: DEVID,
+};
+const LDEVID: Family = Family {
+    kind: 0x42,
+    role: OWNER,
+    attributes: DEVID,
+};
+
+/// Where an enrolment of a key leaves the honest way.
 #[derive(Clone, Copy, PartialEq, Eq)]
 enum Slip {
     None,
@@ -452,6 +495,7 @@ enum Slip {
     OtherSigner,
     NoHash,
     WeakKey,
+    SiblingKey,
     NotSent,
     ForeignKey,
     // In the certificate asked for.
@@ -477,21 +521,26 @@ enum Slip {
     WrongRole,
     ForeignEndorsement,
     Twice,
-    // LAK only.
+    // Under an issued certificate only.
     PlainAttest,
     NotAttest,
     SelfIssuedParent,
     EndorsementParent,
+    OwnerParent,
+    DevidParent,
+    AgainElsewhere,
+    OtherCommand,
     HashedAttest,
 }
 
-const IAK_SLIPS: [Slip; 30] = [
+const IAK_SLIPS: [Slip; 31] = [
     Slip::SwappedPair,
     Slip::BareBody,
     Slip::OtherHash,
     Slip::OtherSigner,
     Slip::NoHash,
     Slip::WeakKey,
+    Slip::SiblingKey,
     Slip::NotSent,
     Slip::ForeignKey,
     Slip::OtherSubject,
@@ -518,13 +567,14 @@ const IAK_SLIPS: [Slip; 30] = [
     Slip::HashedAttest,
 ];
 
-const LAK_SLIPS: [Slip; 18] = [
+const FAMILY_SLIPS: [Slip; 23] = [
     Slip::SwappedPair,
     Slip::BareBody,
     Slip::OtherHash,
     Slip::OtherSigner,
     Slip::NoHash,
     Slip::WeakKey,
+    Slip::SiblingKey,
     Slip::NotSent,
     Slip::ForeignKey,
     Slip::OtherSubject,
@@ -536,11 +586,24 @@ const LAK_SLIPS: [Slip; 18] = [
     Slip::NotAttest,
     Slip::SelfIssuedParent,
     Slip::EndorsementParent,
+    Slip::OwnerParent,
+    Slip::DevidParent,
+    Slip::AgainElsewhere,
+    Slip::OtherCommand,
     Slip::HashedAttest,
 ];
 
-/// Attributes near those of an attestation key.
-const WEAK: [u8; 8] = [0x0A, 0x03, 0x09, 0x0F, 0x02, 0x0E, 0x08, 0x01];
+/// Attributes near those of the keys that get certificates.
+const WEAK: [u8; 7] = [0x03, 0x09, 0x0F, 0x02, 0x0E, 0x08, 0x01];
+
+/// The attributes of the other keys that get certificates.
+fn sibling(attributes: u8) -> u8 {
+    if attributes == AK {
+        DEVID
+    } else {
+        AK
+    }
+}
 
 #[derive(Clone, Copy)]
 struct Key {
@@ -563,17 +626,26 @@ struct Desk {
 }
 
 /// A certificate that should have been issued.
+#[derive(Clone, Copy)]
 struct Node {
     device: usize,
     key: Key,
+    attributes: u8,
     certificate: u16,
     depth: u16,
     flow: usize,
 }
 
-/// Commands of one enrolment, to start when another one is done.
+impl Node {
+    /// Whether it may stand above a certificate of the family, but for depth 8.
+    fn bears(&self, family: Family) -> bool {
+        self.attributes == AK && (family.role == OWNER || self.depth == 1)
+    }
+}
+
+/// Commands of one enrolment, to start when others are done.
 struct Flow {
-    after: Option<usize>,
+    after: Vec<usize>,
     commands: Vec<Record>,
 }
 
@@ -739,14 +811,25 @@ impl Town {
         key.map_or(self.devices[d].plain.private, |k| k.private)
     }
 
-    /// A new attestation key for a device, and its set-up.
-    fn attestation_key(&mut self, d: usize, slip: Slip) -> Key {
-        let attributes = if slip == Slip::WeakKey {
-            self.rng.pick(&WEAK)
-        } else if slip == Slip::NoHash {
-            0x0A
+    /// A desk of the role: its party and its key.
+    fn desk(&mut self, role: u8) -> (u8, Option<Key>) {
+        let desks = if role == OEM {
+            &self.oems
         } else {
-            AK
+            &self.owners
+        };
+        let desk = &desks[self.rng.below(desks.len())];
+        (desk.party, desk.key)
+    }
+
+    /// A new key for a device, and its set-up.
+    fn new_key(&mut self, d: usize, attributes: u8, slip: Slip) -> Key {
+        let attributes = match slip {
+            Slip::WeakKey => self.rng.pick(&WEAK),
+            Slip::SiblingKey => sibling(attributes),
+            Slip::OwnerParent | Slip::DevidParent if self.rng.chance(25) => sibling(attributes),
+            Slip::NoHash => DEVID,
+            _ => attributes,
         };
         let key = self.key(attributes);
         let party = self.devices[d].party;
@@ -849,7 +932,7 @@ impl Town {
         let subject = self.devices[d].subject;
         let desk = self.rng.below(self.oems.len());
         let (oem, desk_key) = (self.oems[desk].party, self.oems[desk].key);
-        let key = self.attestation_key(d, slip);
+        let key = self.new_key(d, AK, slip);
 
         let source = if slip == Slip::ForeignEndorsement {
             self.other_device(d)
@@ -966,29 +1049,42 @@ impl Town {
             slip,
             Slip::None | Slip::Twice | Slip::Again | Slip::HashedAttest
         );
-        self.finish(
-            d,
+        let node = Node {
+            device: d,
             key,
+            attributes: AK,
             certificate,
-            1,
-            issued && desk_key.is_some(),
-            None,
-            commands,
-        );
+            depth: 1,
+            flow: self.flows.len(),
+        };
+        self.finish(node, issued && desk_key.is_some(), Vec::new(), commands);
     }
 
-    /// Enrolment of an LAK on an issued certificate.
-    fn enrol_lak(&mut self, parent: usize, slip: Slip) {
-        let mut commands = Vec::new();
-        let node = &self.nodes[parent];
-        let (d, above, depth, after) = (node.device, node.key, node.depth, node.flow);
-        let mut parent_certificate = node.certificate;
+    /// A certificate to stand above one of the family, mostly a late one if
+    /// `deep` is high.
+    fn parent(&mut self, family: Family, slip: Slip, deep: usize) -> Node {
+        let nodes = self.nodes.iter().copied();
+        let nodes: Vec<Node> = match slip {
+            Slip::DevidParent => nodes.filter(|n| n.attributes == DEVID).collect(),
+            Slip::OwnerParent => nodes.filter(|n| n.bears(LAK) && n.depth > 1).collect(),
+            _ => nodes.filter(|n| n.bears(family)).collect(),
+        };
+        // The first is of an IAK.
+        let last = *nodes.last().unwrap_or(&self.nodes[0]);
+        if self.rng.chance(deep) {
+            last
+        } else {
+            self.rng.try_pick(&nodes).unwrap_or(last)
+        }
+    }
+
+    /// A request for a key under a certificate, with the commands that make it.
+    fn attested(&mut self, key: Key, parent: Node, slip: Slip, to: &mut Vec<Record>) -> u16 {
+        let (d, above) = (parent.device, parent.key);
+        let mut parent_certificate = parent.certificate;
         let p = self.devices[d].party;
         let subject = self.devices[d].subject;
         let plain = self.devices[d].plain;
-        let desk = self.rng.below(self.owners.len());
-        let (owner, desk_key) = (self.owners[desk].party, self.owners[desk].key);
-        let key = self.attestation_key(d, slip);
 
         let attest = self.draft.attest(key.public);
         let signer = if slip == Slip::PlainAttest {
@@ -997,7 +1093,7 @@ impl Town {
             above.private
         };
         let mut message = self.draft.signature(attest, signer);
-        commands.push(act(0x32, p, message));
+        to.push(act(0x32, p, message));
         match slip {
             Slip::NotAttest => {
                 message = if self.rng.chance(50) {
@@ -1009,7 +1105,7 @@ impl Town {
             Slip::SelfIssuedParent => {
                 let s = Subject::Device(subject);
                 parent_certificate = self.draft.certificate(above.public, s, plain.private);
-                commands.push(act(0x3D, p, parent_certificate));
+                to.push(act(0x3D, p, parent_certificate));
             }
             Slip::EndorsementParent => {
                 // A TPM maker's certificate, of this device or for this key.
@@ -1024,66 +1120,99 @@ impl Town {
             Slip::HashedAttest => {
                 let hash = self.draft.hash(attest);
                 let signature = self.draft.signature(hash, above.private);
-                commands.extend([act(0x30, p, hash), act(0x31, p, signature)]);
+                to.extend([act(0x30, p, hash), act(0x31, p, signature)]);
             }
             _ => {}
         }
         let body = self.draft.ldevid(message, parent_certificate);
-        commands.push(act(0x36, p, body));
-        let request = self.request(d, key, body, slip, &mut commands);
-        let issuer = self.issuer(desk_key, d);
-        let certificate = self.wanted(d, key, Subject::Device(subject), issuer, slip);
-        if slip != Slip::NotSent {
-            commands.push(send(p, owner, request));
-        }
-        if self.rng.chance(25) {
-            self.desk_checks(owner, request, &mut commands);
-        }
-        let issuing = if slip == Slip::WrongRole {
-            self.oems[0].party
-        } else {
-            owner
-        };
-        commands.push(issue_lak(issuing, request, certificate));
-        commands.push(send(owner, p, certificate));
-        if slip == Slip::Again {
-            commands.push(issue_lak(owner, request, certificate));
-        }
-        let issued = matches!(slip, Slip::None | Slip::Again | Slip::HashedAttest) && depth < 8;
-        let issued = issued && desk_key.is_some();
-        self.finish(
-            d,
-            key,
-            certificate,
-            depth + 1,
-            issued,
-            Some(after),
-            commands,
-        );
+        to.push(act(0x36, p, body));
+        self.request(d, key, body, slip, to)
     }
 
-    #[allow(clippy::too_many_arguments)]
-    fn finish(
-        &mut self,
-        device: usize,
-        key: Key,
-        certificate: u16,
-        depth: u16,
-        issued: bool,
-        after: Option<usize>,
-        commands: Vec<Record>,
-    ) {
-        let flow = self.flows.len();
+    /// Enrolment of a key of the family on an issued certificate.
+    fn enrol_under(&mut self, family: Family, parent: Node, slip: Slip) {
+        let mut commands = Vec::new();
+        let mut after = vec![parent.flow];
+        let d = parent.device;
+        let p = self.devices[d].party;
+        let subject = Subject::Device(self.devices[d].subject);
+        let (desk, desk_key) = self.desk(family.role);
+        let key = self.new_key(d, family.attributes, slip);
+        let request = self.attested(key, parent, slip, &mut commands);
+        let issuer = self.issuer(desk_key, d);
+        let certificate = self.wanted(d, key, subject, issuer, slip);
+        if slip != Slip::NotSent {
+            commands.push(send(p, desk, request));
+        }
+        if self.rng.chance(25) {
+            self.desk_checks(desk, request, &mut commands);
+        }
+        let issuing = match slip {
+            Slip::WrongRole => self.desk(if family.role == OEM { OWNER } else { OEM }).0,
+            _ => desk,
+        };
+        commands.push(issue(family.kind, issuing, request, certificate));
+        commands.push(send(desk, p, certificate));
+        match slip {
+            Slip::Again => commands.push(issue(family.kind, desk, request, certificate)),
+            Slip::AgainElsewhere => {
+                let nodes = self.nodes.iter().copied();
+                let nodes: Vec<Node> = nodes
+                    .filter(|n| n.device == d && n.bears(family) && n.flow != parent.flow)
+                    .collect();
+                if let Some(other) = self.rng.try_pick(&nodes) {
+                    after.push(other.flow);
+                    let request = self.attested(key, other, Slip::None, &mut commands);
+                    commands.push(send(p, desk, request));
+                    commands.push(issue(family.kind, desk, request, certificate));
+                }
+            }
+            _ => {}
+        }
+        let other = match slip {
+            Slip::OtherCommand => Some(self.rng.pick(&[LAK, IDEVID, LDEVID])),
+            // One key may get both.
+            Slip::None if family.attributes == DEVID && self.rng.chance(10) => {
+                let other = if family.role == OEM { LDEVID } else { IDEVID };
+                Some(other).filter(|&other| parent.bears(other))
+            }
+            _ => None,
+        };
+        if let Some(other) = other {
+            let (desk, desk_key) = self.desk(other.role);
+            let issuer = self.issuer(desk_key, d);
+            let r = if slip == Slip::OtherCommand && self.rng.chance(50) {
+                certificate
+            } else {
+                self.draft.certificate(key.public, subject, issuer)
+            };
+            commands.push(send(p, desk, request));
+            commands.push(issue(other.kind, desk, request, r));
+        }
+        let issued = matches!(
+            slip,
+            Slip::None
+                | Slip::Again
+                | Slip::AgainElsewhere
+                | Slip::OtherCommand
+                | Slip::HashedAttest
+        ) && parent.depth < 8;
+        let node = Node {
+            device: d,
+            key,
+            attributes: family.attributes,
+            certificate,
+            depth: parent.depth + 1,
+            flow: self.flows.len(),
+        };
+        self.finish(node, issued && desk_key.is_some(), after, commands);
+    }
+
+    fn finish(&mut self, node: Node, issued: bool, after: Vec<usize>, commands: Vec<Record>) {
         self.flows.push(Flow { after, commands });
         // A few children of certificates never issued are asked for, too.
         if issued || self.rng.chance(2) {
-            self.nodes.push(Node {
-                device,
-                key,
-                certificate,
-                depth,
-                flow,
-            });
+            self.nodes.push(node);
         }
     }
 
@@ -1142,7 +1271,7 @@ impl Town {
             check(0x38, p, name, plain.public),
         ];
         self.flows.push(Flow {
-            after: None,
+            after: Vec::new(),
             commands,
         });
     }
@@ -1164,16 +1293,13 @@ impl Town {
                 self.enrol_iak(d, slip);
             } else {
                 let slip = if self.rng.chance(hostile) {
-                    self.rng.pick(&LAK_SLIPS)
+                    self.rng.pick(&FAMILY_SLIPS)
                 } else {
                     Slip::None
                 };
-                let parent = if self.rng.chance(deep) {
-                    self.nodes.len() - 1
-                } else {
-                    self.rng.below(self.nodes.len())
-                };
-                self.enrol_lak(parent, slip);
+                let family = self.rng.pick(&[LAK, LAK, LAK, IDEVID, LDEVID]);
+                let parent = self.parent(family, slip, deep);
+                self.enrol_under(family, parent, slip);
             }
         }
     }
@@ -1189,9 +1315,9 @@ impl Town {
                 next += 1;
             }
             let ready: Vec<usize> = (0..active.len())
-                .filter(|&i| match self.flows[active[i]].after {
-                    Some(needed) => done[needed] == self.flows[needed].commands.len(),
-                    None => true,
+                .filter(|&i| {
+                    let mut needed = self.flows[active[i]].after.iter();
+                    needed.all(|&flow| done[flow] == self.flows[flow].commands.len())
                 })
                 .collect();
             let Some(i) = self.rng.try_pick(&ready) else {
@@ -1499,10 +1625,7 @@ pub fn random_records(seed: u64) -> Vec<u8> {
     }
     let mut file = draft.file();
     if file.len() > FILE_BYTES && rng.chance(90) {
-        let last = starts(&file)
-            .into_iter()
-            .filter(|&s| s <= FILE_BYTES)
-            .max();
+        let last = starts(&file).into_iter().filter(|&s| s <= FILE_BYTES).max();
         file.truncate(last.unwrap_or(0));
     }
     file
@@ -1664,7 +1787,9 @@ fn damage_record(rng: &mut Rng, file: &mut Vec<u8>) {
             let kind = rng.byte();
             file.insert(target, kind);
         }
-        _ => file[start] = 0x01 + rng.byte() % 0x42,
+        // Any kind, or one just past a section.
+        _ if rng.chance(85) => file[start] = 0x01 + rng.byte() % 0x43,
+        _ => file[start] = rng.pick(&[0x02, 0x1B, 0x23, 0x43]),
     }
 }
 
@@ -1694,7 +1819,7 @@ pub fn any(seed: u64) -> Vec<u8> {
             };
             let usual = rng.chance(50);
             (0..length)
-                .map(|_| if usual { rng.byte() % 0x42 } else { rng.byte() })
+                .map(|_| if usual { rng.byte() % 0x44 } else { rng.byte() })
                 .collect()
         }
     }

@@ -96,6 +96,17 @@ struct Seen {
     paths: u64,
     refusals: [u64; 31],
     outcomes: [u64; 31],
+    /// Outcomes of 40, of 41 and of 42.
+    issuing: [[u64; 31]; 3],
+}
+
+/// Whether the rules have this outcome for a command 40 to 42. An IDevID is at depth 2, so 41 has no 29.
+fn possible(kind: u8, outcome: usize) -> bool {
+    match outcome {
+        0 | 13 | 14 | 19 | 20 | 21 | 23 | 27 | 28 => true,
+        29 => kind != 0x41,
+        _ => false,
+    }
 }
 
 fn compare(name: &str, seed: u64, file: &[u8], rng: &mut Rng, seen: &mut Seen) {
@@ -119,7 +130,13 @@ fn compare(name: &str, seed: u64, file: &[u8], rng: &mut Rng, seen: &mut Seen) {
             seen.runs += 1;
             seen.issued += issued as u64;
             seen.depth_8 += ledger[..issued as usize].iter().filter(|e| e.depth == 8).count() as u64;
-            lent.outcomes[..(accepted + refused) as usize].iter().for_each(|&o| seen.outcomes[o as usize] += 1);
+            let outcomes = &lent.outcomes[..(accepted + refused) as usize];
+            for (kind, &o) in worlds::command_kinds(file).into_iter().zip(outcomes) {
+                seen.outcomes[o as usize] += 1;
+                if let 0x40..=0x42 = kind {
+                    seen.issuing[kind as usize - 0x40][o as usize] += 1;
+                }
+            }
             format!("ran {accepted} {refused} {issued}")
         }
         RunAnswer::Refused(refusal) => {
@@ -178,19 +195,30 @@ fn every_call_agrees() {
         }
     }
     println!(
-        "{} files; {} runs, {} issued, {} at depth 8, {} paths; refusals {:?}; outcomes {:?}",
+        "{} files; {} runs, {} issued, {} at depth 8, {} paths; refusals {:?}; outcomes {:?}; of 40, 41 and 42 {:?}",
         seeds * GENERATORS.len() as u64,
         seen.runs,
         seen.issued,
         seen.depth_8,
         seen.paths,
         seen.refusals,
-        seen.outcomes
+        seen.outcomes,
+        seen.issuing
     );
     // 22 is no refusal any more.
     assert_eq!(seen.outcomes[22], 0);
     // The comparison is worth something: each refusal and each outcome occurred.
-    if seeds >= SEEDS && first == 0 {
+    let enough = seeds >= SEEDS && first == 0;
+    for (kind, counts) in (0x40..).zip(seen.issuing) {
+        for (outcome, count) in counts.into_iter().enumerate() {
+            if !possible(kind, outcome) {
+                assert_eq!(count, 0, "{kind:X} with outcome {outcome}");
+            } else if enough {
+                assert!(count > 50, "{kind:X} with outcome {outcome}: {count}");
+            }
+        }
+    }
+    if enough {
         for number in (1..=12).chain([30]) {
             assert!(seen.refusals[number] > 0, "no refusal {number}");
         }

@@ -11,11 +11,11 @@ use native.Mathlib.Decide.{ℕ-discrete}
 use lib.ListN.{length}
 use Rattle.rules.specs.declared.Entry.{Entry}
 use Rattle.rules.specs.Term.{hashKind, signatureKind, attestKind, idevidRequestKind, pairKind}
-use Rattle.rules.specs.File.{File, Command, hash, sign, certify, makeCredential, activateCredential, makeIdevidRequest, makeLdevidRequest, makePair, checkHash, checkSignature, checkCertificate, checkAttributes, send, selfIssue, challenge, issueIak, issueLak, isKind, hashedTerm, credentialNumber}
+use Rattle.rules.specs.File.{File, Command, hash, sign, certify, makeCredential, activateCredential, makeIdevidRequest, makeLdevidRequest, makePair, checkHash, checkSignature, checkCertificate, checkAttributes, send, selfIssue, challenge, issueIak, issue, isKind, hashedTerm, credentialNumber}
 use Rattle.rules.specs.Learning.{Knowledge, grant, learn}
 use Rattle.rules.specs.State.{State, start, numberUsed, credentialOpen, credentialClosed, put, learnt, ticketed, opening, closing, entered}
 use Rattle.rules.specs.Device.{hashEffect}
-use Rattle.rules.specs.Desk.{requestBody, requestSignature, formTests, proofTests, numberTests, challengeTests, challengeEffect, issueIakEffect, issueLakEffect}
+use Rattle.rules.specs.Desk.{requestBody, requestSignature, formTests, proofTests, numberTests, challengeTests, challengeEffect, issueIakEffect, issueEffect}
 use Rattle.rules.specs.Run.{testsOf, effectOf, outcome, after}
 use Rattle.theorems.proofs.Learning.{grant-only, learn-only}
 use Rattle.theorems.proofs.Loading.{Checked, Wellformed}
@@ -129,7 +129,7 @@ challenge-requested f x p q r l e =
 
 module _ {f : File} (ck : Checked f) (x : State) (k : Rest f x) where
   effect-rest : (c : Command) → Wellformed f c → outcome f x c ≡ 0 → Rest f (effectOf f x c)
-  unfolding effectOf hashEffect challengeEffect issueIakEffect issueLakEffect
+  unfolding effectOf hashEffect challengeEffect issueIakEffect issueEffect
   effect-rest (hash p r) w e = either (isKind f attestKind (hashedTerm f r))
     where
       either : (b : Bool) → Rest f (cond b (learnt f x p r) (ticketed (learnt f x p r) p r))
@@ -153,7 +153,7 @@ module _ {f : File} (ck : Checked f) (x : State) (k : Rest f x) where
       opening-rest (learnt-rest ck p l k) p (declared f (credentialNumber f r) (λ z. omega (arith, ck .credentialNumberKind r (w .1)))) l (challenge-requested f x p q r (w .2) e)
   effect-rest (issueIak p q c r) w e =
       entered-rest (closing-rest (learnt-rest ck p (declared f r (λ z. omega (arith, w .3))) k) (declared f c (λ z. omega (arith, w .2)))) _
-  effect-rest (issueLak p q r) w e = entered-rest (learnt-rest ck p (declared f r (λ z. omega (arith, w .1))) k) _
+  effect-rest (issue family p q r) w e = entered-rest (learnt-rest ck p (declared f r (λ z. omega (arith, w .1))) k) _
 
   after-rest : (c : Command) → Wellformed f c → Rest f (after f x c)
   after-rest c w = go (ℕ-discrete (outcome f x c) 0)

@@ -26,7 +26,7 @@ module _ {f : File} (ck : Checked f) {x : State} (inv : Invariant f x) where
   here i l = at-within (x .ledger) _ i l
 
   is-certificate : (i : ℕ) → i < length (x .ledger) → kind f (at i .certificate) ≡ certificateKind
-  is-certificate i l = inv .entries i (at i) (here i l) .signed .isCertificate
+  is-certificate i l = inv .entries i (at i) (here i l) .ofFamily .signed .isCertificate
 
   -- the certificates, and after them a term k
   module _ (k : ℕ) (isKey : kind f k ≡ publicKeyKind) where

@@ -1,20 +1,22 @@
 -- What accepted desk commands leave.
 --     challenge-left              3E
---     iak-new, iak-open, lak-accepted     tests that an accepted 3F or 40 passed
---     lak-noted                   the place of a 40's parent
+--     iak-new, iak-open, request-accepted     tests that an accepted 3F, or an accepted 40, 41 or 42 passed
+--     parent-place                the place of the parent of a 40, 41 or 42
 --     same-ledger                 the words hold one ledger
---     iak-issued, lak-issued      3F, 40
+--     iak-issued, request-issued  3F; 40, 41, 42
 -- Assumes nothing.
 use mathlib.Core.Path.{_≡_, refl, sym, ap, _∙_}
 use mathlib.Core.Bool.{false}
-use mathlib.Core.List.{List, [], _∷_, _++_}
+use mathlib.Core.List.{List, [], _∷_, _++_, List·Memᴰ}
 use Prim.Native.Nat.{ℕ, _+_, _<_, _≤_}
 use borrow.Author.Tests.{eqb-true, leb-true, not-true}
 use Rattle.rules.specs.declared.Entry.{Entry}
+use Rattle.rules.specs.declared.Family.{Family}
 use Rattle.rules.specs.Limits.{termLimit, depthLimit}
-use Rattle.rules.specs.File.{File, challenge, issueIak, issueLak, credentialNumber, idevidCertificate, ldevidCertificate, leftOf}
+use Rattle.rules.specs.Families.{requestFamilies}
+use Rattle.rules.specs.File.{File, challenge, issueIak, issue, credentialNumber, idevidCertificate, ldevidCertificate, leftOf}
 use Rattle.rules.specs.State.{State, numberUsed, credentialOpen, credentialClosed, put, listed, depthOf, learnt, opening, closing, entered}
-use Rattle.rules.specs.Desk.{requestBody, formTests, proofTests, ekCertificateOf, parentCertificateOf, calledFor, challengeEffect, issueIakTests, issueIakEffect, issueLakTests, issueLakEffect}
+use Rattle.rules.specs.Desk.{requestBody, formTests, proofTests, ekCertificateOf, parentCertificateOf, calledFor, challengeEffect, issueIakTests, issueIakEffect, issueTests, issueEffect}
 use Rattle.rules.specs.Run.{testsOf, outcome, effectOf}
 use Rattle.theorems.proofs.Passing.{passed}
 use Rattle.theorems.proofs.Requests.{DeskParent}
@@ -22,13 +24,12 @@ use Rattle.state.specs.View.{Columns, view, withMark, withDesk, withRequest}
 use Rattle.state.proofs.Exact.{stateOf}
 use Rattle.tables.specs.Regions.{tablesIn}
 use Rattle.loaded.specs.Loaded.{fileIn, Learns, Leaves}
-use Rattle.loaded.specs.Entries.{Enters, Accepts, Issues}
+use Rattle.loaded.specs.Entries.{Enters, Issues}
 use Rattle.loaded.proofs.Ledger.{entry-most}
 use Rattle.desk.specs.Appends.{Appends}
-use Rattle.desk.specs.Issues.{IssuesIak}
-use Rattle.desk.specs.Dispatch.{ParentsEntered}
+use Rattle.desk.specs.Issues.{IssuesIak, IssuesOnRequest}
 use Rattle.requests.proofs.Read.{is-kind-kind}
-use Rattle.desk.proofs.IssueLak.{parentAt, parent-noted}
+use Rattle.desk.proofs.IssueOnRequest.{parentAt, parent-noted}
 
 -- the columns of an opened credential
 abbrev openedWith : Columns → ℕ → ℕ → ℕ → ℕ → Columns
@@ -68,32 +69,32 @@ pub iak-open : (f : File) (s : State) (p q c r : ℕ) → outcome f s (issueIak 
 unfolding outcome testsOf issueIakTests calledFor
 iak-open f s p q c r e = eqb-true _ _ (passed (issueIakTests f s p q c r) refl e .1 .0)
 
--- an accepted 40: a request whose parent a desk signed, a certificate that is not listed, and the depth
-pub record LakPassed (f : File) (s : State) (p q r : ℕ) : Type 0 where
+-- an accepted 40, 41 or 42: a request whose parent a desk signed, a certificate that is not listed, and the depth
+pub record RequestPassed (f : File) (s : State) (p q r : ℕ) : Type 0 where
   pub parent : DeskParent f (s .knows) p q
   pub new : listed (s .ledger) r ≡ false
   pub depth : depthOf (s .ledger) (ldevidCertificate f (leftOf f q)) + 1 ≤ depthLimit
 
-lak-passed : (f : File) (s : State) (p q r : ℕ) → outcome f s (issueLak p q r) ≡ 0 → LakPassed f s p q r
-unfolding outcome testsOf issueLakTests formTests proofTests calledFor requestBody parentCertificateOf
-lak-passed f s p q r e =
-    let tests = passed (issueLakTests f s p q r) refl e in
+request-passed : (f : File) (s : State) (family : Family) (p q r : ℕ) → List·Memᴰ family requestFamilies → outcome f s (issue family p q r) ≡ 0 → RequestPassed f s p q r
+unfolding outcome testsOf issueTests formTests proofTests calledFor requestBody parentCertificateOf
+request-passed f s family p q r row e =
+    let tests = passed (issueTests f s family p q r) refl e in
     let signed = tests .1 .1 .1 .1 .1 .1 .1 .1 .1 .1 .1 in
     let new = signed .1 .1 .1 .1 .1 .1 in
     record {
-      parent = record { known = tests .1 .0; pair = is-kind-kind f q (tests .1 .1 .0); body = is-kind-kind f (leftOf f q) (tests .1 .1 .1 .0); signed = signed .0 };
+      parent = record { known = tests .1 .0; pair = is-kind-kind f q (tests .1 .1 .0); body = is-kind-kind f (leftOf f q) (tests .1 .1 .1 .0); family = family; row = row; signed = signed .0 };
       new = not-true _ (new .0);
       depth = leb-true _ depthLimit (new .1 .0);
     }
 
-pub lak-accepted : {bs s tables words : List ℕ} {n p q r : ℕ} (a : Accepts bs s tables words n (issueLak p q r)) → LakPassed (fileIn bs) (stateOf (view s) (a .ledger)) p q r
-lak-accepted {bs} {s} {p = p} {q} {r} a = lak-passed (fileIn bs) (stateOf (view s) (a .ledger)) p q r (a .accepted)
+pub request-accepted : {bs s tables words : List ℕ} {n p q r : ℕ} (i : IssuesOnRequest bs s tables words n p q r) → RequestPassed (fileIn bs) (stateOf (view s) (i .accepts .ledger)) p q r
+request-accepted {bs} {s} {p = p} {q} {r} i = request-passed (fileIn bs) (stateOf (view s) (i .accepts .ledger)) (i .family) p q r (i .wellformed .3) (i .accepts .accepted)
 
 -- the place of its parent's entry
-pub lak-noted :
-    {bs s tables words : List ℕ} {n p q r : ℕ} → Accepts bs s tables words n (issueLak p q r) → ParentsEntered bs s tables
+pub parent-place :
+    {bs s tables words : List ℕ} {n p q r : ℕ} → IssuesOnRequest bs s tables words n p q r
     → (0 < tablesIn tables .entry (parentAt (fileIn bs) q)) × (tablesIn tables .entry (parentAt (fileIn bs) q) ≤ termLimit)
-lak-noted {bs} {s} {tables} {p = p} {q} a noted = (parent-noted bs s tables p q noted (lak-accepted a .parent), entry-most (parentAt (fileIn bs) q) (a .enters))
+parent-place {bs} {s} {tables} {p = p} {q} i = (parent-noted bs s tables p q (i .parents) (request-accepted i .parent), entry-most (parentAt (fileIn bs) q) (i .accepts .enters))
 
 -- the words hold one ledger
 pub same-ledger : {tables words : List ℕ} {n : ℕ} {a b : List Entry} → Enters tables words n a → Enters tables words n b → a ≡ b
@@ -119,13 +120,13 @@ iak-issued {bs} {s} {s₁} {s₂} {n = n} {p} {c} {r} {request} {body} {parent} 
       keys = a .keys;
     }
 
-pub lak-issued :
-    {bs s s₁ tables words tables′ words′ : List ℕ} {n p q r body parent depth : ℕ} → Accepts bs s tables words n (issueLak p q r) → body ≡ leftOf (fileIn bs) q → parent ≡ ldevidCertificate (fileIn bs) body
+pub request-issued :
+    {bs s s₁ tables words tables′ words′ : List ℕ} {n p q r body parent depth : ℕ} → IssuesOnRequest bs s tables words n p q r → body ≡ leftOf (fileIn bs) q → parent ≡ ldevidCertificate (fileIn bs) body
     → ((m : ℕ) (ledger : List Entry) → Enters tables words m ledger → depth ≡ depthOf ledger parent)
     → Learns bs s s₁ p r → Appends tables words n (record { certificate = r; parent = parent; depth = depth + 1 }) tables′ words′
-    → Issues bs s tables words n (issueLak p q r) s₁ tables′ words′
-unfolding effectOf issueLakEffect entered parentCertificateOf requestBody
-lak-issued {bs} {s} {n = n} {p} {q} {r} {body} {parent} {depth} i b e d w a =
+    → (family : Family) → Issues bs s tables words n (issue family p q r) s₁ tables′ words′
+unfolding effectOf issueEffect entered parentCertificateOf requestBody
+request-issued {bs} {s} {n = n} {p} {q} {r} {body} {parent} {depth} i b e d w a family =
     let f = fileIn bs in
     let above : parent ≡ parentCertificateOf f q = e ∙ ap (ldevidCertificate f) b in
     let next : ℕ → ℕ → Entry = λ t m. record { certificate = r; parent = t; depth = m + 1 } in
@@ -135,7 +136,7 @@ lak-issued {bs} {s} {n = n} {p} {q} {r} {body} {parent} {depth} i b e d w a =
           ap (λ (x : State). entered x (next parent depth)) (w .columns old)
           ∙ ap (λ (m : ℕ). entered (learnt f (stateOf (view s) old) p r) (next parent m)) (d n old h)
           ∙ ap (λ (t : ℕ). entered (learnt f (stateOf (view s) old) p r) (next t (depthOf old t))) above;
-      enters = λ old h. a .enters old h (ap (λ (es : List Entry). listed es r) (same-ledger h (i .enters)) ∙ lak-accepted i .new);
+      enters = λ old h. a .enters old h (ap (λ (es : List Entry). listed es r) (same-ledger h (i .accepts .enters)) ∙ request-accepted i .new);
       places = w .places;
       keys = a .keys;
     }

@@ -1,7 +1,7 @@
 pub mod Outcomes
 pub mod Called
 pub mod IssueIak
-pub mod IssueLak
+pub mod IssueOnRequest
 pub mod Appending
 pub mod Issued
 pub mod Places

@@ -1,5 +1,5 @@
 -- A desk command by its record in the file.
---     lak-kind                  the last of their kinds
+--     request-kind, issue-as    the kinds 40, 41 and 42, and the command of each
 --     iak-bytes, two-bytes      what of each record stands in the file
 --     issue-read                3F by numbers that were read
 --     decided-as, issues-as, challenge-as     what it decides and leaves, where its record reads as that command
@@ -7,19 +7,21 @@
 use mathlib.Core.Path.{_≡_, refl, sym, subst, subst⁻¹, _∙_}
 use mathlib.Core.Bool.{Bool, true, false}
 use mathlib.Core.List.{List}
-use Prim.Native.Nat.{ℕ, _+_, _<_}
+use Prim.Native.Nat.{ℕ, _+_, _<_, _≤_}
 use native.Mathlib.Omega.{arith}
 use lib.Dec.{eqb}
-use lib.ListN.{length}
+use lib.ListN.{length, getD}
 use borrow.Author.Tests.{eqb-true, eqb-false}
-use Rattle.rules.specs.Record.{sectionOf, fieldsOf, bodyLength, width, widths}
-use Rattle.rules.specs.File.{Command, issueIak}
+use Rattle.rules.specs.Record.{sectionOf, fieldsOf, bodyLength, width, widths, word}
+use Rattle.rules.specs.declared.Family.{Family}
+use Rattle.rules.specs.Families.{requestFamilies, familyOf}
+use Rattle.rules.specs.File.{Command, issueIak, issue}
 use Rattle.theorems.proofs.Loading.{Wellformed}
 use Rattle.learning.specs.There.{kindThere}
 use Rattle.lookup.specs.There.{commandThere}
 use Rattle.lookup.specs.Commands.{CommandAt}
 use Rattle.lookup.proofs.Left.{command-range}
-use Rattle.lookup.proofs.Fields.{command-ends}
+use Rattle.lookup.proofs.Fields.{command-ends, issue-length, issue-there}
 use Rattle.loaded.specs.Loaded.{fileIn, Leaves}
 use Rattle.loaded.specs.Entries.{DecidesBy, Accepts, Issues}
 use Rattle.desk.specs.Dispatch.{DeskLeaves}
@@ -28,22 +30,31 @@ pub issue-read : {k : Command} {p q m n c r : ℕ} → k ≡ issueIak p q m n �
 issue-read {p = p} {q = q} e h i = e ∙ (λ x. issueIak p q (sym h x) (sym i x))
 
 module _ {bs : List ℕ} {at : ℕ} (w : CommandAt (Wellformed (fileIn bs)) bs at) where
-  -- the last of them
-  pub lak-kind : 0x3D < kindThere bs at → (kindThere bs at ≡ 0x3F → ⊥) → (kindThere bs at ≡ 0x3E → ⊥) → kindThere bs at ≡ 0x40
-  lak-kind l a b = omega (arith, command-range (kindThere bs at) (w .isCommand) .1, a, b)
+  -- the others are 40 on
+  pub request-kind : 0x3D < kindThere bs at → (kindThere bs at ≡ 0x3F → ⊥) → (kindThere bs at ≡ 0x3E → ⊥) → (0x40 ≤ kindThere bs at) × (kindThere bs at < 0x40 + length requestFamilies)
+  request-kind l a b = (omega (arith, a, b), omega (arith, command-range (kindThere bs at) (w .isCommand) .1))
+
+  -- by the family and the numbers that were read
+  pub issue-as : {family : Family} {q r : ℕ} → 0x3D < kindThere bs at → (kindThere bs at ≡ 0x3F → ⊥) → (kindThere bs at ≡ 0x3E → ⊥)
+      → family ≡ familyOf (kindThere bs at) → q ≡ word bs (at + 2) → r ≡ word bs (at + 4) → commandThere bs at ≡ issue family (getD bs (at + 1) 0) q r
+  issue-as l a b f h i =
+      let k = request-kind l a b in
+      issue-there bs at (k .0) (k .1) ∙ (λ x. issue (sym f x) (getD bs (at + 1) 0) (sym h x) (sym i x))
 
   pub iak-bytes : kindThere bs at ≡ 0x3F → at + 6 < length bs
   unfolding bodyLength widths width fieldsOf sectionOf
   iak-bytes e = omega (arith, command-ends bs at 0x3F e (w .whole))
 
-  -- 3E and 40
+  -- the others
   pub two-bytes : 0x3D < kindThere bs at → (kindThere bs at ≡ 0x3F → ⊥) → at + 5 < length bs
   unfolding bodyLength widths width fieldsOf sectionOf
   two-bytes l a = go (eqb (kindThere bs at) 0x3E) refl
     where
       go : (b : Bool) → eqb (kindThere bs at) 0x3E ≡ b → at + 5 < length bs
       go true e = omega (arith, command-ends bs at 0x3E (eqb-true _ _ e) (w .whole))
-      go false e = omega (arith, command-ends bs at 0x40 (lak-kind l a (eqb-false _ _ e)) (w .whole))
+      go false e =
+          let k = request-kind l a (eqb-false _ _ e) in
+          omega (arith, issue-length (kindThere bs at) (k .0) (k .1), command-ends bs at (kindThere bs at) refl (w .whole))
 
 module _ (bs : List ℕ) (at : ℕ) {c : Command} (e : commandThere bs at ≡ c) where
   pub decided-as : (s tables words : List ℕ) (x : ℕ) → DecidesBy bs s tables words c x → DecidesBy bs s tables words (commandThere bs at) x

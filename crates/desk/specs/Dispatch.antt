@@ -6,10 +6,8 @@ use lib.ListN.{length}
 use Rattle.rules.specs.declared.Entry.{Entry}
 use Rattle.rules.specs.File.{Command}
 use Rattle.rules.specs.State.{credentialOpen}
-use Rattle.rules.specs.Desk.{parentCertificateOf}
 use Rattle.rules.specs.Run.{effectOf}
 use Rattle.theorems.proofs.Loading.{Wellformed}
-use Rattle.theorems.proofs.Requests.{DeskParent}
 use Rattle.state.specs.View.{view}
 use Rattle.state.proofs.Exact.{stateOf}
 use Rattle.tables.specs.Regions.{tableWords, tablesIn}
@@ -19,14 +17,11 @@ use Rattle.lookup.specs.Commands.{CommandAt}
 use Rattle.loaded.specs.Loaded.{fileIn, Holds}
 use Rattle.loaded.specs.Entries.{Enters, Accepts, SameKeys}
 use Rattle.desk.specs.Formed.{Requested}
+use Rattle.desk.specs.Issues.{ParentsEntered}
 
 -- each open credential's request has the form that its challenge asked for
 abbrev pub OpenRequested : List ℕ → List ℕ → Type 0
 OpenRequested bs s = (c : ℕ) → view s .mark c ≡ credentialOpen → Requested (fileIn bs) (view s .request c)
-
--- the tables have an entry for the certificate in each known request for an LAK certificate, where a desk signed it
-abbrev pub ParentsEntered : List ℕ → List ℕ → List ℕ → Type 0
-ParentsEntered bs s tables = (p q : ℕ) → DeskParent (fileIn bs) (view s .knows) p q → 0 < tablesIn tables .entry (parentCertificateOf (fileIn bs) q)
 
 -- what an accepted desk command is done by
 pub record DeskEffectReady (bs s tables words : List ℕ) (n at : ℕ) : Type 0 where

@@ -1,11 +1,13 @@
 // Desk commands: what each decides and leaves, by the terms of their numbers.
+use rules::Family;
 ghost use mathlib.Core.Path.{_≡_};
 ghost use mathlib.Core.List.{List};
 ghost use Prim.Native.Nat.{ℕ, _+_, _*_, _<_, _≤_};
 ghost use lib.ListN.{length};
 ghost use Rattle.rules.specs.declared.Entry.{Entry};
+ghost use Rattle.rules.specs.declared.Family.{Family};
 ghost use Rattle.rules.specs.Limits.{rowWidth, partyLimit, termLimit};
-ghost use Rattle.rules.specs.File.{challenge, issueIak, issueLak};
+ghost use Rattle.rules.specs.File.{challenge, issueIak, issue};
 ghost use Rattle.rules.specs.State.{credentialOpen, listed, depthOf};
 ghost use Rattle.rules.specs.Desk.{numberTests};
 ghost use Rattle.theorems.proofs.Loading.{Wellformed};
@@ -18,12 +20,12 @@ ghost use Rattle.lookup.specs.There.{commandThere};
 ghost use Rattle.lookup.specs.Commands.{CommandAt};
 ghost use Rattle.loaded.specs.Chain.{chain};
 ghost use Rattle.loaded.specs.Loaded.{fileIn, Holds, Finds, Decides, Leaves};
-ghost use Rattle.loaded.specs.Entries.{Enters, Entered, DecidesListed, DecidesBy, Accepts, Issues};
+ghost use Rattle.loaded.specs.Entries.{Enters, Entered, DecidesListed, DecidesBy, Issues};
 ghost use Rattle.desk.specs.Formed.{Requested};
 ghost use Rattle.desk.specs.Tests.{entryTests};
 ghost use Rattle.desk.specs.Appends.{Appends};
-ghost use Rattle.desk.specs.Issues.{IssuesIak};
-ghost use Rattle.desk.specs.Dispatch.{OpenRequested, ParentsEntered, DeskEffectReady, DeskLeaves};
+ghost use Rattle.desk.specs.Issues.{IssuesIak, ParentsEntered, IssuesOnRequest};
+ghost use Rattle.desk.specs.Dispatch.{OpenRequested, DeskEffectReady, DeskLeaves};
 
 // The marks of a used number, and of an open and a closed credential.
 const NUMBER_USED: u8 = 1;
@@ -175,21 +177,22 @@ fn entry_allowed(
     0
 }
 
-// 40 IssueLak.
-pub fn decide_issue_lak(
+// 40, 41, 42: what differs is the family.
+pub fn decide_issue(
     file: &[u8],
     state: &[u8],
     tables: &[u16; tables::WORDS],
     words: &[u16; entries::WORDS],
     parties: usize,
+    family: Family,
     party: usize,
     q: usize,
     r: usize,
 ) -> u8
-    requires { ⌜ Holds (now file) (now state) × Finds (now file) (now tables) × (parties ≡ length (fileIn (now file) .roles)) × Wellformed (fileIn (now file)) (issueLak party q r) × Entered (now tables) (now words) × ParentsEntered (now file) (now state) (now tables) ⌝ }
-    ensures { λ x. ⌜ DecidesBy (now (file .entry)) (now (state .entry)) (now (tables .entry)) (now (words .entry)) (issueLak party q r) x ⌝ }
+    requires { ⌜ Holds (now file) (now state) × Finds (now file) (now tables) × (parties ≡ length (fileIn (now file) .roles)) × Wellformed (fileIn (now file)) (issue family party q r) × Entered (now tables) (now words) × ParentsEntered (now file) (now state) (now tables) ⌝ }
+    ensures { λ x. ⌜ DecidesBy (now (file .entry)) (now (state .entry)) (now (tables .entry)) (now (words .entry)) (issue family party q r) x ⌝ }
 {
-    if !loaded::is_role(file, party, rules::OWNER_DESK) {
+    if !loaded::is_role(file, party, family.desk) {
         return 13;
     }
     if !state::knows(state, party, q) {
@@ -204,8 +207,8 @@ pub fn decide_issue_lak(
     if attested.refusal != 0 {
         return attested.refusal;
     }
-    let lak = attested.key;
-    let proved = requests::proof_of_key(tables, request, lak);
+    let new = attested.key;
+    let proved = requests::proof_of_key(tables, request, new);
     if proved != 0 {
         return proved;
     }
@@ -216,15 +219,16 @@ pub fn decide_issue_lak(
         state,
         tables,
         parties,
+        family,
         attested.signer,
-        lak,
+        new,
         certificate,
     );
     if descends != 0 {
         return descends;
     }
     let wanted = certificate.subject;
-    let called = requests::called_for(file, state, tables, party, r, lak, wanted);
+    let called = requests::called_for(file, state, tables, party, r, new, wanted);
     if called != 0 {
         return called;
     }
@@ -283,8 +287,8 @@ pub fn effect_issue_iak(
     append(tables, words, n, r, asked.certificate, 1);
 }
 
-// What 40 leaves: the desk learns the certificate, and the ledger has it under the request's certificate, one deeper.
-pub fn effect_issue_lak(
+// What 40, 41 and 42 leave: the desk learns the certificate, and the ledger has it under the request's certificate, one deeper.
+pub fn effect_issue(
     file: &[u8],
     state: &mut [u8],
     tables: &mut [u16; tables::WORDS],
@@ -294,8 +298,8 @@ pub fn effect_issue_lak(
     q: usize,
     r: usize,
 )
-    requires { ⌜ Holds (now file) (now state) × Wellformed (fileIn (now file)) (issueLak party q r) × Accepts (now file) (now state) (now tables) (now words) n (issueLak party q r) × (length (now tables) ≡ tableWords) × ParentsEntered (now file) (now state) (now tables) ⌝ }
-    ensures { λ _. ⌜ Issues (now (file .entry)) (now (state .entry)) (now (tables .entry)) (now (words .entry)) n (issueLak party q r) (now (state .exit)) (now (tables .exit)) (now (words .exit)) ⌝ }
+    requires { ⌜ Holds (now file) (now state) × IssuesOnRequest (now file) (now state) (now tables) (now words) n party q r ⌝ }
+    ensures { λ _. ⌜ ((family : Family) → Issues (now (file .entry)) (now (state .entry)) (now (tables .entry)) (now (words .entry)) n (issue family party q r) (now (state .exit)) (now (tables .exit)) (now (words .exit))) ⌝ }
 {
     let request = requests::pair_of(file, state, q);
     let asked = requests::ldevid_request_of(file, state, request.left);
@@ -330,7 +334,8 @@ pub fn decide(
     if kind == 0x3E {
         return decide_challenge(file, state, tables, parties, party, q, r);
     }
-    decide_issue_lak(file, state, tables, words, parties, party, q, r)
+    let family = rules::family_of(kind);
+    decide_issue(file, state, tables, words, parties, family, party, q, r)
 }
 
 // What the desk command at a place leaves, where it is accepted. Answers how many entries the ledger has then.
@@ -359,6 +364,6 @@ pub fn effect(
         effect_challenge(file, state, party, q, r);
         return entries;
     }
-    effect_issue_lak(file, state, tables, words, entries, party, q, r);
+    effect_issue(file, state, tables, words, entries, party, q, r);
     entries + 1
 }

@@ -19,7 +19,7 @@ use Rattle.rules.specs.declared.Term.{Term}
 use Rattle.rules.specs.declared.Term.the-variants.{Hash}
 use Rattle.rules.specs.Limits.{fileLimit, partyLimit, termLimit, rowWidth, stateBytes, roleCount}
 use Rattle.rules.specs.Term.{partsOf}
-use Rattle.rules.specs.Record.{width, widths, fieldsOf, sectionOf, bodyLength, word, partySection, termSection, setupSection, commandSection}
+use Rattle.rules.specs.Record.{lastKind, width, widths, fieldsOf, sectionOf, bodyLength, word, partySection, termSection, setupSection, commandSection}
 use Rattle.rules.specs.File.{File, Setup, learns, holds, signsWith, Command, term, parts, roleOf, holdsKey, someSetup, isHold}
 use Rattle.rules.specs.Load.{termAt, setupAt, commandAt, sectionFault, countFault, fieldsFault, recordFault, withParty, withTerm, withSetup, withCommand, enter, emptyFile}
 use Rattle.rules.specs.Learning.{Knowledge, grant, each, opened, learn}
@@ -389,7 +389,7 @@ section-go false false false false = omega arith
 
 last-section : (k : ℕ) → sectionOf k ≤ commandSection
 unfolding sectionOf
-last-section k = section-go (eqb k 1) (leb 0x10 k && leb k 0x1A) (leb 0x20 k && leb k 0x22) (leb 0x30 k && leb k 0x40)
+last-section k = section-go (eqb k 1) (leb 0x10 k && leb k 0x1A) (leb 0x20 k && leb k 0x22) (leb 0x30 k && leb k lastKind)
 
 section-right : (f : File) (k : ℕ) → sectionFault f k ≡ 0 → f .section ≤ sectionOf k
 unfolding sectionFault
@@ -462,7 +462,7 @@ each-named f body = ((λ h. (h .0, h .1 .0)), ((λ h. (h .0, h .1 .0 .0)), ((λ 
 named : (f : File) (body : List ℕ) (k : ℕ) → sectionOf k ≡ setupSection → fieldsFault f (fieldsOf k) 0 body ≡ 0 → (getD body 0 0 < length (f .roles)) × (word body 1 < length (f .terms))
 unfolding sectionOf
 named f body k e none =
-    let r = within 0x20 k 0x22 (third (eqb k 1) (leb 0x10 k && leb k 0x1A) _ (leb 0x30 k && leb k 0x40) e) in
+    let r = within 0x20 k 0x22 (third (eqb k 1) (leb 0x10 k && leb k 0x1A) _ (leb 0x30 k && leb k lastKind) e) in
     fields.each (Named f body) 3 0x20 (each-named f body) k (r .0) (omega arith) (passed f body (fieldsOf k) 0 none)
 
 room-for-term : (f : File) (k : ℕ) → countFault f k ≡ 0 → sectionOf k ≡ termSection → length (f .terms) < termLimit

@@ -23,7 +23,7 @@ use Rattle.rules.specs.declared.Term.the-variants.{Hash}
 use Rattle.rules.specs.Limits.{partyLimit, tpmMaker}
 use Rattle.rules.specs.Attributes.{has, fixedTpm}
 use Rattle.rules.specs.Term.{publicKeyKind, privateKeyKind, signatureKind, numberKind, certificateKind, kindOf, fieldsIn, attributesOf, alike, anyAlike}
-use Rattle.rules.specs.Record.{width, widths, fieldsOf, sectionOf, bodyLength, termSection, setupSection, word}
+use Rattle.rules.specs.Record.{lastKind, width, widths, fieldsOf, sectionOf, bodyLength, termSection, setupSection, word}
 use Rattle.rules.specs.File.{File, Setup, learns, holds, signsWith, isRole, term, kind, isKind, field, message, signer, subject, attributes, parts, someSetup, isOtherHold, isSigner, isSigningKeyFor, holdsKey, signsForRole}
 use Rattle.rules.specs.Load.{first, refuseUnless, termAt, setupAt, sectionFault, countFault, declaredFault, fieldFault, fieldsFault, alikeFault, mayLearn, mayHold, maySign, allowedFault, setupFault, recordFault, enter, loaded, refused, feed}
 use Rattle.state.specs.View.{view, inOther}
@@ -186,7 +186,7 @@ each-kind body = (refl, (refl, (refl, (refl, (refl, (refl, (refl, (refl, (refl, 
 kind-at : (k : ℕ) (body : List ℕ) → sectionOf k ≡ termSection → kindOf (termAt k body) ≡ k
 unfolding sectionOf
 kind-at k body e =
-    let r = within 0x10 k 0x1A (second (eqb k 1) _ (leb 0x20 k && leb k 0x22) (leb 0x30 k && leb k 0x40) e) in
+    let r = within 0x10 k 0x1A (second (eqb k 1) _ (leb 0x20 k && leb k 0x22) (leb 0x30 k && leb k lastKind) e) in
     each (KindAt body) 11 0x10 (each-kind body) k (r .0) (omega arith)
 
 first-word : (m : ℕ) (l : List ℕ) (i : ℕ) → 2 ≤ m → word (take m (drop i l)) 0 ≡ word l i

@@ -103,7 +103,13 @@ fn enter(
 }
 
 // The scan of the commands, which come last: as that of the file, and nothing is noted.
-fn scan_commands(table: &[u32; 65], file: &[u8], state: &[u8], from: usize, n: Tally) -> Scanned
+fn scan_commands(
+    table: &[u32; rules::KIND_COUNT],
+    file: &[u8],
+    state: &[u8],
+    from: usize,
+    n: Tally,
+) -> Scanned
     requires { ⌜ CommandsReady (now file) (now state) (now table) n from ⌝ }
     ensures result { λ r. ⌜ CommandsResult (now (file .entry)) (now (state .entry)) n from r ⌝ }
     ensures first { λ r. ⌜ r .first ≡ from ⌝ }

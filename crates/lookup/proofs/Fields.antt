@@ -1,5 +1,6 @@
 -- The command of a record by the bytes where they stand.
---     hash-there to issue-lak-there   the command of a record, one law a kind
+--     hash-there to issue-iak-there   the command of a record, one law a kind
+--     issue-length, issue-there       that of the kinds 40, 41 and 42, by their family
 --     command-ends                    where the record of a command ends in the file
 --     three-bytes, four-bytes         its body has three bytes at least, its record four
 --     one-read, two-read, known-as    the command by numbers that were read, and what is known of it
@@ -9,15 +10,25 @@ use mathlib.Core.List.{List}
 use Prim.Native.Nat.{ℕ, _+_, _<_, _≤_}
 use native.Mathlib.Omega.{arith}
 use lib.ListN.{length, getD, take, drop}
+use Rattle.rules.specs.Families.{requestFamilies, familyOf}
 use Rattle.rules.specs.Record.{sectionOf, fieldsOf, bodyLength, width, widths, word}
-use Rattle.rules.specs.File.{Command, hash, sign, certify, makeCredential, activateCredential, makeIdevidRequest, makeLdevidRequest, makePair, checkHash, checkSignature, checkCertificate, checkAttributes, send, selfIssue, challenge, issueIak, issueLak}
+use Rattle.rules.specs.File.{Command, hash, sign, certify, makeCredential, activateCredential, makeIdevidRequest, makeLdevidRequest, makePair, checkHash, checkSignature, checkCertificate, checkAttributes, send, selfIssue, challenge, issueIak, issue}
 use Rattle.rules.specs.Load.{commandAt}
+use Rattle.records.proofs.EachKind.{agree}
 use Rattle.learning.specs.There.{kindThere}
 use Rattle.learning.proofs.Words.{byte-at, word-at}
 use Rattle.reader.specs.Place.{nextPlace, RecordAt}
 use Rattle.lookup.specs.There.{commandThere}
 use Rattle.lookup.specs.Commands.{CommandAt}
 use Rattle.lookup.proofs.Left.{command-long}
+
+pub issue-length : (k : ℕ) → 0x40 ≤ k → k < 0x40 + length requestFamilies → bodyLength k ≡ 5
+unfolding bodyLength widths width fieldsOf sectionOf
+issue-length = agree bodyLength (λ k. 5) 0x40 (length requestFamilies) refl
+
+issue-made : (b : List ℕ) (k : ℕ) → 0x40 ≤ k → k < 0x40 + length requestFamilies → commandAt k b ≡ issue (familyOf k) (getD b 0 0) (word b 1) (word b 3)
+unfolding commandAt
+issue-made b = agree (λ k. commandAt k b) (λ k. issue (familyOf k) (getD b 0 0) (word b 1) (word b 3)) 0x40 (length requestFamilies) refl
 
 module _ (bs : List ℕ) (at : ℕ) where
   -- a record that stands in the file ends in it
@@ -102,9 +113,10 @@ module _ (bs : List ℕ) (at : ℕ) where
   unfolding commandAt bodyLength widths width fieldsOf sectionOf
   issue-iak-there e = of-kind 0x3F 6 refl e ∙ (λ x. issueIak (byte-at bs at 6 0 (omega arith) x) (byte-at bs at 6 1 (omega arith) x) (word-at bs at 6 2 (omega arith) x) (word-at bs at 6 4 (omega arith) x))
 
-  pub issue-lak-there : kindThere bs at ≡ 0x40 → commandThere bs at ≡ issueLak (getD bs (at + 1) 0) (word bs (at + 2)) (word bs (at + 4))
-  unfolding commandAt bodyLength widths width fieldsOf sectionOf
-  issue-lak-there = two-terms 0x40 issueLak refl (λ b. refl)
+  -- 40 on, as many kinds as there are families that are issued on a request
+  pub issue-there : 0x40 ≤ kindThere bs at → kindThere bs at < 0x40 + length requestFamilies → commandThere bs at ≡ issue (familyOf (kindThere bs at)) (getD bs (at + 1) 0) (word bs (at + 2)) (word bs (at + 4))
+  issue-there l h =
+      two-terms (kindThere bs at) (issue (familyOf (kindThere bs at))) (issue-length (kindThere bs at) l h) (λ b. issue-made b (kindThere bs at) l h) refl
 
 -- a command by numbers that were read
 pub one-read : (make : ℕ → ℕ → Command) {c : Command} {p m r : ℕ} → c ≡ make p m → r ≡ m → c ≡ make p r

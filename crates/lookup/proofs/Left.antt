@@ -5,16 +5,16 @@
 --     run-next, run-stop, outcomes-next, outcomes-stop     the same of the rules' run and outcomes
 --     first-commands, commands-of, commands-wellformed     what holds before the loop, of a file that loads
 -- Assumes nothing.
-use mathlib.Core.Path.{_≡_, refl, sym, ap, _∙_}
+use mathlib.Core.Path.{_≡_, refl, ap, _∙_}
 use mathlib.Core.Bool.{Bool, true, false, cond, _&&_}
 use mathlib.Core.Logic.{_⊎_, inl, inr, ⊎-elim}
-use mathlib.Core.List.{List, [], _∷_, reverse, reverseAux, List·Memᴰ, List·Memᴰ·head, List·Memᴰ·tail, List·Memᴰ·cases-cons}
+use mathlib.Core.List.{List, [], _∷_, reverseAux, List·Memᴰ, List·Memᴰ·head, List·Memᴰ·tail, List·Memᴰ·cases-cons}
 use Prim.Native.Nat.{ℕ, zero, suc, _+_, _*_, _-_, _<_, _≤_}
 use native.Mathlib.Omega.{arith}
-use lib.Dec.{eqb, ltb, leb}
+use lib.Dec.{eqb, leb}
 use lib.ListN.{length, take}
 use borrow.Author.Tests.{lt-ltb, le-ltb, leb-true}
-use Rattle.rules.specs.Record.{sectionOf, commandSection, bodyLength, widths, width, fieldsOf}
+use Rattle.rules.specs.Record.{lastKind, kindCount, sectionOf, commandSection, bodyLength, widths, width, fieldsOf}
 use Rattle.rules.specs.File.{File, Command}
 use Rattle.rules.specs.Load.{load, loaded, commandsOf}
 use Rattle.rules.specs.State.{State}
@@ -32,15 +32,15 @@ and-true true b e = (refl, e)
 and-true false b e = let z : _≡_ {A = ℕ} 0 1 = cc in absurd (omega arith)
 
 -- the kinds of commands
-pub command-range : (k : ℕ) → sectionOf k ≡ commandSection → (0x30 ≤ k) × (k ≤ 0x40)
+pub command-range : (k : ℕ) → sectionOf k ≡ commandSection → (0x30 ≤ k) × (k ≤ lastKind)
 unfolding sectionOf
-command-range k = go (eqb k 1) (leb 0x10 k && leb k 0x1A) (leb 0x20 k && leb k 0x22) (leb 0x30 k && leb k 0x40) refl
+command-range k = go (eqb k 1) (leb 0x10 k && leb k 0x1A) (leb 0x20 k && leb k 0x22) (leb 0x30 k && leb k lastKind) refl
   where
-    go : (a b c d : Bool) → (leb 0x30 k && leb k 0x40) ≡ d → _≡_ {A = ℕ} (cond a 1 (cond b 2 (cond c 3 (cond d 4 0)))) 4 → (0x30 ≤ k) × (k ≤ 0x40)
+    go : (a b c d : Bool) → (leb 0x30 k && leb k lastKind) ≡ d → _≡_ {A = ℕ} (cond a 1 (cond b 2 (cond c 3 (cond d 4 0)))) 4 → (0x30 ≤ k) × (k ≤ lastKind)
     go true b c d e s = absurd (omega arith)
     go false true c d e s = absurd (omega arith)
     go false false true d e s = absurd (omega arith)
-    go false false false true e s = let w = and-true (leb 0x30 k) (leb k 0x40) e in (leb-true 0x30 k (w .0), leb-true k 0x40 (w .1))
+    go false false false true e s = let w = and-true (leb 0x30 k) (leb k lastKind) e in (leb-true 0x30 k (w .0), leb-true k lastKind (w .1))
     go false false false false e s = absurd (omega arith)
 
 -- a command's record has four bytes at least
@@ -48,7 +48,7 @@ pub command-long : (bs : List ℕ) (at : ℕ) → sectionOf (kindThere bs at) �
 unfolding nextPlace bodyLength widths width sectionOf fieldsOf
 command-long bs at s =
     let r = command-range (kindThere bs at) s in
-    let l = leb-true 3 (bodyLength (kindThere bs at)) (agree (λ j. leb 3 (bodyLength j)) (λ j. true) 0x30 0x11 refl (kindThere bs at) (r .0) (omega (arith, r .1))) in
+    let l = leb-true 3 (bodyLength (kindThere bs at)) (agree (λ j. leb 3 (bodyLength j)) (λ j. true) 0x30 (kindCount - 0x30) refl (kindThere bs at) (r .0) (omega (arith, r .1))) in
     omega arith
 
 module _ (P : Command → Type 0) (bs : List ℕ) (at : ℕ) where

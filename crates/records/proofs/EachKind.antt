@@ -1,4 +1,4 @@
--- What is computed at each kind up to 40 hex holds of every kind: past it there is no section and no field, as of kind 00.
+-- What is computed at each kind up to the last holds of every kind: past it there is no section and no field, as of kind 00.
 use mathlib.Core.Path.{_≡_, refl, sym, ap, _∙_}
 use mathlib.Core.Bool.{Bool, true, false}
 use mathlib.Core.List.{List, [], _∷_}
@@ -8,7 +8,7 @@ use lib.Dec.{leb}
 use lib.ListN.{getD}
 use borrow.Author.Tests.{leb-true, leb-false, ne-eqb, le-leb, lt-leb}
 use Rattle.rules.specs.declared.Field.{Field}
-use Rattle.rules.specs.Record.{sectionOf, fieldsOf}
+use Rattle.rules.specs.Record.{lastKind, kindCount, sectionOf, fieldsOf}
 
 -- the values at n numbers from m on
 abbrev pub values : {A : Type 0} → (ℕ → A) → ℕ → ℕ → List A
@@ -31,20 +31,20 @@ pub agree : {A : Type 0} (f g : ℕ → A) (m n : ℕ) → values f m n ≡ valu
 agree f g m n e k l h =
     sym (value-of f m n k (f k) l h) ∙ ap (λ vs. getD vs (k - m) (f k)) e ∙ value-of g m n k (f k) l h
 
-number-go : {A : Type 0} (f g : ℕ → A) → values f 0 0x41 ≡ values g 0 0x41 → ((k : ℕ) → 0x40 < k → f k ≡ g k) → (k : ℕ) → (t : Bool) → leb k 0x40 ≡ t → f k ≡ g k
-number-go f g e past k true t = agree f g 0 0x41 e k (omega arith) (omega (arith, leb-true k 0x40 t))
-number-go f g e past k false t = past k (leb-false k 0x40 t)
+number-go : {A : Type 0} (f g : ℕ → A) → values f 0 kindCount ≡ values g 0 kindCount → ((k : ℕ) → lastKind < k → f k ≡ g k) → (k : ℕ) → (t : Bool) → leb k lastKind ≡ t → f k ≡ g k
+number-go f g e past k true t = agree f g 0 kindCount e k (omega arith) (omega (arith, leb-true k lastKind t))
+number-go f g e past k false t = past k (leb-false k lastKind t)
 
 -- and that agree past the last kind
-pub each-number : {A : Type 0} (f g : ℕ → A) → values f 0 0x41 ≡ values g 0 0x41 → ((k : ℕ) → 0x40 < k → f k ≡ g k) → (k : ℕ) → f k ≡ g k
-each-number f g e past k = number-go f g e past k (leb k 0x40) refl
+pub each-number : {A : Type 0} (f g : ℕ → A) → values f 0 kindCount ≡ values g 0 kindCount → ((k : ℕ) → lastKind < k → f k ≡ g k) → (k : ℕ) → f k ≡ g k
+each-number f g e past k = number-go f g e past k (leb k lastKind) refl
 
-pub section-past : (k : ℕ) → 0x40 < k → sectionOf k ≡ 0
+pub section-past : (k : ℕ) → lastKind < k → sectionOf k ≡ 0
 unfolding sectionOf
 section-past k h =
-    simp (ne-eqb k 1 (λ e. omega arith), le-leb 0x10 k (omega arith), lt-leb k 0x1A (omega arith), le-leb 0x20 k (omega arith), lt-leb k 0x22 (omega arith), le-leb 0x30 k (omega arith), lt-leb k 0x40 h)
+    simp (ne-eqb k 1 (λ e. omega arith), le-leb 0x10 k (omega arith), lt-leb k 0x1A (omega arith), le-leb 0x20 k (omega arith), lt-leb k 0x22 (omega arith), le-leb 0x30 k (omega arith), lt-leb k lastKind h)
 
-pub fields-past : (k : ℕ) → 0x40 < k → fieldsOf k ≡ []
+pub fields-past : (k : ℕ) → lastKind < k → fieldsOf k ≡ []
 unfolding fieldsOf
 fields-past k h = rw (section-past k h)
 
@@ -52,10 +52,10 @@ fields-past k h = rw (section-past k h)
 abbrev pub given : {A : Type 0} → (ℕ → List Field → A) → ℕ → A
 given f k = f (sectionOf k) (fieldsOf k)
 
-given-past : {A : Type 0} (f : ℕ → List Field → A) (k : ℕ) → 0x40 < k → given f k ≡ given f 0
+given-past : {A : Type 0} (f : ℕ → List Field → A) (k : ℕ) → lastKind < k → given f k ≡ given f 0
 unfolding sectionOf fieldsOf
 given-past f k h = cc (section-past k h, fields-past k h)
 
-pub each-kind : {A : Type 0} (f g : ℕ → List Field → A) → values (given f) 0 0x41 ≡ values (given g) 0 0x41 → (k : ℕ) → given f k ≡ given g k
+pub each-kind : {A : Type 0} (f g : ℕ → List Field → A) → values (given f) 0 kindCount ≡ values (given g) 0 kindCount → (k : ℕ) → given f k ≡ given g k
 each-kind f g e =
-    each-number (given f) (given g) e (λ k h. given-past f k h ∙ agree (given f) (given g) 0 0x41 e 0 (omega arith) (omega arith) ∙ sym (given-past g k h))
+    each-number (given f) (given g) e (λ k h. given-past f k h ∙ agree (given f) (given g) 0 kindCount e 0 (omega arith) (omega arith) ∙ sym (given-past g k h))

@@ -1,12 +1,12 @@
 -- The lengths of bodies and the numbers of their fields.
 use mathlib.Core.Path.{_≡_, refl}
 use mathlib.Core.Bool.{Bool, true, false, cond}
-use Prim.Native.Nat.{ℕ, zero, suc, _+_, _<_, _≤_}
+use Prim.Native.Nat.{ℕ, _<_, _≤_}
 use native.Mathlib.Omega.{arith}
 use lib.Dec.{eqb, leb, ltb}
 use lib.ListN.{length}
 use borrow.Author.Tests.{leb-true, ltb-true, lt-ltb, eq-eqb}
-use Rattle.rules.specs.Record.{sectionOf, fieldsOf, termSection, commandSection, bodyLength, width, widths}
+use Rattle.rules.specs.Record.{kindCount, sectionOf, fieldsOf, termSection, commandSection, bodyLength, width, widths}
 use Rattle.rules.specs.Term.{pairKind}
 use Rattle.theorems.proofs.LastArm.{NoneFrom, last-arm}
 use Rattle.records.proofs.EachKind.{values, each-kind, each-number, section-past}
@@ -48,7 +48,7 @@ term-body k h =
     (when-true (eqb (sectionOf k) termSection) (ltb 1 (bodyLength k))
     (each-kind (λ s fs. cond (eqb s termSection) (ltb 1 (widths fs)) true) (λ s fs. true) refl k) (eq-eqb (sectionOf k) termSection h))
 
-term-test : (p : ℕ → Bool) → values (λ k. cond (eqb (sectionOf k) termSection) (p k) true) 0 0x41 ≡ values (λ k. true) 0 0x41 → (k : ℕ) → sectionOf k ≡ termSection → p k ≡ true
+term-test : (p : ℕ → Bool) → values (λ k. cond (eqb (sectionOf k) termSection) (p k) true) 0 kindCount ≡ values (λ k. true) 0 kindCount → (k : ℕ) → sectionOf k ≡ termSection → p k ≡ true
 term-test p e k h =
     when-true (eqb (sectionOf k) termSection) (p k)
     (each-number (λ k. cond (eqb (sectionOf k) termSection) (p k) true) (λ k. true) e (λ k h. rw (section-past k h)) k) (eq-eqb (sectionOf k) termSection h)

@@ -9,12 +9,12 @@ use lib.ListN.{length, getD, drop}
 use borrow.Author.Tests.{ne-eqb, ltb-true, ltb-false}
 use Rattle.rules.specs.declared.Field.{Field}
 use Rattle.rules.specs.declared.Field.the-variants.{AnyTerm}
-use Rattle.rules.specs.Record.{sectionOf, fieldsOf}
+use Rattle.rules.specs.Record.{lastKind, kindCount, sectionOf, fieldsOf}
 use Rattle.records.specs.Codes.{codeOf, packed, lowField, FieldRows}
 use Rattle.records.proofs.EachKind.{values, value-below, agree, given, each-kind, fields-past}
 
 -- what is computed at the first four places of each kind's fields holds there of every kind
-each-place : {A : Type 0} (f g : List Field → ℕ → A) → values (given (λ s fs. values (f fs) 0 4)) 0 0x41 ≡ values (given (λ s fs. values (g fs) 0 4)) 0 0x41 → (k i : ℕ) → i < 4 → f (fieldsOf k) i ≡ g (fieldsOf k) i
+each-place : {A : Type 0} (f g : List Field → ℕ → A) → values (given (λ s fs. values (f fs) 0 4)) 0 kindCount ≡ values (given (λ s fs. values (g fs) 0 4)) 0 kindCount → (k i : ℕ) → i < 4 → f (fieldsOf k) i ≡ g (fieldsOf k) i
 each-place f g e k i h =
     agree (f (fieldsOf k)) (g (fieldsOf k)) 0 4 (each-kind (λ s fs. values (f fs) 0 4) (λ s fs. values (g fs) 0 4) e k) i (omega arith) h
 
@@ -45,12 +45,12 @@ module _ (k i fields : ℕ) (e : fields ≡ packed (drop i (fieldsOf k))) (h : i
 -- the table of the packed fields, of which the code's is a copy
 unfoldable pub fieldTable : List ℕ
 unfolding sectionOf fieldsOf packed codeOf
-fieldTable = values (λ k. packed (fieldsOf k)) 0 0x41
+fieldTable = values (λ k. packed (fieldsOf k)) 0 kindCount
 
 pub field-rows : FieldRows fieldTable
 unfolding fieldTable
-field-rows k h = value-below (λ k. packed (fieldsOf k)) 0x41 k 0 (omega arith)
+field-rows k h = value-below (λ k. packed (fieldsOf k)) kindCount k 0 (omega arith)
 
-pub packed-past : (k : ℕ) → 0x40 < k → 0 ≡ packed (fieldsOf k)
+pub packed-past : (k : ℕ) → lastKind < k → 0 ≡ packed (fieldsOf k)
 unfolding packed
 packed-past k h = sym (ap packed (fields-past k h))

@@ -7,7 +7,7 @@ use lib.Dec.{eqb}
 use lib.ListN.{getD}
 use Rattle.rules.specs.declared.Field.{Field}
 use Rattle.rules.specs.declared.Field.the-variants.{RoleField, IdentifierField, AttributesField, SubjectField, PartyField, AnyTerm, TermOf, SignedAttest}
-use Rattle.rules.specs.Record.{fieldsOf}
+use Rattle.rules.specs.Record.{lastKind, fieldsOf}
 
 unfoldable pub codeOf : Field → ℕ
 codeOf RoleField = 1
@@ -36,6 +36,6 @@ lowField n =
     (cond (eqb (n % 256) 7) SignedAttest
     (TermOf (n % 256)))))))))
 
--- a table of the packed fields of each kind from 00 to 40
+-- a table of the packed fields of each kind from 00 to the last
 abbrev pub FieldRows : List ℕ → Type 0
-FieldRows table = (k : ℕ) → k ≤ 0x40 → getD table k 0 ≡ packed (fieldsOf k)
+FieldRows table = (k : ℕ) → k ≤ lastKind → getD table k 0 ≡ packed (fieldsOf k)

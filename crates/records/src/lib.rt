@@ -9,7 +9,7 @@ ghost use Prim.Native.Nat.{_+_, _<_, _≤_};
 ghost use lib.ListN.{length, getD};
 ghost use Rattle.rules.specs.Attributes.{has as hasFlag};
 ghost use Rattle.rules.specs.Term.{subjectFields, fieldsIn};
-ghost use Rattle.rules.specs.Record.{sectionOf, bodyLength, fieldsOf, width as widthOf, termSection, word};
+ghost use Rattle.rules.specs.Record.{lastKind, sectionOf, bodyLength, fieldsOf, width as widthOf, termSection, word};
 ghost use Rattle.rules.specs.Load.{termAt, subjectAt};
 ghost use Rattle.records.specs.Codes.{packed, lowField, FieldRows};
 ghost use Rattle.records.specs.Keys.{keyOf};
@@ -32,13 +32,13 @@ pub fn section_of(kind: u8) -> u8
         0x01 => 1,
         0x10..=0x1A => 2,
         0x20..=0x22 => 3,
-        0x30..=0x40 => 4,
+        0x30..=0x42 => 4,
         _ => 0,
     }
 }
 
-// The fields of each kind from 00 to 40, packed: a byte each (low_field), the first in the lowest.
-const FIELDS: [u32; 65] = [
+// The fields of each kind from 00 to 42, packed: a byte each (low_field), the first in the lowest.
+const FIELDS: [u32; rules::KIND_COUNT] = [
     0,
     // From 01 on.
     0x01,
@@ -107,23 +107,26 @@ const FIELDS: [u32; 65] = [
     0x1905,
     0x150605,
     0x19150505,
+    // From 40 on.
+    0x190605,
+    0x190605,
     0x190605,
 ];
 
 // The packed fields of each kind, for a caller to keep: a constant is written anew wherever it stands.
-pub fn field_table() -> [u32; 65]
+pub fn field_table() -> [u32; rules::KIND_COUNT]
     ensures { λ r. ⌜ FieldRows r ⌝ }
 {
     FIELDS
 }
 
 // The fields of a kind, packed, from the table that the caller keeps.
-pub fn fields_in(table: &[u32; 65], kind: u8) -> u32
+pub fn fields_in(table: &[u32; rules::KIND_COUNT], kind: u8) -> u32
     requires { ⌜ FieldRows (now table) ⌝ }
     ensures { λ r. ⌜ r ≡ packed (fieldsOf kind) ⌝ }
 {
     let k = kind as usize;
-    if k <= 0x40 { table[k] } else { 0 }
+    if k <= rules::LAST_KIND { table[k] } else { 0 }
 }
 
 // The lowest of packed fields: a byte that is the kind of the terms that it takes, or a number below 8.
@@ -182,7 +185,7 @@ fn term_length(kind: u8) -> usize
 
 // The bytes of a command's body.
 fn command_length(kind: u8) -> usize
-    requires { ⌜ (0x30 ≤ kind) × (kind ≤ 0x40) ⌝ }
+    requires { ⌜ (0x30 ≤ kind) × (kind ≤ lastKind) ⌝ }
     ensures { λ r. ⌜ r ≡ bodyLength kind ⌝ }
 {
     match kind {
@@ -202,6 +205,8 @@ fn command_length(kind: u8) -> usize
         0x3D => 3,
         0x3E => 5,
         0x3F => 6,
+        0x40 => 5,
+        0x41 => 5,
         _ => 5,
     }
 }
@@ -214,7 +219,7 @@ pub fn body_length(kind: u8) -> usize
         0x01 => 1,
         0x10..=0x1A => term_length(kind),
         0x20..=0x22 => 3,
-        0x30..=0x40 => command_length(kind),
+        0x30..=0x42 => command_length(kind),
         _ => 0,
     }
 }

@@ -1,14 +1,14 @@
 -- Parts of what a challenge and an issue ask, by the numbers of the terms that they speak of.
-use mathlib.Core.Bool.{_||_}
 use mathlib.Core.List.{List, [], _∷_}
 use Prim.Native.Nat.{ℕ}
 use lib.Dec.{eqb}
-use Rattle.rules.specs.Limits.{tpmMaker, oemDesk, ownerDesk}
+use Rattle.rules.specs.Limits.{tpmMaker}
 use Rattle.rules.specs.Refusals.{Test, need}
 use Rattle.rules.specs.Attributes.{sameAttributes, iakAttributes, ekAttributes}
+use Rattle.rules.specs.declared.Family.{Family}
 use Rattle.rules.specs.declared.Subject.{Subject}
 use Rattle.rules.specs.Term.{hashKind, signatureKind, attestKind, sameSubject, isTpmSubject}
-use Rattle.rules.specs.File.{File, isKind, hashedTerm, message, certifiedKey, signer, subject, attributes, paired, signsFor, signsForRole}
+use Rattle.rules.specs.File.{File, isKind, hashedTerm, message, certifiedKey, signer, subject, attributes, paired, signsFor, signsForRole, signsForSome}
 
 -- the Subject and the signer of the EK's certificate, and both keys
 abbrev pub endorsementTests : File → Subject → ℕ → ℕ → ℕ → List Test
@@ -42,11 +42,11 @@ attestTests f signature =
     ∷ need 19 (isKind f attestKind (message f signature))
     ∷ []
 
--- the private key that signed an attest, the attested key, and the key and the signer of the parent's certificate
-abbrev pub parentageTests : File → ℕ → ℕ → ℕ → ℕ → List Test
-parentageTests f half lak key by =
+-- the family, the private key that signed an attest, the attested key, and the key and the signer of the parent's certificate
+abbrev pub parentageTests : File → Family → ℕ → ℕ → ℕ → ℕ → List Test
+parentageTests f family half new key by =
     need 20 (paired f key half)
-    ∷ need 21 (signsForRole f oemDesk by || signsForRole f ownerDesk by)
-    ∷ need 23 (sameAttributes (attributes f lak) iakAttributes)
-    ∷ need 23 (sameAttributes (attributes f key) iakAttributes)
+    ∷ need 21 (signsForSome f (family .signers) by)
+    ∷ need 23 (sameAttributes (attributes f new) (family .key))
+    ∷ need 23 (sameAttributes (attributes f key) (family .parent))
     ∷ []

@@ -1,17 +1,19 @@
 // Requests: what a desk reads of a request and its certificates, and the parts of its tests.
 use rules::Attributes;
+use rules::Family;
+use rules::Signers;
 use rules::Subject;
 use rules::Term;
 ghost use mathlib.Core.Path.{_≡_};
-ghost use mathlib.Core.Bool.{_&&_, _||_};
+ghost use mathlib.Core.Bool.{_&&_};
 ghost use mathlib.Core.List.{List};
 ghost use Prim.Native.Nat.{ℕ, _<_};
 ghost use lib.Dec.{eqb};
 ghost use lib.ListN.{length};
-ghost use Rattle.rules.specs.Limits.{partyLimit, termLimit, oemDesk, ownerDesk};
+ghost use Rattle.rules.specs.Limits.{partyLimit, termLimit};
 ghost use Rattle.rules.specs.Attributes.{sameAttributes};
 ghost use Rattle.rules.specs.Term.{credentialKind, idevidRequestKind, ldevidRequestKind, certificateKind, pairKind, isTpmSubject, isDeviceSubject};
-ghost use Rattle.rules.specs.File.{isRole, kind, message, signingKey, attestedKey, credentialTerm, credentialNumber, credentialKey, idevidCertificate, idevidKey, ldevidMessage, ldevidCertificate, certifiedKey, signer, leftOf, rightOf, subject, attributes, signsForRole};
+ghost use Rattle.rules.specs.File.{isRole, kind, message, signingKey, attestedKey, credentialTerm, credentialNumber, credentialKey, idevidCertificate, idevidKey, ldevidMessage, ldevidCertificate, certifiedKey, signer, leftOf, rightOf, subject, attributes, signsForRole, signsForSome};
 ghost use Rattle.rules.specs.Desk.{formTests, proofTests};
 ghost use Rattle.theorems.proofs.Loading.{Checked};
 ghost use Rattle.setup.specs.Allowed.{noKey};
@@ -398,40 +400,69 @@ pub fn attested_by(file: &[u8], state: &[u8], t: usize) -> Attested
     }
 }
 
-// Whether a key is the signing key of an OEM desk or of an owner desk.
-fn signs_for_desk(file: &[u8], tables: &[u16; tables::WORDS], key: usize, parties: usize) -> bool
+// Whether a role is asked for, and a key is the signing key of a party of that role.
+fn signs_if(
+    asked: bool,
+    file: &[u8],
+    tables: &[u16; tables::WORDS],
+    role: u8,
+    key: usize,
+    parties: usize,
+) -> bool
     requires { ⌜ Checked (fileIn (now file)) × Finds (now file) (now tables) × (parties ≡ length (fileIn (now file) .roles)) × ((p : ℕ) → p < parties → PartyHere (now file) p) × (key < noKey) ⌝ }
-    ensures { λ x. ⌜ x ≡ (signsForRole (fileIn (now (file .entry))) oemDesk key || signsForRole (fileIn (now (file .entry))) ownerDesk key) ⌝ }
+    ensures { λ x. ⌜ x ≡ (asked && signsForRole (fileIn (now (file .entry))) role key) ⌝ }
 {
-    if signs_for_role(file, tables, rules::OEM_DESK, key, parties) {
-        return true;
+    if !asked {
+        return false;
     }
-    signs_for_role(file, tables, rules::OWNER_DESK, key, parties)
+    signs_for_role(file, tables, role, key, parties)
 }
 
-// The parentage of an LAK: its attest by the key of a desk's certificate, and the attributes of both keys.
+// Whether a key is the signing key of one who may sign.
+fn signs_for_some(
+    file: &[u8],
+    tables: &[u16; tables::WORDS],
+    who: Signers,
+    key: usize,
+    parties: usize,
+) -> bool
+    requires { ⌜ Checked (fileIn (now file)) × Finds (now file) (now tables) × (parties ≡ length (fileIn (now file) .roles)) × ((p : ℕ) → p < parties → PartyHere (now file) p) × (key < noKey) ⌝ }
+    ensures { λ x. ⌜ x ≡ signsForSome (fileIn (now (file .entry))) who key ⌝ }
+{
+    if signs_if(who.maker, file, tables, rules::TPM_MAKER, key, parties) {
+        return true;
+    }
+    if signs_if(who.oem, file, tables, rules::OEM_DESK, key, parties) {
+        return true;
+    }
+    signs_if(who.owner, file, tables, rules::OWNER_DESK, key, parties)
+}
+
+// The parentage of a new key: its attest by the key of a certificate that a desk signed, and the attributes of both keys, as its
+// family asks.
 pub fn parentage(
     file: &[u8],
     state: &[u8],
     tables: &[u16; tables::WORDS],
     parties: usize,
+    family: Family,
     half: usize,
-    lak: usize,
+    new: usize,
     certificate: Certificate,
 ) -> u8
-    requires { ⌜ Holds (now file) (now state) × Finds (now file) (now tables) × (parties ≡ length (fileIn (now file) .roles)) × (half < length (fileIn (now file) .terms)) × (lak < length (fileIn (now file) .terms)) × (certificate .key < length (fileIn (now file) .terms)) × (certificate .signer < length (fileIn (now file) .terms)) ⌝ }
-    ensures { λ x. ⌜ x ≡ chain (parentageTests (fileIn (now (file .entry))) half lak (certificate .key) (certificate .signer)) ⌝ }
+    requires { ⌜ Holds (now file) (now state) × Finds (now file) (now tables) × (parties ≡ length (fileIn (now file) .roles)) × (half < length (fileIn (now file) .terms)) × (new < length (fileIn (now file) .terms)) × (certificate .key < length (fileIn (now file) .terms)) × (certificate .signer < length (fileIn (now file) .terms)) ⌝ }
+    ensures { λ x. ⌜ x ≡ chain (parentageTests (fileIn (now (file .entry))) family half new (certificate .key) (certificate .signer)) ⌝ }
 {
     if !loaded::is_half(tables, certificate.key, half) {
         return 20;
     }
-    if !signs_for_desk(file, tables, certificate.signer, parties) {
+    if !signs_for_some(file, tables, family.signers, certificate.signer, parties) {
         return 21;
     }
-    if !has_exactly(file, state, lak, Attributes::iak()) {
+    if !has_exactly(file, state, new, family.key) {
         return 23;
     }
-    if !has_exactly(file, state, certificate.key, Attributes::iak()) {
+    if !has_exactly(file, state, certificate.key, family.parent) {
         return 23;
     }
     0

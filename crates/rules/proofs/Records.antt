@@ -128,6 +128,6 @@ challenge desk request r = 0x3E ∷ desk ∷ words (request ∷ r ∷ [])
 abbrev pub issueIak : ℕ → ℕ → ℕ → ℕ → Bytes
 issueIak desk returning opened r = 0x3F ∷ desk ∷ returning ∷ words (opened ∷ r ∷ [])
 
--- 40: owner desk, request, certificate
-abbrev pub issueLak : ℕ → ℕ → ℕ → Bytes
-issueLak desk request r = 0x40 ∷ desk ∷ words (request ∷ r ∷ [])
+-- 40, 41, 42: desk, request, certificate
+abbrev pub issue : ℕ → ℕ → ℕ → ℕ → Bytes
+issue kind desk request r = kind ∷ desk ∷ words (request ∷ r ∷ [])

@@ -5,7 +5,7 @@ use Prim.Native.Nat.{ℕ, zero, suc, _+_, _*_}
 use Rattle.rules.specs.Load.{load}
 use Rattle.rules.specs.Listing.{listing}
 use Rattle.rules.proofs.Computed.{Result, ran, notLoaded, result, withLedger, outcomesUnlisted}
-use Rattle.rules.proofs.Records.{Bytes, written, aDevice, aTpmMaker, anOemDesk, anOwnerDesk, tpm, device, publicKey, privateKey, hash, signature, attest, credential, number, idevidRequest, ldevidRequest, certificate, pair, learns, holds, signsWith, makeHash, sign, certify, makeCredential, activateCredential, makeIdevidRequest, makeLdevidRequest, makePair, send, challenge, issueIak, issueLak}
+use Rattle.rules.proofs.Records.{Bytes, written, aDevice, aTpmMaker, anOemDesk, anOwnerDesk, tpm, device, publicKey, privateKey, hash, signature, attest, credential, number, idevidRequest, ldevidRequest, certificate, pair, learns, holds, signsWith, makeHash, sign, certify, makeCredential, activateCredential, makeIdevidRequest, makeLdevidRequest, makePair, send, challenge, issueIak, issue}
 
 -- A file and what it gives.
 pub record Situation : Type 0 where
@@ -22,13 +22,13 @@ fine (suc n) more = 0 ∷ fine n more
 
 -- The enrolment of an IAK.
 -- parties
-abbrev oem : ℕ
+abbrev pub oem : ℕ
 oem = 0
 
 abbrev maker : ℕ
 maker = 1
 
-abbrev dev : ℕ
+abbrev pub dev : ℕ
 dev = 2
 
 abbrev parties : List Bytes
@@ -53,7 +53,7 @@ iak = 4
 abbrev iakPrivate : ℕ
 iakPrivate = 5
 
-abbrev ekCertificate : ℕ
+abbrev pub ekCertificate : ℕ
 ekCertificate = 6
 
 abbrev theNumber : ℕ
@@ -77,7 +77,7 @@ iakHash = 12
 abbrev theCredential : ℕ
 theCredential = 13
 
-abbrev iakCertificate : ℕ
+abbrev pub iakCertificate : ℕ
 iakCertificate = 14
 
 -- The id of the first key is the number of the request's body: the request of a credential that was never opened, 0, then reads as one.
@@ -240,74 +240,91 @@ pub attestHashed-holds : Holds attestHashed
 unfolding result
 attestHashed-holds = refl
 
--- LAKs under the enrolment: party 3 is an owner desk, term 15 its key.
-abbrev owner : ℕ
+-- Certificates on an 18 request under the enrolment: party 3 is an owner desk, term 15 its key.
+abbrev pub owner : ℕ
 owner = 3
 
 abbrev ownerKey : ℕ
 ownerKey = 15
 
--- LAK n, counted from 0, has nine terms, from this number on: the LAK, its private half, its attest, the attest signed by the key before,
--- the 18, its hash, the hash signed, the request, the certificate.
-abbrev lak : ℕ → ℕ
-lak n = 16 + n * 9
+-- What one is: its command's kind, the attributes of its key, the desk that issues it with the desk's key, and its parent with the private
+-- half of the parent's key and the desk that issued the parent.
+pub record Asked : Type 0 where
+  pub kind : ℕ
+  pub attributes : ℕ
+  pub desk : ℕ
+  pub deskKey : ℕ
+  pub parent : ℕ
+  pub parentPrivate : ℕ
+  pub parentDesk : ℕ
 
-abbrev lakCertificate : ℕ → ℕ
-lakCertificate n = lak n + 8
+-- The n-th of them, counted from 0, has nine terms, from this number on: the new key, its private half, its attest, the attest signed by the
+-- parent's key, the 18, its hash, the hash signed, the request, the certificate.
+abbrev pub nth : ℕ → ℕ
+nth n = 16 + n * 9
 
--- the certificate before, its key's private half, and the desk that issued it
-abbrev parent : ℕ → ℕ
-parent zero = iakCertificate
-parent (suc n) = lakCertificate n
+abbrev pub nthRequest : ℕ → ℕ
+nthRequest n = nth n + 7
 
-abbrev parentPrivate : ℕ → ℕ
-parentPrivate zero = iakPrivate
-parentPrivate (suc n) = lak n + 1
+abbrev pub nthCertificate : ℕ → ℕ
+nthCertificate n = nth n + 8
 
-abbrev parentDesk : ℕ → ℕ
-parentDesk zero = oem
-parentDesk (suc n) = owner
-
-abbrev lakTerms : ℕ → ℕ → List Bytes
-lakTerms n attributes =
-    publicKey (100 + n) attributes
-    ∷ privateKey (100 + n) attributes
-    ∷ attest (lak n)
-    ∷ signature (lak n + 2) (parentPrivate n)
-    ∷ ldevidRequest (lak n + 3) (parent n)
-    ∷ hash (lak n + 4)
-    ∷ signature (lak n + 5) (lak n + 1)
-    ∷ pair (lak n + 4) (lak n + 6)
-    ∷ certificate (lak n) (device 8) ownerKey
+abbrev pub askedTerms : ℕ → Asked → List Bytes
+askedTerms n a =
+    publicKey (100 + n) (a .attributes)
+    ∷ privateKey (100 + n) (a .attributes)
+    ∷ attest (nth n)
+    ∷ signature (nth n + 2) (a .parentPrivate)
+    ∷ ldevidRequest (nth n + 3) (a .parent)
+    ∷ hash (nth n + 4)
+    ∷ signature (nth n + 5) (nth n + 1)
+    ∷ pair (nth n + 4) (nth n + 6)
+    ∷ certificate (nth n) (device 8) (a .deskKey)
     ∷ []
 
--- 3C of the certificate before to the device, 32, 36, 30, 31, 37, 3C, 40
-abbrev lakCommands : ℕ → List Bytes
-lakCommands n =
-    send (parentDesk n) dev (parent n)
-    ∷ certify dev (lak n + 3)
-    ∷ makeLdevidRequest dev (lak n + 4)
-    ∷ makeHash dev (lak n + 5)
-    ∷ sign dev (lak n + 6)
-    ∷ makePair dev (lak n + 7)
-    ∷ send dev owner (lak n + 7)
-    ∷ issueLak owner (lak n + 7) (lakCertificate n)
+-- 3C of the parent to the device, 32, 36, 30, 31, 37, 3C, and 40, 41 or 42
+abbrev pub askedCommands : ℕ → Asked → List Bytes
+askedCommands n a =
+    send (a .parentDesk) dev (a .parent)
+    ∷ certify dev (nth n + 3)
+    ∷ makeLdevidRequest dev (nth n + 4)
+    ∷ makeHash dev (nth n + 5)
+    ∷ sign dev (nth n + 6)
+    ∷ makePair dev (nthRequest n)
+    ∷ send dev (a .desk) (nthRequest n)
+    ∷ issue (a .kind) (a .desk) (nthRequest n) (nthCertificate n)
     ∷ []
 
--- the first n LAKs, attributes 0B hex
-abbrev laksTerms : ℕ → List Bytes
-laksTerms zero = []
-laksTerms (suc n) = laksTerms n ++ lakTerms n 0x0B
+-- one under the IAK, or under the n-th, which an owner desk issued
+abbrev pub underIak : ℕ → ℕ → ℕ → ℕ → Asked
+underIak kind attributes desk deskKey = record { kind = kind; attributes = attributes; desk = desk; deskKey = deskKey; parent = iakCertificate; parentPrivate = iakPrivate; parentDesk = oem }
 
-abbrev laksHeld : ℕ → List Bytes
-laksHeld zero = []
-laksHeld (suc n) = laksHeld n ++ (holds dev (lak n + 1) ∷ [])
+abbrev pub under : ℕ → Asked → Asked
+under n a = record { kind = a .kind; attributes = a .attributes; desk = a .desk; deskKey = a .deskKey; parent = nthCertificate n; parentPrivate = nth n + 1; parentDesk = owner }
 
-abbrev laksCommands : ℕ → List Bytes
-laksCommands zero = []
-laksCommands (suc n) = laksCommands n ++ lakCommands n
+abbrev pub anLak : Asked
+anLak = underIak 0x40 0x0B owner ownerKey
 
--- an enrolment and LAKs: terms and 21 records of the LAKs, then commands
+abbrev pub anIdevid : Asked
+anIdevid = underIak 0x41 0x0A oem oemKey
+
+abbrev pub anLdevid : Asked
+anLdevid = underIak 0x42 0x0A owner ownerKey
+
+-- several, the first of them the n-th
+abbrev pub allTerms : ℕ → List Asked → List Bytes
+allTerms n [] = []
+allTerms n (a ∷ more) = askedTerms n a ++ allTerms (suc n) more
+
+abbrev pub allHeld : ℕ → List Asked → List Bytes
+allHeld n [] = []
+allHeld n (a ∷ more) = holds dev (nth n + 1) ∷ allHeld (suc n) more
+
+abbrev pub allCommands : ℕ → List Asked → List Bytes
+allCommands n [] = []
+allCommands n (a ∷ more) = askedCommands n a ++ allCommands (suc n) more
+
+-- an enrolment and an owner desk: more terms and 21 records, then commands
 abbrev withOwner : List Bytes → List Bytes → List Bytes → Bytes
 withOwner more held commands =
     written
@@ -319,16 +336,26 @@ withOwner more held commands =
     ++ enrolled
     ++ commands)
 
-abbrev chain : ℕ → Bytes
-chain n = withOwner (laksTerms n) (laksHeld n) (laksCommands n)
+-- those of a list, then more
+abbrev pub asking : List Asked → List Bytes → List Bytes → Bytes
+asking which terms commands = withOwner (allTerms 0 which ++ terms) (allHeld 0 which) (allCommands 0 which ++ commands)
+
+-- LAKs, each under the one before, from the n-th on
+abbrev pub laksFrom : ℕ → ℕ → List Asked → List Asked
+laksFrom n zero more = more
+laksFrom n (suc m) more = under n anLak ∷ laksFrom (suc n) m more
+
+-- m + 1 LAKs, the first under the IAK, and then more
+abbrev pub laks : ℕ → List Asked → List Asked
+laks m more = anLak ∷ laksFrom 0 m more
 
 -- certificates, parents and depths of the IAK and seven LAKs
-abbrev eightDeep : List (ℕ × ℕ × ℕ)
+abbrev pub eightDeep : List (ℕ × ℕ × ℕ)
 eightDeep = (14, 6, 1) ∷ (24, 14, 2) ∷ (33, 24, 3) ∷ (42, 33, 4) ∷ (51, 42, 5) ∷ (60, 51, 6) ∷ (69, 60, 7) ∷ (78, 69, 8) ∷ []
 
 -- Depth 8 issued: seven LAKs, each under the one before.
 abbrev pub depth8 : Situation
-depth8 = record { file = chain 7; gives = ran (fine 65 []) eightDeep 65 0 8 }
+depth8 = record { file = asking (laks 6 []) [] []; gives = ran (fine 65 []) eightDeep 65 0 8 }
 
 pub depth8-holds : Holds depth8
 unfolding result
@@ -336,11 +363,60 @@ depth8-holds = refl
 
 -- Depth 9: an eighth LAK.
 abbrev pub depth9 : Situation
-depth9 = record { file = chain 8; gives = ran (fine 72 (29 ∷ [])) eightDeep 72 1 8 }
+depth9 = record { file = asking (laks 7 []) [] []; gives = ran (fine 72 (29 ∷ [])) eightDeep 72 1 8 }
 
 pub depth9-holds : Holds depth9
 unfolding result
 depth9-holds = refl
+
+-- Families (request 1 of document 02): what the wrong engines get wrong. The other situations are in `situations`.
+
+-- Each asked for under the other's attributes: an LAK with 0A hex, an IDevID and an LDevID with 0B hex.
+abbrev pub othersAttributes : Situation
+othersAttributes = record {
+  file = asking (underIak 0x40 0x0A owner ownerKey ∷ underIak 0x41 0x0B oem oemKey ∷ underIak 0x42 0x0B owner ownerKey ∷ []) [] [];
+  gives = ran (fine 16 (23 ∷ fine 7 (23 ∷ fine 7 (23 ∷ [])))) ((iakCertificate, ekCertificate, 1) ∷ []) 30 3 1;
+}
+
+pub othersAttributes-holds : Holds othersAttributes
+unfolding result
+othersAttributes-holds = refl
+
+-- 41 with a parent that an owner desk signed, an LAK's certificate.
+abbrev pub ownersParent : Situation
+ownersParent = record {
+  file = asking (anLak ∷ under 0 anIdevid ∷ []) [] [];
+  gives = ran (fine 24 (21 ∷ [])) ((iakCertificate, ekCertificate, 1) ∷ (nthCertificate 0, iakCertificate, 2) ∷ []) 24 1 2;
+}
+
+pub ownersParent-holds : Holds ownersParent
+unfolding result
+ownersParent-holds = refl
+
+-- An IDevID certificate as the parent of an LAK, of an IDevID and of an LDevID. Its key attests: 32 asks for no Restricted key.
+abbrev underIdevid : Asked → Asked
+underIdevid a = record { kind = a .kind; attributes = a .attributes; desk = a .desk; deskKey = a .deskKey; parent = nthCertificate 0; parentPrivate = nth 0 + 1; parentDesk = oem }
+
+abbrev pub idevidParent : Situation
+idevidParent = record {
+  file = asking (anIdevid ∷ underIdevid anLak ∷ underIdevid anIdevid ∷ underIdevid anLdevid ∷ []) [] [];
+  gives = ran (fine 24 (23 ∷ fine 7 (23 ∷ fine 7 (23 ∷ [])))) ((iakCertificate, ekCertificate, 1) ∷ (nthCertificate 0, iakCertificate, 2) ∷ []) 38 3 2;
+}
+
+pub idevidParent-holds : Holds idevidParent
+unfolding result
+idevidParent-holds = refl
+
+-- 41 done by an owner desk and 42 by an OEM desk, each with a certificate that it would sign.
+abbrev pub otherDesks : Situation
+otherDesks = record {
+  file = asking (underIak 0x41 0x0A owner ownerKey ∷ underIak 0x42 0x0A oem oemKey ∷ []) [] [];
+  gives = ran (fine 16 (13 ∷ fine 7 (13 ∷ []))) ((iakCertificate, ekCertificate, 1) ∷ []) 23 2 1;
+}
+
+pub otherDesks-holds : Holds otherDesks
+unfolding result
+otherDesks-holds = refl
 
 -- The listing of the example: "R 1 15" and "T 1 1 0".
 abbrev space : ℕ
@@ -452,10 +528,10 @@ otherCredentials-holds : Holds otherCredentials
 unfolding result
 otherCredentials-holds = refl
 
--- A LAK that is not Restricted, LAK 0, and LAK 1 attested by it. Nobody knows LAK 0's certificate, so all that would name it fails.
+-- An LAK that is not Restricted, and another attested by it. Nobody knows the first one's certificate, so all that would name it fails.
 abbrev unrestrictedLak : Situation
 unrestrictedLak = record {
-  file = withOwner (lakTerms 0 0x0A ++ lakTerms 1 0x0B) (laksHeld 2) (laksCommands 2);
+  file = asking (underIak 0x40 0x0A owner ownerKey ∷ under 0 anLak ∷ []) [] [];
   gives = ran (fine 16 (23 ∷ 14 ∷ 0 ∷ 14 ∷ 14 ∷ 17 ∷ 14 ∷ 14 ∷ 14 ∷ [])) ((iakCertificate, ekCertificate, 1) ∷ []) 17 8 1;
 }
 
@@ -466,8 +542,8 @@ unrestrictedLak-holds = refl
 -- The same LAK certificate again.
 abbrev sameLak : Situation
 sameLak = record {
-  file = withOwner (laksTerms 1) (laksHeld 1) (laksCommands 1 ++ (issueLak owner (lak 0 + 7) (lakCertificate 0) ∷ []));
-  gives = ran (fine 17 (28 ∷ [])) ((iakCertificate, ekCertificate, 1) ∷ (lakCertificate 0, iakCertificate, 2) ∷ []) 17 1 2;
+  file = asking (anLak ∷ []) [] (issue 0x40 owner (nthRequest 0) (nthCertificate 0) ∷ []);
+  gives = ran (fine 17 (28 ∷ [])) ((iakCertificate, ekCertificate, 1) ∷ (nthCertificate 0, iakCertificate, 2) ∷ []) 17 1 2;
 }
 
 sameLak-holds : Holds sameLak
@@ -476,7 +552,7 @@ sameLak-holds = refl
 
 -- 40 does not ask, under any number, whether its parent is listed: command 16, the 40 of the honest LAK, with an empty ledger.
 abbrev honestLak : Bytes
-honestLak = withOwner (laksTerms 1) (laksHeld 1) (laksCommands 1)
+honestLak = asking (anLak ∷ []) [] []
 
 parent-unasked : outcomesUnlisted 16 (load honestLak) ≡ 0 ∷ []
 unfolding result outcomesUnlisted withLedger

@@ -38,6 +38,10 @@ iakAttributes = record { bits = restricted + sign + fixedTpm }
 abbrev pub ekAttributes : Attributes
 ekAttributes = record { bits = restricted + decrypt + fixedTpm }
 
+-- 0A hex, of general-purpose keys (IDevID, LDevID)
+abbrev pub devidAttributes : Attributes
+devidAttributes = record { bits = sign + fixedTpm }
+
 -- 0A hex, of the signing keys of desks and TPM makers
 abbrev pub deskKeyAttributes : Attributes
 deskKeyAttributes = record { bits = sign + fixedTpm }

@@ -1,13 +1,14 @@
 -- Desk commands (document 01, "Desk commands"): what each asks, and what it changes.
-use mathlib.Core.Bool.{true, cond, not, _&&_, _||_}
+use mathlib.Core.Bool.{true, cond, not, _&&_}
 use mathlib.Core.List.{List, [], _∷_, _++_}
 use Prim.Native.Nat.{ℕ, zero, suc, _+_}
 use lib.Dec.{eqb, leb}
-use Rattle.rules.specs.Limits.{device, tpmMaker, oemDesk, ownerDesk, partyLimit, depthLimit}
+use Rattle.rules.specs.declared.Family.{Family}
+use Rattle.rules.specs.Limits.{device, tpmMaker, oemDesk, partyLimit, depthLimit}
 use Rattle.rules.specs.Refusals.{Test, need}
 use Rattle.rules.specs.Attributes.{sameAttributes, iakAttributes, ekAttributes}
 use Rattle.rules.specs.Term.{hashKind, signatureKind, attestKind, idevidRequestKind, ldevidRequestKind, pairKind, sameSubject, isDeviceSubject, isTpmSubject}
-use Rattle.rules.specs.File.{File, isRole, isKind, hashedTerm, message, signingKey, attestedKey, credentialTerm, credentialNumber, credentialKey, idevidCertificate, idevidKey, ldevidMessage, ldevidCertificate, certifiedKey, signer, leftOf, rightOf, subject, attributes, paired, signsFor, signsForRole}
+use Rattle.rules.specs.File.{File, isRole, isKind, hashedTerm, message, signingKey, attestedKey, credentialTerm, credentialNumber, credentialKey, idevidCertificate, idevidKey, ldevidMessage, ldevidCertificate, certifiedKey, signer, leftOf, rightOf, subject, attributes, paired, signsFor, signsForRole, signsForSome}
 use Rattle.rules.specs.Learning.{Knowledge}
 use Rattle.rules.specs.State.{State, numberUsed, credentialOpen, listed, depthOf, learnt, opening, closing, entered}
 
@@ -100,37 +101,37 @@ issueIakTests f s p q c r =
 unfoldable pub issueIakEffect : File → State → ℕ → ℕ → ℕ → ℕ → State
 issueIakEffect f s p q c r = entered (closing (learnt f s p r) c) (record { certificate = r; parent = ekCertificateOf f (s .request c); depth = 1 })
 
--- The attest's signature, the LAK and the parent certificate of a request for an LAK certificate.
+-- The attest's signature, the new key (of a 40: the LAK) and the parent certificate of an 18 request.
 unfoldable pub attestSignatureOf : File → ℕ → ℕ
 attestSignatureOf f q = ldevidMessage f (requestBody f q)
 
-unfoldable pub lakOf : File → ℕ → ℕ
-lakOf f q = attestedKey f (message f (attestSignatureOf f q))
+unfoldable pub newKeyOf : File → ℕ → ℕ
+newKeyOf f q = attestedKey f (message f (attestSignatureOf f q))
 
 unfoldable pub parentCertificateOf : File → ℕ → ℕ
 parentCertificateOf f q = ldevidCertificate f (requestBody f q)
 
--- 40 (owner desk p, request q, certificate r). That the parent "is in the ledger" is no test: whatever commands came before, it is
--- wherever the tests up to 21 pass (request 5 of document 02).
-unfoldable pub issueLakTests : File → State → ℕ → ℕ → ℕ → List Test
-issueLakTests f s p q r =
-    (need 13 (isRole f ownerDesk p) ∷ need 14 (s .knows p q) ∷ [])
+-- 40, 41, 42 (desk p, request q, certificate r): what differs is the family. That the parent "is in the ledger" is no test: whatever
+-- commands came before, it is wherever the tests up to 21 pass (request 5 of document 02).
+unfoldable pub issueTests : File → State → Family → ℕ → ℕ → ℕ → List Test
+issueTests f s family p q r =
+    (need 13 (isRole f (family .desk) p) ∷ need 14 (s .knows p q) ∷ [])
     ++ (formTests f ldevidRequestKind q
     ++ ((need 19 (isKind f signatureKind (attestSignatureOf f q))
     ∷ need 19 (isKind f attestKind (message f (attestSignatureOf f q)))
     ∷ [])
-    ++ (proofTests f q (lakOf f q)
+    ++ (proofTests f q (newKeyOf f q)
     ++ ((need 20 (paired f (certifiedKey f (parentCertificateOf f q)) (signingKey f (attestSignatureOf f q)))
-    ∷ need 21 (signsForRole f oemDesk (signer f (parentCertificateOf f q)) || signsForRole f ownerDesk (signer f (parentCertificateOf f q)))
-    ∷ need 23 (sameAttributes (attributes f (lakOf f q)) iakAttributes)
-    ∷ need 23 (sameAttributes (attributes f (certifiedKey f (parentCertificateOf f q))) iakAttributes)
+    ∷ need 21 (signsForSome f (family .signers) (signer f (parentCertificateOf f q)))
+    ∷ need 23 (sameAttributes (attributes f (newKeyOf f q)) (family .key))
+    ∷ need 23 (sameAttributes (attributes f (certifiedKey f (parentCertificateOf f q))) (family .parent))
     ∷ [])
-    ++ (calledFor f p r (lakOf f q) (parentCertificateOf f q)
+    ++ (calledFor f p r (newKeyOf f q) (parentCertificateOf f q)
     ++ (need 28 (not (listed (s .ledger) r))
     ∷ need 29 (leb (depthOf (s .ledger) (parentCertificateOf f q) + 1) depthLimit)
     ∷ []))))))
 
-unfoldable pub issueLakEffect : File → State → ℕ → ℕ → ℕ → State
-issueLakEffect f s p q r =
+unfoldable pub issueEffect : File → State → ℕ → ℕ → ℕ → State
+issueEffect f s p q r =
     entered (learnt f s p r)
     (record { certificate = r; parent = parentCertificateOf f q; depth = depthOf (s .ledger) (parentCertificateOf f q) + 1 })

@@ -5,24 +5,26 @@ use Prim.Native.Nat.{ℕ, suc}
 use lib.Dec.{eqb}
 use lib.ListN.{getD}
 use Rattle.rules.specs.declared.Attributes.{Attributes}
+use Rattle.rules.specs.declared.Family.{Family}
+use Rattle.rules.specs.declared.Signers.{Signers}
 use Rattle.rules.specs.declared.Subject.{Subject}
 use Rattle.rules.specs.declared.Term.{Term}
 use Rattle.rules.specs.declared.Term.the-variants.{Hash}
-use Rattle.rules.specs.Limits.{roleCount}
+use Rattle.rules.specs.Limits.{roleCount, tpmMaker, oemDesk, ownerDesk}
 use Rattle.rules.specs.Term.{kindOf, fieldsIn, subjectOf, attributesOf, keyPair, partsOf, namesOf}
 
 -- A set-up record: 20 (party, t), 21 (party, private key), 22 (party, private key).
 pub data Setup : Type 0 where
   learns holds signsWith : ℕ → ℕ → Setup
 
--- A command, 30 to 40, with its fields in the order of its body.
+-- A command, 30 to 42, with its fields in the order of its body; 40, 41 and 42 are one with the family of the certificate.
 pub data Command : Type 0 where
   hash sign certify makeCredential activateCredential makeIdevidRequest makeLdevidRequest makePair : ℕ → ℕ → Command
   checkHash checkSignature checkCertificate checkAttributes send : ℕ → ℕ → ℕ → Command
   selfIssue : ℕ → ℕ → Command
   challenge : ℕ → ℕ → ℕ → Command
   issueIak : ℕ → ℕ → ℕ → ℕ → Command
-  issueLak : ℕ → ℕ → ℕ → Command
+  issue : Family → ℕ → ℕ → ℕ → Command
 
 -- What the records so far declare. Section: that of the last record. Set-up records and commands: the latest first.
 pub record File : Type 0 where
@@ -176,3 +178,10 @@ signsFor f p k = someSetup (isSigningKey p k) (f .setup)
 -- the key is the signing key of a party of the role
 unfoldable pub signsForRole : File → ℕ → ℕ → Bool
 signsForRole f role k = someSetup (isSigningKeyFor f role k) (f .setup)
+
+-- the key is that of one who may sign
+unfoldable pub signsForSome : File → Signers → ℕ → Bool
+signsForSome f who k =
+    (who .maker && signsForRole f tpmMaker k)
+    || ((who .oem && signsForRole f oemDesk k)
+    || (who .owner && signsForRole f ownerDesk k))

@@ -1,6 +1,7 @@
 pub mod Limits
 pub mod Refusals
 pub mod Attributes
+pub mod Families
 pub mod Term
 pub mod Record
 pub mod File

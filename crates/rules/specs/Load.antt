@@ -11,10 +11,11 @@ use Rattle.rules.specs.declared.Term.the-variants.{PublicKey, PrivateKey
 use Rattle.rules.specs.Limits.{fileLimit, partyLimit, termLimit, roleCount, device, tpmMaker}
 use Rattle.rules.specs.Attributes.{attributesLimit, fixedTpm, has, sameAttributes, deskKeyAttributes}
 use Rattle.rules.specs.Term.{publicKeyKind, privateKeyKind, hashKind, signatureKind, attestKind, credentialKind, numberKind, idevidRequestKind, ldevidRequestKind, certificateKind, anyAlike, isTpmSubject}
+use Rattle.rules.specs.Families.{familyOf}
 use Rattle.rules.specs.declared.Field.{Field}
 use Rattle.rules.specs.declared.Field.the-variants.{RoleField, IdentifierField, AttributesField, SubjectField, PartyField, AnyTerm, TermOf, SignedAttest}
 use Rattle.rules.specs.Record.{width, fieldsOf, sectionOf, partySection, termSection, setupSection, word, Piece, whole, fault, pieces}
-use Rattle.rules.specs.File.{Setup, learns, holds, signsWith, Command, hash, sign, certify, makeCredential, activateCredential, makeIdevidRequest, makeLdevidRequest, makePair, checkHash, checkSignature, checkCertificate, checkAttributes, send, selfIssue, challenge, issueIak, issueLak, File, isRole, isKind, message, subject, attributes, signer, someSetup, isOtherHold, isSigner, holdsKey, signsForRole}
+use Rattle.rules.specs.File.{Setup, learns, holds, signsWith, Command, hash, sign, certify, makeCredential, activateCredential, makeIdevidRequest, makeLdevidRequest, makePair, checkHash, checkSignature, checkCertificate, checkAttributes, send, selfIssue, challenge, issueIak, issue, File, isRole, isKind, message, subject, attributes, signer, someSetup, isOtherHold, isSigner, holdsKey, signsForRole}
 
 -- the first of two refusals, where 0 is none
 unfoldable pub first : ℕ → ℕ → ℕ
@@ -68,7 +69,7 @@ commandAt k bs =
     (cond (eqb k 0x3D) (selfIssue (getD bs 0 0) (word bs 1))
     (cond (eqb k 0x3E) (challenge (getD bs 0 0) (word bs 1) (word bs 3))
     (cond (eqb k 0x3F) (issueIak (getD bs 0 0) (getD bs 1 0) (word bs 2) (word bs 4))
-    (issueLak (getD bs 0 0) (word bs 1) (word bs 3)))))))))))))))))
+    (issue (familyOf k) (getD bs 0 0) (word bs 1) (word bs 3)))))))))))))))))
 
 -- 5: a section goes before one that has begun
 unfoldable pub sectionFault : File → ℕ → ℕ

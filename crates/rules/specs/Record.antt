@@ -36,13 +36,20 @@ setupSection = 3
 abbrev pub commandSection : ℕ
 commandSection = 4
 
--- the section of a kind: 01, 10 to 1A, 20 to 22, 30 to 40
+-- the last kind of the last section; the kinds from 00 to it
+abbrev pub lastKind : ℕ
+lastKind = 0x42
+
+abbrev pub kindCount : ℕ
+kindCount = lastKind + 1
+
+-- the section of a kind: 01, 10 to 1A, 20 to 22, 30 to 42
 unfoldable pub sectionOf : ℕ → ℕ
 sectionOf k =
     cond (eqb k 0x01) partySection
     (cond (leb 0x10 k && leb k 0x1A) termSection
     (cond (leb 0x20 k && leb k 0x22) setupSection
-    (cond (leb 0x30 k && leb k 0x40) commandSection
+    (cond (leb 0x30 k && leb k lastKind) commandSection
     0)))
 
 -- 10 to 1A
@@ -65,7 +72,7 @@ termRows =
 setupRows : List (List Field)
 setupRows = (PartyField ∷ AnyTerm ∷ []) ∷ (PartyField ∷ TermOf privateKeyKind ∷ []) ∷ (PartyField ∷ TermOf privateKeyKind ∷ []) ∷ []
 
--- 30 to 40
+-- 30 to 42
 commandRows : List (List Field)
 commandRows =
     (PartyField ∷ TermOf hashKind ∷ [])
@@ -84,6 +91,8 @@ commandRows =
     ∷ (PartyField ∷ TermOf certificateKind ∷ [])
     ∷ (PartyField ∷ AnyTerm ∷ TermOf credentialKind ∷ [])
     ∷ (PartyField ∷ PartyField ∷ TermOf credentialKind ∷ TermOf certificateKind ∷ [])
+    ∷ (PartyField ∷ AnyTerm ∷ TermOf certificateKind ∷ [])
+    ∷ (PartyField ∷ AnyTerm ∷ TermOf certificateKind ∷ [])
     ∷ (PartyField ∷ AnyTerm ∷ TermOf certificateKind ∷ [])
     ∷ []
 

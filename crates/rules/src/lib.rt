@@ -1,7 +1,9 @@
 // The values that the rules and the code both speak of (document 01, "Terms", "Run and Path").
 ghost use mathlib.Core.Path.{_≡_};
+ghost use mathlib.Core.Bool.{true, false};
 ghost use Rattle.rules.specs.Term.{kindOf, sameSubject};
-ghost use Rattle.rules.specs.Attributes.{has, iakAttributes, ekAttributes, deskKeyAttributes, sameAttributes};
+ghost use Rattle.rules.specs.Families.{familyOf};
+ghost use Rattle.rules.specs.Attributes.{has, iakAttributes, ekAttributes, devidAttributes, deskKeyAttributes, sameAttributes};
 
 // The numbers of document 01.
 pub const FILE_LIMIT: usize = 32768;
@@ -19,6 +21,11 @@ pub const COMMAND_LIMIT: usize = 8192;
 pub const DEPTH_LIMIT: u16 = 8;
 
 pub const PATH_PLACES: usize = 9;
+
+// The last kind of the last section, and the kinds from 00 to it.
+pub const LAST_KIND: usize = 0x42;
+
+pub const KIND_COUNT: usize = LAST_KIND + 1;
 
 // Roles of parties.
 pub const DEVICE: u8 = 0;
@@ -65,6 +72,15 @@ impl Attributes {
         }
     }
 
+    // The attributes of a general-purpose key (IDevID or LDevID).
+    pub fn devid() -> Attributes
+        ensures { λ r. ⌜ r ≡ devidAttributes ⌝ }
+    {
+        Attributes {
+            bits: Attributes::SIGN + Attributes::FIXED_TPM,
+        }
+    }
+
     // The attributes of the signing key of a desk or a TPM maker.
     pub fn desk_key() -> Attributes
         ensures { λ r. ⌜ r ≡ deskKeyAttributes ⌝ }
@@ -78,6 +94,49 @@ impl Attributes {
         ensures { λ r. ⌜ r ≡ sameAttributes self other ⌝ }
     {
         self.bits == other.bits
+    }
+}
+
+// Who may have signed a certificate: a TPM maker, an OEM desk, an owner desk.
+pub struct Signers {
+    pub maker: bool,
+    pub oem: bool,
+    pub owner: bool,
+}
+
+// A family of certificates that desks issue: the attributes of its keys, the role of the desk that signs it, the attributes of its
+// parent's key, and who may have signed the parent.
+pub struct Family {
+    pub key: Attributes,
+    pub desk: u8,
+    pub parent: Attributes,
+    pub signers: Signers,
+}
+
+// A family whose parents certify attestation keys and are signed by OEM desks, or by owner desks too.
+fn below_attestation_key(key: Attributes, desk: u8, owner: bool) -> Family
+    ensures { λ r. ⌜ r ≡ record { key = key; desk = desk; parent = iakAttributes; signers = record { maker = false; oem = true; owner = owner } } ⌝ }
+{
+    Family {
+        key,
+        desk,
+        parent: Attributes::iak(),
+        signers: Signers {
+            maker: false,
+            oem: true,
+            owner,
+        },
+    }
+}
+
+// The family of 40, 41 or 42.
+pub fn family_of(kind: u8) -> Family
+    ensures { λ r. ⌜ r ≡ familyOf kind ⌝ }
+{
+    match kind {
+        0x41 => below_attestation_key(Attributes::devid(), OEM_DESK, false),
+        0x42 => below_attestation_key(Attributes::devid(), OWNER_DESK, true),
+        _ => below_attestation_key(Attributes::iak(), OWNER_DESK, true),
     }
 }
 

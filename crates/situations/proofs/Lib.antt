@@ -1,2 +1,3 @@
 pub mod Large
+pub mod OfFamilies
 pub mod Table

@@ -3,7 +3,7 @@
 use mathlib.Core.Path.{_≡_, refl, sym, ap, subst, subst⁻¹, _∙_}
 use mathlib.Core.Logic.{_⊎_, inl, inr, ⊎-elim}
 use mathlib.Core.Bool.{true}
-use mathlib.Core.List.{List, [], _∷_, List·Memᴰ, List·Memᴰ·cases-cons, List·Memᴰ·not-nil}
+use mathlib.Core.List.{List, [], _∷_, List·Memᴰ}
 use mathlib.Core.Option.{some}
 use Prim.Native.Nat.{ℕ, zero, suc, _<_}
 use native.Mathlib.Omega.{arith}
@@ -12,17 +12,18 @@ use lib.ListN.{length, getElem?}
 use Rattle.rules.specs.declared.Attributes.{Attributes}
 use Rattle.rules.specs.declared.Entry.{Entry}
 use Rattle.rules.specs.declared.Subject.the-variants.{Device}
-use Rattle.rules.specs.Limits.{device, tpmMaker}
+use Rattle.rules.specs.Limits.{device}
 use Rattle.rules.specs.Attributes.{has, fixedTpm}
 use Rattle.rules.specs.File.{File, holds, roleOf, subject, attributes, certifiedKey}
 use Rattle.rules.specs.Run.{reached}
-use Rattle.theorems.specs.Residency.{Known, Held, Family, families, DeskSigned, EntryAt, Listed, Endorsement, Path, ends, step, Falls, toLast, toLower, All, AllButLast, Sound, Resident, Demand3}
+use Rattle.theorems.specs.Residency.{Known, Held, DeskSigned, EntryAt, Listed, Endorsement, Path, ends, step, Falls, toLast, toLower, All, AllButLast, Sound, Resident, Demand3}
 use Rattle.theorems.proofs.Loading.{Checked, checked}
 use Rattle.theorems.proofs.Terms.{pair-kinds, pair-attributes, pair-term, private-declared}
+use Rattle.theorems.proofs.FamilyRows.{family-row}
 use Rattle.theorems.proofs.Ledgers.{listed-found}
 use Rattle.theorems.proofs.Invariant.{DeviceHolds, EntryGood, Invariant}
 use Rattle.theorems.proofs.Reaching.{reached-invariant}
-use Rattle.theorems.proofs.History.{bits-known, known-bits, entry-parent}
+use Rattle.theorems.proofs.History.{bits-known, known-bits, entry-issued}
 
 module _ (f : File) (ck : Checked f) (n : ℕ) where
   inv : Invariant f (reached f n)
@@ -65,7 +66,7 @@ module _ (f : File) (ck : Checked f) (n : ℕ) where
       let g = good i e h .held in
       record {
         more = [];
-        isPath = step (is-listed i e h) (entry-parent f ck n i e h) (ends x);
+        isPath = step (is-listed i e h) (entry-issued f ck n i e h .parent) (ends x);
         steps = sym d;
         falls = toLast (e, h, refl);
         tpm = g .tpm;
@@ -81,7 +82,7 @@ module _ (f : File) (ck : Checked f) (n : ℕ) where
   chain-more : (i j : ℕ) (e g : Entry) → EntryAt f n i e → EntryAt f n j g → j < i → g .certificate ≡ e .parent → e .depth ≡ suc (g .depth) → subject f (e .certificate) ≡ subject f (e .parent) → Chain j g → Chain i e
   chain-more i j e g h k l c d u r = record {
     more = g .parent ∷ r .more;
-    isPath = step (is-listed i e h) (entry-parent f ck n i e h) (subst (λ (x : ℕ). Path f n x (x ∷ g .parent ∷ r .more)) c (r .isPath));
+    isPath = step (is-listed i e h) (entry-issued f ck n i e h .parent) (subst (λ (x : ℕ). Path f n x (x ∷ g .parent ∷ r .more)) c (r .isPath));
     steps = let q = r .steps in omega arith;
     falls = toLower (e, h, refl) l (subst (λ (x : ℕ). Falls f n j (x ∷ g .parent ∷ r .more)) c (r .falls));
     tpm = r .tpm;
@@ -122,13 +123,12 @@ module _ (f : File) (ck : Checked f) (n : ℕ) where
   sound : (i : ℕ) (e : Entry) → EntryAt f n i e → Sound f n i e
   sound i e h =
       let g = good i e h in
+      let x = entry-issued f ck n i e h in
       let c = chain (suc i) i (le-refl (suc i)) e h in
       record {
-        family = g .family;
-        familyKnown = g .familyKnown;
-        signed = g .signed;
-        keyAttributes = g .keyAttributes;
-        parent = entry-parent f ck n i e h;
+        family = x .family;
+        ofFamily = x .ofFamily;
+        parent = x .parent;
         earlier = ⊎-elim (λ w. inl (w .0, w .1)) (λ w. inr (w .0, w .1, w .2, w .3, w .4, w .5)) (g .earlier);
         path = e .certificate ∷ e .parent ∷ c .more;
         isPath = c .isPath;
@@ -146,24 +146,17 @@ module _ (f : File) (ck : Checked f) (n : ℕ) where
   listed-known : (t : ℕ) → Listed f n t → DeskSigned f t × ((p : ℕ) × (p < length (f .roles)) × Known f n p t)
   listed-known t l =
       subst (λ (x : ℕ). DeskSigned f x × ((p : ℕ) × (p < length (f .roles)) × Known f n p x)) (l .same) (
-        record { family = g .family; known = g .familyKnown; signed = g .signed },
-        (g .signed .desk, inv .party (g .signed .desk) (l .entry .certificate) (g .known), bits-known f n (g .signed .desk) (l .entry .certificate) (g .known)),
+        record { family = g .family; known = g .ofFamily .listed; signed = g .ofFamily .signed },
+        (g .ofFamily .signed .desk, inv .party (g .ofFamily .signed .desk) (l .entry .certificate) (g .known), bits-known f n (g .ofFamily .signed .desk) (l .entry .certificate) (g .known)),
       )
     where
       g : EntryGood f (reached f n) (l .place) (l .entry)
       g = good (l .place) (l .entry) (l .here)
 
-  -- the signing role of a family is no TPM maker's
-  family-role : (x : Family) → List·Memᴰ x families → x .signerRole ≡ tpmMaker → ⊥
-  family-role x m e =
-      ⊎-elim (λ q. let z = sym (ap (λ (y : Family). y .signerRole) q) ∙ e in omega arith)
-      (λ m. ⊎-elim (λ q. let z = sym (ap (λ (y : Family). y .signerRole) q) ∙ e in omega arith) (λ m. List·Memᴰ·not-nil m) (List·Memᴰ·cases-cons m))
-      (List·Memᴰ·cases-cons m)
-
   known-listed : (p t : ℕ) → Known f n p t → DeskSigned f t → Listed f n t
   known-listed p t k d =
       let x = d .signed in
-      let r = inv .good p t (known-bits f ck n p t k) .issued (x .isCertificate) (x .desk) (x .deskKey) (λ e. family-role (d .family) (d .known) (sym (x .deskRole) ∙ e)) in
+      let r = inv .good p t (known-bits f ck n p t k) .issued (x .isCertificate) (x .desk) (x .deskKey) (λ e. family-row (d .family) (d .known) .desk (sym (x .deskRole) ∙ e)) in
       let w = listed-found (reached f n .ledger) t r in
       record { place = w .place; entry = w .entry; here = w .here; same = w .same }
 

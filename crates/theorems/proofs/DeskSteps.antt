@@ -12,20 +12,23 @@ use lib.ListN.{length}
 use borrow.Author.Tests.{eq-eqb, ne-eqb, eqb-true, leb-true}
 use Rattle.rules.specs.declared.Attributes.{Attributes}
 use Rattle.rules.specs.declared.Entry.{Entry}
-use Rattle.rules.specs.Limits.{device, tpmMaker, oemDesk, ownerDesk, partyLimit, depthLimit}
+use Rattle.rules.specs.declared.Family.{Family}
+use Rattle.rules.specs.Limits.{device, tpmMaker, oemDesk, partyLimit, depthLimit}
 use Rattle.rules.specs.Attributes as flag
-use Rattle.rules.specs.Attributes.{has, iakAttributes}
+use Rattle.rules.specs.Attributes.{has, iakAttributes, ekAttributes}
+use Rattle.rules.specs.Families.{iakFamily}
 use Rattle.rules.specs.Term.{signatureKind, attestKind, credentialKind, numberKind, idevidRequestKind, ldevidRequestKind, pairKind}
-use Rattle.rules.specs.File.{File, signsWith, challenge, issueIak, issueLak, roleOf, kind, attributes, subject, message, signingKey, certifiedKey, signer, credentialNumber, idevidCertificate, idevidKey, ldevidMessage, ldevidCertificate, leftOf, paired}
+use Rattle.rules.specs.File.{File, signsWith, challenge, issueIak, issue, roleOf, kind, attributes, subject, message, signingKey, certifiedKey, signer, credentialNumber, idevidCertificate, idevidKey, ldevidMessage, ldevidCertificate, leftOf, paired, signsForSome}
 use Rattle.rules.specs.State.{State, numberUsed, credentialOpen, credentialClosed, listed, depthOf, put, learnt, opening, closing, entered}
-use Rattle.rules.specs.Desk.{requestBody, formTests, proofTests, numberTests, iakOf, ekCertificateOf, ekOf, challengeTests, challengeEffect, calledFor, issueIakTests, issueIakEffect, attestSignatureOf, lakOf, parentCertificateOf, issueLakTests, issueLakEffect}
+use Rattle.rules.specs.Desk.{requestBody, formTests, proofTests, numberTests, iakOf, ekCertificateOf, ekOf, challengeTests, challengeEffect, calledFor, issueIakTests, issueIakEffect, attestSignatureOf, newKeyOf, parentCertificateOf, issueTests, issueEffect}
 use Rattle.rules.specs.Run.{testsOf, effectOf, outcome}
-use Rattle.theorems.specs.Residency.{Inside, Held, Endorsement, iakFamily, lakFamily}
+use Rattle.theorems.specs.Residency.{Inside, Held, Endorsement, OfFamily}
 use Rattle.theorems.proofs.Passing.{Passed, passed}
 use Rattle.theorems.proofs.Inside.{inside-none, first-part}
 use Rattle.theorems.proofs.Learning.{learn-kept, learn-own, learn-only}
 use Rattle.theorems.proofs.Loading.{Checked, Wellformed}
 use Rattle.theorems.proofs.Terms.{isKind-kind, isRole-role, same-attributes, same-subject, device-subject, pair-kinds, pair-attributes, parts-credential, parts-idevidRequest, parts-ldevidRequest, signs-given, signs-role-given}
+use Rattle.theorems.proofs.FamilyRows.{RequestRow, request-row}
 use Rattle.theorems.proofs.Ledgers.{Listing, at-kept, at-below, listed-kept, listed-last, listed-found}
 use Rattle.theorems.proofs.Knowers.{sole}
 use Rattle.theorems.proofs.Invariant.{DeviceHolds, KnownToDevice, Attested, Secret, Open, EntryGood, Invariant, Fresh, Gained, Step}
@@ -44,10 +47,6 @@ put-other column t x u n = rw (ne-eqb u t n)
 iak-fixed : has iakAttributes flag.fixedTpm ≡ true
 unfolding has
 iak-fixed = refl
-
-iak-restricted : has iakAttributes flag.restricted ≡ true
-unfolding has
-iak-restricted = refl
 
 module _ (f : File) (ck : Checked f) (s : State) (inv : Invariant f s) where
   -- a credential is no number
@@ -150,6 +149,10 @@ module _ (f : File) (ck : Checked f) (s : State) (inv : Invariant f s) where
         inv .good p (ekCertificateOf f q) certificate-known .endorsed
         (ck .idevidCertificateKind (leftOf f q) (isKind-kind f idevidRequestKind (leftOf f q) (tests .1 .1 .1 .0))) (g .0) (g .1) (g .2)
 
+    pub challenge-ek : attributes f (ekOf f q) ≡ ekAttributes
+    unfolding challengeTests formTests proofTests numberTests
+    challenge-ek = same-attributes _ _ (tests .1 .1 .1 .1 .1 .1 .1 .1 .1 .1 .1 .1 .0)
+
     opened-r : Open f nextState r p q
     unfolding challengeTests formTests proofTests numberTests
     opened-r = record {
@@ -157,8 +160,9 @@ module _ (f : File) (ck : Checked f) (s : State) (inv : Invariant f s) where
       deskRole = deskRole;
       deviceSubject = tests .1 .1 .1 .1 .1 .1 .0;
       iak = same-attributes _ _ (tests .1 .1 .1 .1 .1 .1 .1 .1 .1 .1 .1 .0);
-      ek = same-attributes _ _ (tests .1 .1 .1 .1 .1 .1 .1 .1 .1 .1 .1 .1 .0);
+      ek = challenge-ek;
       endorsement = endorsement;
+      maker = tests .1 .1 .1 .1 .1 .1 .1 .1 .1 .1 .0;
       name = eqb-true _ _ (tests .1 .1 .1 .1 .1 .1 .1 .1 .1 .1 .1 .1 .1 .1 .1 .1 .1 .0);
       key = eqb-true _ _ (tests .1 .1 .1 .1 .1 .1 .1 .1 .1 .1 .1 .1 .1 .1 .1 .1 .1 .1 .0);
       challenge = inr secret;
@@ -221,7 +225,7 @@ module _ (f : File) (ck : Checked f) (s : State) (inv : Invariant f s) where
     iakState : State
     iakState = issueIakEffect f s p q c r
 
-    iakEntry : Entry
+    abbrev iakEntry : Entry
     iakEntry = record { certificate = r; parent = ekCertificateOf f (s .request c); depth = 1 }
 
     iakTests : Passed (issueIakTests f s p q c r)
@@ -260,13 +264,21 @@ module _ (f : File) (ck : Checked f) (s : State) (inv : Invariant f s) where
     iakAttributed : attributes f (certifiedKey f r) ≡ iakAttributes
     iakAttributed = ap (attributes f) iakCertified ∙ wasOpen .iak
 
-    iakGood : EntryGood f iakState (length (s .ledger)) iakEntry
-    unfolding iakState iakEntry issueIakEffect entered closing learnt ekOf
-    iakGood = record {
-      family = iakFamily;
-      familyKnown = List·Memᴰ·head refl;
+    pub issueIak-family : OfFamily f iakFamily iakEntry
+    unfolding ekOf signsForSome
+    issueIak-family = record {
+      listed = List·Memᴰ·head refl;
       signed = record { isCertificate = w .3; desk = p; deskKey = iakKey; deskRole = iakRole };
       keyAttributes = iakAttributed;
+      parentSigned = rw (wasOpen .maker) refl;
+      parentAttributes = wasOpen .ek;
+    }
+
+    iakGood : EntryGood f iakState (length (s .ledger)) iakEntry
+    unfolding issueIak-family iakState issueIakEffect entered closing learnt ekOf
+    iakGood = record {
+      family = iakFamily;
+      ofFamily = issueIak-family;
       fixed = subst⁻¹ (λ (a : Attributes). has a flag.fixedTpm ≡ true) iakAttributed iak-fixed;
       known = learn-own f p r (s .knows);
       least = omega arith;
@@ -276,7 +288,7 @@ module _ (f : File) (ck : Checked f) (s : State) (inv : Invariant f s) where
     }
 
     iakGained : Gained f s iakState
-    unfolding iakState iakEntry issueIakEffect entered closing learnt issueIakTests calledFor
+    unfolding iakState issueIakEffect entered closing learnt issueIakTests calledFor
     iakGained = record {
       entry = iakEntry;
       appended = refl;
@@ -294,7 +306,7 @@ module _ (f : File) (ck : Checked f) (s : State) (inv : Invariant f s) where
         another (yes y) = λ v. let z : credentialClosed ≡ credentialOpen = sym (ap (put (s .mark) c credentialClosed) y ∙ put-same (s .mark) c credentialClosed) ∙ h in omega arith
 
     pub issueIak-step : Step f s (effectOf f s (issueIak p q c r))
-    unfolding effectOf iakState iakEntry issueIakEffect entered closing learnt
+    unfolding effectOf iakState issueIakEffect entered closing learnt
     issueIak-step = record {
       learner = p;
       lesson = r;
@@ -314,69 +326,76 @@ module _ (f : File) (ck : Checked f) (s : State) (inv : Invariant f s) where
       ledger = inr iakGained;
     }
 
-  -- 40
-  issueLak-passed : (p q r : ℕ) → outcome f s (issueLak p q r) ≡ 0 → Passed (issueLakTests f s p q r)
-  unfolding outcome testsOf issueLakTests formTests proofTests calledFor
-  issueLak-passed p q r e = passed (issueLakTests f s p q r) refl e
+  -- 40, 41, 42
+  pub issue-passed : (family : Family) (p q r : ℕ) → outcome f s (issue family p q r) ≡ 0 → Passed (issueTests f s family p q r)
+  unfolding outcome testsOf issueTests formTests proofTests calledFor
+  issue-passed family p q r e = passed (issueTests f s family p q r) refl e
 
-  module _ (p q r : ℕ) (w : Wellformed f (issueLak p q r)) (e : outcome f s (issueLak p q r) ≡ 0) where
-    lakState : State
-    lakState = issueLakEffect f s p q r
+  module _ (family : Family) (p q r : ℕ) (w : Wellformed f (issue family p q r)) (e : outcome f s (issue family p q r) ≡ 0) where
+    row : RequestRow family
+    row = request-row family (w .3)
 
-    lakEntry : Entry
-    lakEntry = record { certificate = r; parent = parentCertificateOf f q; depth = depthOf (s .ledger) (parentCertificateOf f q) + 1 }
+    issuedState : State
+    issuedState = issueEffect f s p q r
 
-    lakTests : Passed (issueLakTests f s p q r)
-    lakTests = issueLak-passed p q r e
+    abbrev newEntry : Entry
+    newEntry = record { certificate = r; parent = parentCertificateOf f q; depth = depthOf (s .ledger) (parentCertificateOf f q) + 1 }
 
-    lakRole : roleOf f p ≡ ownerDesk
-    unfolding issueLakTests formTests proofTests calledFor
-    lakRole = isRole-role f ownerDesk p (lakTests .0)
+    issueTested : Passed (issueTests f s family p q r)
+    issueTested = issue-passed family p q r e
 
-    lakKey : List·Memᴰ (signsWith p (signer f r)) (f .setup)
-    unfolding issueLakTests formTests proofTests calledFor
-    lakKey = signs-given f p (signer f r) (lakTests .1 .1 .1 .1 .1 .1 .1 .1 .1 .1 .1 .1 .1 .1 .1 .1 .0)
+    issuerRole : roleOf f p ≡ family .desk
+    unfolding issueTests formTests proofTests calledFor
+    issuerRole = isRole-role f (family .desk) p (issueTested .0)
 
-    lakCertified : certifiedKey f r ≡ lakOf f q
-    unfolding issueLakTests formTests proofTests calledFor
-    lakCertified = eqb-true _ _ (lakTests .1 .1 .1 .1 .1 .1 .1 .1 .1 .1 .1 .1 .1 .1 .0)
+    issuerKey : List·Memᴰ (signsWith p (signer f r)) (f .setup)
+    unfolding issueTests formTests proofTests calledFor
+    issuerKey = signs-given f p (signer f r) (issueTested .1 .1 .1 .1 .1 .1 .1 .1 .1 .1 .1 .1 .1 .1 .1 .1 .0)
 
-    lakSubject : subject f r ≡ subject f (parentCertificateOf f q)
-    unfolding issueLakTests formTests proofTests calledFor
-    lakSubject = same-subject _ _ (lakTests .1 .1 .1 .1 .1 .1 .1 .1 .1 .1 .1 .1 .1 .1 .1 .0)
+    newCertified : certifiedKey f r ≡ newKeyOf f q
+    unfolding issueTests formTests proofTests calledFor
+    newCertified = eqb-true _ _ (issueTested .1 .1 .1 .1 .1 .1 .1 .1 .1 .1 .1 .1 .1 .1 .0)
 
-    lakAttributed : attributes f (certifiedKey f r) ≡ iakAttributes
-    unfolding issueLakTests formTests proofTests calledFor
-    lakAttributed = ap (attributes f) lakCertified ∙ same-attributes _ _ (lakTests .1 .1 .1 .1 .1 .1 .1 .1 .1 .1 .1 .1 .0)
+    newSubject : subject f r ≡ subject f (parentCertificateOf f q)
+    unfolding issueTests formTests proofTests calledFor
+    newSubject = same-subject _ _ (issueTested .1 .1 .1 .1 .1 .1 .1 .1 .1 .1 .1 .1 .1 .1 .1 .0)
+
+    newAttributed : attributes f (certifiedKey f r) ≡ family .key
+    unfolding issueTests formTests proofTests calledFor
+    newAttributed = ap (attributes f) newCertified ∙ same-attributes _ _ (issueTested .1 .1 .1 .1 .1 .1 .1 .1 .1 .1 .1 .1 .0)
+
+    parentAttributed : attributes f (certifiedKey f (parentCertificateOf f q)) ≡ family .parent
+    unfolding issueTests formTests proofTests calledFor
+    parentAttributed = same-attributes _ _ (issueTested .1 .1 .1 .1 .1 .1 .1 .1 .1 .1 .1 .1 .1 .0)
 
     -- the attest's signature is known to the desk
     signature-known : s .knows p (attestSignatureOf f q) ≡ true
-    unfolding issueLakTests formTests proofTests calledFor attestSignatureOf requestBody
+    unfolding issueTests formTests proofTests calledFor attestSignatureOf requestBody
     signature-known =
-        inv .closed p (leftOf f q) (ldevidMessage f (leftOf f q)) (left-known f ck s inv p q (isKind-kind f pairKind q (lakTests .1 .1 .0)) (lakTests .1 .0))
+        inv .closed p (leftOf f q) (ldevidMessage f (leftOf f q)) (left-known f ck s inv p q (isKind-kind f pairKind q (issueTested .1 .1 .0)) (issueTested .1 .0))
         (first-part f (leftOf f q) (ldevidMessage f (leftOf f q)) (ldevidCertificate f (leftOf f q) ∷ [])
-        (parts-ldevidRequest f (leftOf f q) (isKind-kind f ldevidRequestKind (leftOf f q) (lakTests .1 .1 .1 .0))))
+        (parts-ldevidRequest f (leftOf f q) (isKind-kind f ldevidRequestKind (leftOf f q) (issueTested .1 .1 .1 .0))))
 
     pairsWithParent : paired f (certifiedKey f (parentCertificateOf f q)) (signingKey f (attestSignatureOf f q)) ≡ true
-    unfolding issueLakTests formTests proofTests calledFor
-    pairsWithParent = lakTests .1 .1 .1 .1 .1 .1 .1 .1 .1 .1 .0
+    unfolding issueTests formTests proofTests calledFor
+    pairsWithParent = issueTested .1 .1 .1 .1 .1 .1 .1 .1 .1 .1 .0
 
     attested : Attested f s (attestSignatureOf f q)
-    unfolding issueLakTests formTests proofTests calledFor
+    unfolding issueTests formTests proofTests calledFor
     attested =
         inv .good p (attestSignatureOf f q) signature-known .attested
-        (isKind-kind f signatureKind (attestSignatureOf f q) (lakTests .1 .1 .1 .1 .1 .1 .0))
-        (isKind-kind f attestKind (message f (attestSignatureOf f q)) (lakTests .1 .1 .1 .1 .1 .1 .1 .0))
+        (isKind-kind f signatureKind (attestSignatureOf f q) (issueTested .1 .1 .1 .1 .1 .1 .0))
+        (isKind-kind f attestKind (message f (attestSignatureOf f q)) (issueTested .1 .1 .1 .1 .1 .1 .1 .0))
         (subst⁻¹ (λ (a : Attributes). has a flag.restricted ≡ true)
         (sym (pair-attributes f (certifiedKey f (parentCertificateOf f q)) (signingKey f (attestSignatureOf f q)) pairsWithParent)
-        ∙ same-attributes _ _ (lakTests .1 .1 .1 .1 .1 .1 .1 .1 .1 .1 .1 .1 .1 .0)) iak-restricted)
+        ∙ parentAttributed) (row .restricted))
 
-    lakHeld : DeviceHolds f (certifiedKey f r) (certifiedKey f (parentCertificateOf f q))
-    unfolding lakOf
-    lakHeld = record {
+    newHeld : DeviceHolds f (certifiedKey f r) (certifiedKey f (parentCertificateOf f q))
+    unfolding newKeyOf
+    newHeld = record {
       tpm = attested .tpm;
       isDevice = attested .isDevice;
-      first = subst⁻¹ (Held f (attested .tpm)) lakCertified (attested .attested);
+      first = subst⁻¹ (Held f (attested .tpm)) newCertified (attested .attested);
       second = record {
         half = signingKey f (attestSignatureOf f q);
         pairs = pairsWithParent;
@@ -388,67 +407,77 @@ module _ (f : File) (ck : Checked f) (s : State) (inv : Invariant f s) where
 
     -- past 21 the certificate in the request is a desk's, and so it is listed
     parentListing : Listing (s .ledger) (parentCertificateOf f q)
-    unfolding issueLakTests formTests proofTests calledFor requestBody
+    unfolding issueTests formTests proofTests calledFor requestBody
     parentListing =
         listed-found (s .ledger) (parentCertificateOf f q)
         (parent-listed f ck s inv p q
         (record {
-          known = lakTests .1 .0;
-          pair = isKind-kind f pairKind q (lakTests .1 .1 .0);
-          body = isKind-kind f ldevidRequestKind (leftOf f q) (lakTests .1 .1 .1 .0);
-          signed = lakTests .1 .1 .1 .1 .1 .1 .1 .1 .1 .1 .1 .0;
+          known = issueTested .1 .0;
+          pair = isKind-kind f pairKind q (issueTested .1 .1 .0);
+          body = isKind-kind f ldevidRequestKind (leftOf f q) (issueTested .1 .1 .1 .0);
+          family = family;
+          row = w .3;
+          signed = issueTested .1 .1 .1 .1 .1 .1 .1 .1 .1 .1 .1 .0;
         }))
 
-    lakGood : EntryGood f lakState (length (s .ledger)) lakEntry
-    unfolding lakState lakEntry issueLakEffect entered learnt issueLakTests formTests proofTests calledFor
-    lakGood = record {
-      family = lakFamily;
-      familyKnown = List·Memᴰ·tail (List·Memᴰ·head refl);
-      signed = record { isCertificate = w .1; desk = p; deskKey = lakKey; deskRole = lakRole };
-      keyAttributes = lakAttributed;
-      fixed = subst⁻¹ (λ (a : Attributes). has a flag.fixedTpm ≡ true) lakAttributed iak-fixed;
+    pub issue-family : OfFamily f family newEntry
+    unfolding issueTests formTests proofTests calledFor
+    issue-family = record {
+      listed = List·Memᴰ·tail (w .3);
+      signed = record { isCertificate = w .1; desk = p; deskKey = issuerKey; deskRole = issuerRole };
+      keyAttributes = newAttributed;
+      parentSigned = issueTested .1 .1 .1 .1 .1 .1 .1 .1 .1 .1 .1 .0;
+      parentAttributes = parentAttributed;
+    }
+
+    newGood : EntryGood f issuedState (length (s .ledger)) newEntry
+    unfolding issue-family issuedState issueEffect entered learnt issueTests formTests proofTests calledFor
+    newGood = record {
+      family = family;
+      ofFamily = issue-family;
+      fixed = subst⁻¹ (λ (a : Attributes). has a flag.fixedTpm ≡ true) newAttributed (row .fixed);
       known = learn-own f p r (s .knows);
       least = omega arith;
-      most = leb-true _ depthLimit (lakTests .1 .1 .1 .1 .1 .1 .1 .1 .1 .1 .1 .1 .1 .1 .1 .1 .1 .1 .0);
+      most = leb-true _ depthLimit (issueTested .1 .1 .1 .1 .1 .1 .1 .1 .1 .1 .1 .1 .1 .1 .1 .1 .1 .1 .0);
       earlier =
           inr (
             parentListing .place,
             parentListing .entry,
             at-below (s .ledger) (parentListing .place) (parentListing .entry) (parentListing .here),
-            at-kept (s .ledger) (lakEntry ∷ []) (parentListing .place) (parentListing .entry) (parentListing .here),
+            at-kept (s .ledger) (newEntry ∷ []) (parentListing .place) (parentListing .entry) (parentListing .here),
             parentListing .same,
             (let d = parentListing .depth in omega arith),
-            lakSubject,
+            newSubject,
           );
-      held = lakHeld;
+      held = newHeld;
     }
 
-    lakGained : Gained f s lakState
-    unfolding lakState lakEntry issueLakEffect entered learnt issueLakTests formTests proofTests calledFor
-    lakGained = record {
-      entry = lakEntry;
+    newGained : Gained f s issuedState
+    unfolding issuedState issueEffect entered learnt issueTests formTests proofTests calledFor
+    newGained = record {
+      entry = newEntry;
       appended = refl;
-      new = λ h. not-both (listed (s .ledger) r) (lakTests .1 .1 .1 .1 .1 .1 .1 .1 .1 .1 .1 .1 .1 .1 .1 .1 .1 .0) h;
-      entryGood = lakGood;
+      new = λ h. not-both (listed (s .ledger) r) (issueTested .1 .1 .1 .1 .1 .1 .1 .1 .1 .1 .1 .1 .1 .1 .1 .1 .1 .0) h;
+      entryGood = newGood;
     }
 
-    pub issueLak-step : Step f s (effectOf f s (issueLak p q r))
-    unfolding effectOf lakState lakEntry issueLakEffect entered learnt
-    issueLak-step = record {
+    pub issue-step : Step f s (effectOf f s (issue family p q r))
+    unfolding effectOf issuedState issueEffect entered learnt
+    issue-step = record {
       learner = p;
       lesson = r;
       declared = w .0;
       learnt = refl;
       fresh =
-          certificate-fresh f ck s inv lakState p r (w .1) (desk-no-maker p r ownerDesk lakKey lakRole (omega arith))
-          (λ m g d. listed-last (s .ledger) lakEntry);
+          certificate-fresh f ck s inv issuedState p r (w .1) (desk-no-maker p r (family .desk) issuerKey issuerRole (row .desk))
+          (λ m g d. listed-last (s .ledger) newEntry);
       tableOnly = λ x k h. inl h;
       grows = record {
         knows = λ x u h. learn-kept f p r (s .knows) x u h;
         table = λ x k h. h;
         used = λ n k h. h;
-        listed = λ x h. listed-kept (s .ledger) (lakEntry ∷ []) x h;
+        listed = λ x h. listed-kept (s .ledger) (newEntry ∷ []) x h;
       };
       opened = λ c k h. inl (h, refl, refl);
-      ledger = inr lakGained;
+      ledger = inr newGained;
     }

@@ -12,21 +12,23 @@ use native.Mathlib.Decide.{ℕ-discrete}
 use lib.ListN.{getElem?}
 use borrow.Author.Tests.{eqb-true}
 use Rattle.rules.specs.declared.Entry.{Entry}
+use Rattle.rules.specs.declared.Family.{Family}
+use Rattle.rules.specs.Families.{iakFamily}
 use Rattle.rules.specs.Term.{attestKind, credentialKind, numberKind}
-use Rattle.rules.specs.File.{File, Command, hash, sign, certify, makeCredential, activateCredential, makeIdevidRequest, makeLdevidRequest, makePair, checkHash, checkSignature, checkCertificate, checkAttributes, send, selfIssue, challenge, issueIak, issueLak, kind, isKind, hashedTerm, credentialNumber}
+use Rattle.rules.specs.File.{File, Command, hash, sign, certify, makeCredential, activateCredential, makeIdevidRequest, makeLdevidRequest, makePair, checkHash, checkSignature, checkCertificate, checkAttributes, send, selfIssue, challenge, issueIak, issue, kind, isKind, hashedTerm, credentialNumber}
 use Rattle.rules.specs.Load.{commandsOf}
 use Rattle.rules.specs.Learning.{Knowledge, learn}
 use Rattle.rules.specs.State.{State, start, numberUsed, credentialOpen, credentialClosed, put, learnt, ticketed, opening, closing, entered}
 use Rattle.rules.specs.Device.{hashEffect}
-use Rattle.rules.specs.Desk.{challengeEffect, issueIakTests, calledFor, issueIakEffect, issueLakEffect, ekCertificateOf, parentCertificateOf}
+use Rattle.rules.specs.Desk.{challengeEffect, issueIakTests, calledFor, issueIakEffect, issueEffect, ekCertificateOf, parentCertificateOf}
 use Rattle.rules.specs.Run.{effectOf, outcome, reached}
-use Rattle.theorems.specs.Residency.{Inside, Teaches, Accepted, Known, bySetup, byCommand, EntryAt, Parent, ofIak, ofLak}
+use Rattle.theorems.specs.Residency.{Inside, Teaches, Accepted, Known, bySetup, byCommand, EntryAt, Parent, ofIak, onRequest, OfFamily}
 use Rattle.theorems.proofs.Learning.{learn-kept, learn-only, learn-inside, taught-own, taught-closed, taught-only, inside-known}
 use Rattle.theorems.proofs.Loading.{Checked, Wellformed}
 use Rattle.theorems.proofs.Running.{after-accepted, after-refused, reached-none, reached-next, reached-end, command-member}
 use Rattle.theorems.proofs.Ledgers.{at-appended}
 use Rattle.theorems.proofs.Invariant.{Invariant}
-use Rattle.theorems.proofs.DeskSteps.{put-same, put-other, issueIak-passed}
+use Rattle.theorems.proofs.DeskSteps.{put-same, put-other, issueIak-passed, issueIak-family, issue-family}
 use Rattle.theorems.proofs.Reaching.{reached-invariant}
 
 -- what a command that teaches does to knowledge
@@ -48,7 +50,7 @@ hash-knows f s p r true = refl
 hash-knows f s p r false = refl
 
 lesson : (f : File) (s : State) (c : Command) → Lesson f s c ⊎ Silent f s c
-unfolding effectOf hashEffect learnt challengeEffect opening issueIakEffect issueLakEffect entered closing
+unfolding effectOf hashEffect learnt challengeEffect opening issueIakEffect issueEffect entered closing
 lesson f s (hash p r) = inl (record { learner = p; term = r; teaches = (refl, refl); knows = hash-knows f s p r (isKind f attestKind (hashedTerm f r)); only = λ q t h. h })
 lesson f s (sign p r) = inl (record { learner = p; term = r; teaches = (refl, refl); knows = refl; only = λ q t h. h })
 lesson f s (certify p r) = inl (record { learner = p; term = r; teaches = (refl, refl); knows = refl; only = λ q t h. h })
@@ -65,7 +67,7 @@ lesson f s (send p r t) = inl (record { learner = r; term = t; teaches = (refl, 
 lesson f s (selfIssue p r) = inl (record { learner = p; term = r; teaches = (refl, refl); knows = refl; only = λ q t h. h })
 lesson f s (challenge p q r) = inl (record { learner = p; term = r; teaches = (refl, refl); knows = refl; only = λ q t h. h })
 lesson f s (issueIak p q c r) = inl (record { learner = p; term = r; teaches = (refl, refl); knows = refl; only = λ q t h. h })
-lesson f s (issueLak p q r) = inl (record { learner = p; term = r; teaches = (refl, refl); knows = refl; only = λ q t h. h })
+lesson f s (issue family p q r) = inl (record { learner = p; term = r; teaches = (refl, refl); knows = refl; only = λ q t h. h })
 
 -- what becomes of the state at the command of ordinal n
 pub data Next (f : File) (n : ℕ) : Type 0 where
@@ -91,9 +93,9 @@ known-later : {f : File} {n p u : ℕ} → Known f n p u → Known f (suc n) p u
 known-later (bySetup t m i) = bySetup t m i
 known-later (byCommand i c t l a h x) = byCommand i c t (omega arith) a h x
 
-parent-later : {f : File} {n t g : ℕ} → Parent f n t g → Parent f (suc n) t g
-parent-later (ofIak i j p returning c q l a k b e) = ofIak i j p returning c q (omega arith) a k b e
-parent-later (ofLak i p q l a e) = ofLak i p q (omega arith) a e
+parent-later : {f : File} {n : ℕ} {family : Family} {t g : ℕ} → Parent f n family t g → Parent f (suc n) family t g
+parent-later (ofIak i j p returning c q l a k b h e) = ofIak i j p returning c q (omega arith) a k b h e
+parent-later (onRequest i p q l a e) = onRequest i p q (omega arith) a e
 
 -- the states' knowledge, at a path between states
 at-state : (p u : ℕ) {s s′ : State} → s ≡ s′ → s .knows p u ≡ true → s′ .knows p u ≡ true
@@ -199,7 +201,7 @@ module _ (f : File) (ck : Checked f) where
   close-marks s p q c r x e h (no y) = inl (sym (put-other (s .mark) c credentialClosed x y) ∙ h, refl, refl)
 
   marks : (s : State) (c : Command) → Wellformed f c → (x : ℕ) → kind f x ≡ credentialKind → effectOf f s c .mark x ≡ credentialOpen → Marks s (effectOf f s c) c x
-  unfolding effectOf hashEffect learnt challengeEffect issueIakEffect issueLakEffect entered
+  unfolding effectOf hashEffect learnt challengeEffect issueIakEffect issueEffect entered
   marks s (hash p r) w x k h = hash-marks s p r x (isKind f attestKind (hashedTerm f r)) h
   marks s (sign p r) w x k h = inl (h, refl, refl)
   marks s (certify p r) w x k h = inl (h, refl, refl)
@@ -216,7 +218,7 @@ module _ (f : File) (ck : Checked f) where
   marks s (selfIssue p r) w x k h = inl (h, refl, refl)
   marks s (challenge p q r) w x k h = challenge-marks s p q r x (w .1) k h (ℕ-discrete x r)
   marks s (issueIak p q c r) w x k h = close-marks s p q c r x (record { certificate = r; parent = ekCertificateOf f (s .request c); depth = 1 }) h (ℕ-discrete x c)
-  marks s (issueLak p q r) w x k h = inl (h, refl, refl)
+  marks s (issue family p q r) w x k h = inl (h, refl, refl)
 
   pub opened-by : (n c : ℕ) → kind f c ≡ credentialKind → reached f n .mark c ≡ credentialOpen → OpenedBy n c
   unfolding start
@@ -246,12 +248,12 @@ module _ (f : File) (ck : Checked f) where
           (marks (reached f n) x (ck .wellformed x (command-member f n x (a .here))) c k (sym (ap (λ (s : State). s .mark c) e) ∙ h)))
 
   -- an entry that a command makes
-  pub data Makes (s : State) (c : Command) (e : Entry) : Type 0 where
-    iak : (p q x : ℕ) → c ≡ issueIak p q x (e .certificate) → kind f x ≡ credentialKind → s .mark x ≡ credentialOpen → s .desk x ≡ p → e .parent ≡ ekCertificateOf f (s .request x) → Makes s c e
-    lak : (p q : ℕ) → c ≡ issueLak p q (e .certificate) → e .parent ≡ parentCertificateOf f q → Makes s c e
+  pub data Makes (s : State) (c : Command) (family : Family) (e : Entry) : Type 0 where
+    iak : (p q x : ℕ) → family ≡ iakFamily → c ≡ issueIak p q x (e .certificate) → kind f x ≡ credentialKind → s .mark x ≡ credentialOpen → s .desk x ≡ p → e .parent ≡ ekCertificateOf f (s .request x) → Makes s c family e
+    request : (p q : ℕ) → c ≡ issue family p q (e .certificate) → e .parent ≡ parentCertificateOf f q → Makes s c family e
 
   abbrev Entries : State → State → Command → Type 0
-  Entries s s′ c = (s′ .ledger ≡ s .ledger) ⊎ ((e : Entry) × (s′ .ledger ≡ s .ledger ++ (e ∷ [])) × Makes s c e)
+  Entries s s′ c = (s′ .ledger ≡ s .ledger) ⊎ ((e : Entry) × (s′ .ledger ≡ s .ledger ++ (e ∷ [])) × ((family : Family) × OfFamily f family e × Makes s c family e))
 
   hash-ledger : (s : State) (p r : ℕ) (b : Bool) → cond b (learnt f s p r) (ticketed (learnt f s p r) p r) .ledger ≡ s .ledger
   unfolding learnt ticketed
@@ -265,7 +267,7 @@ module _ (f : File) (ck : Checked f) where
       (eqb-true (s .mark c) credentialOpen (t .1 .0), eqb-true (s .desk c) p (t .1 .1 .0))
 
   entries : (s : State) → Invariant f s → (c : Command) → Wellformed f c → outcome f s c ≡ 0 → Entries s (effectOf f s c) c
-  unfolding effectOf hashEffect learnt challengeEffect opening issueIakEffect issueLakEffect entered closing
+  unfolding effectOf hashEffect learnt challengeEffect opening issueIakEffect issueEffect entered closing
   entries s inv (hash p r) w z = inl (hash-ledger s p r (isKind f attestKind (hashedTerm f r)))
   entries s inv (sign p r) w z = inl refl
   entries s inv (certify p r) w z = inl refl
@@ -281,37 +283,45 @@ module _ (f : File) (ck : Checked f) where
   entries s inv (send p q t) w z = inl refl
   entries s inv (selfIssue p r) w z = inl refl
   entries s inv (challenge p q r) w z = inl refl
-  entries s inv (issueIak p q c r) w z = let o = iak-open s p q c r inv z in inr (_, refl, iak p q c refl (w .2) (o .0) (o .1) refl)
-  entries s inv (issueLak p q r) w z = inr (_, refl, lak p q refl refl)
+  entries s inv (issueIak p q c r) w z = let o = iak-open s p q c r inv z in inr (_, refl, (iakFamily, issueIak-family f ck s inv p q c r w z, iak p q c refl refl (w .2) (o .0) (o .1) refl))
+  entries s inv (issue family p q r) w z = inr (_, refl, (family, issue-family f ck s inv family p q r w z, request p q refl refl))
 
-  made-parent : (n : ℕ) (c : Command) (e : Entry) → Accepted f n c → Makes (reached f n) c e → Parent f (suc n) (e .certificate) (e .parent)
-  made-parent n c e a (iak p q x h k m d g) =
+  made-parent : (n : ℕ) (c : Command) (family : Family) (e : Entry) → Accepted f n c → Makes (reached f n) c family e → Parent f (suc n) family (e .certificate) (e .parent)
+  made-parent n c family e a (iak p q x i h k m d g) =
       let o = opened-by n x k m in
       ofIak n (o .ordinal) p q x (reached f n .request x) (le-refl (suc n)) (subst (Accepted f n) h a) (o .before)
-      (subst (λ (y : ℕ). Accepted f (o .ordinal) (challenge y (reached f n .request x) x)) d (o .by)) g
-  made-parent n c e a (lak p q h g) = ofLak n p q (le-refl (suc n)) (subst (Accepted f n) h a) g
+      (subst (λ (y : ℕ). Accepted f (o .ordinal) (challenge y (reached f n .request x) x)) d (o .by)) i g
+  made-parent n c family e a (request p q h g) = onRequest n p q (le-refl (suc n)) (subst (Accepted f n) h a) g
 
-  -- the entry of a certificate names its parent
-  pub entry-parent : (n i : ℕ) (e : Entry) → EntryAt f n i e → Parent f n (e .certificate) (e .parent)
+  -- an entry is of a family, and names the parent that a command of the family gave it
+  pub record Issued (n : ℕ) (e : Entry) : Type 0 where
+    pub family : Family
+    pub ofFamily : OfFamily f family e
+    pub parent : Parent f n family (e .certificate) (e .parent)
+
+  issued-later : {n : ℕ} {e : Entry} → Issued n e → Issued (suc n) e
+  issued-later x = record { family = x .family; ofFamily = x .ofFamily; parent = parent-later (x .parent) }
+
+  pub entry-issued : (n i : ℕ) (e : Entry) → EntryAt f n i e → Issued n e
   unfolding start
-  entry-parent zero i e h =
+  entry-issued zero i e h =
       absurd (empty (subst (λ (s : State). getElem? (s .ledger) i ≡ some e) (reached-none f) h))
     where
       empty : getElem? {A = Entry} [] i ≡ some e → ⊥
       empty x = let z : _≡_ {A = ℕ} 0 1 = cc in omega arith
-  entry-parent (suc n) i e h = go (next f n) (entry-parent n i e)
+  entry-issued (suc n) i e h = go (next f n) (entry-issued n i e)
     where
-      go : Next f n → (EntryAt f n i e → Parent f n (e .certificate) (e .parent)) → Parent f (suc n) (e .certificate) (e .parent)
-      go (over q) before = parent-later (before (subst (λ (s : State). getElem? (s .ledger) i ≡ some e) q h))
+      go : Next f n → (EntryAt f n i e → Issued n e) → Issued (suc n) e
+      go (over q) before = issued-later (before (subst (λ (s : State). getElem? (s .ledger) i ≡ some e) q h))
       go (taken c a q) before =
           made (entries (reached f n) (reached-invariant f ck n) c (ck .wellformed c (command-member f n c (a .here))) (a .zeroOutcome))
         where
           now : getElem? (effectOf f (reached f n) c .ledger) i ≡ some e
           now = subst (λ (s : State). getElem? (s .ledger) i ≡ some e) q h
 
-          made : Entries (reached f n) (effectOf f (reached f n) c) c → Parent f (suc n) (e .certificate) (e .parent)
-          made (inl x) = parent-later (before (subst (λ (l : List Entry). getElem? l i ≡ some e) x now))
+          made : Entries (reached f n) (effectOf f (reached f n) c) c → Issued (suc n) e
+          made (inl x) = issued-later (before (subst (λ (l : List Entry). getElem? l i ≡ some e) x now))
           made (inr x) =
-              ⊎-elim (λ k. parent-later (before k))
-              (λ k. subst⁻¹ (λ (y : Entry). Parent f (suc n) (y .certificate) (y .parent)) (k .1) (made-parent n c (x .0) a (x .2)))
+              ⊎-elim (λ k. issued-later (before k))
+              (λ k. subst⁻¹ (Issued (suc n)) (k .1) (record { family = x .2 .0; ofFamily = x .2 .1; parent = made-parent n c (x .2 .0) (x .0) a (x .2 .2) }))
               (at-appended (reached f n .ledger) (x .0) i e (subst (λ (l : List Entry). getElem? l i ≡ some e) (x .1) now))

@@ -9,15 +9,16 @@ use Prim.Native.Nat.{ℕ, suc, _<_, _≤_}
 use native.Mathlib.Omega.{arith}
 use lib.ListN.{length, getElem?}
 use Rattle.rules.specs.declared.Entry.{Entry}
+use Rattle.rules.specs.declared.Family.{Family}
 use Rattle.rules.specs.declared.Subject.the-variants.{Device}
 use Rattle.rules.specs.Limits.{device, tpmMaker, oemDesk, depthLimit}
 use Rattle.rules.specs.Attributes.{has, restricted, fixedTpm, iakAttributes, ekAttributes}
 use Rattle.rules.specs.Term.{privateKeyKind, hashKind, signatureKind, attestKind, credentialKind, numberKind, certificateKind, isDeviceSubject}
-use Rattle.rules.specs.File.{File, holds, signsWith, roleOf, kind, subject, attributes, message, signingKey, certifiedKey, signer, hashedTerm, attestedKey, credentialTerm, credentialNumber, credentialKey}
+use Rattle.rules.specs.File.{File, holds, signsWith, roleOf, kind, subject, attributes, message, signingKey, certifiedKey, signer, hashedTerm, attestedKey, credentialTerm, credentialNumber, credentialKey, signsForRole}
 use Rattle.rules.specs.Learning.{Knowledge, learn}
 use Rattle.rules.specs.State.{State, numberUsed, credentialOpen, listed}
 use Rattle.rules.specs.Desk.{requestBody, iakOf, ekOf, ekCertificateOf}
-use Rattle.theorems.specs.Residency.{Inside, Held, Family, families, SignedBy, Endorsement}
+use Rattle.theorems.specs.Residency.{Inside, Held, Endorsement, OfFamily}
 use Rattle.theorems.proofs.Learning.{Closed, learn-only, learn-closed}
 use Rattle.theorems.proofs.Loading.{Checked}
 use Rattle.theorems.proofs.Ledgers.{at-kept, at-appended, at-listed}
@@ -62,6 +63,7 @@ pub record Open (f : File) (s : State) (c d q : ℕ) : Type 0 where
   pub iak : attributes f (iakOf f q) ≡ iakAttributes
   pub ek : attributes f (ekOf f q) ≡ ekAttributes
   pub endorsement : Endorsement f (ekCertificateOf f q)
+  pub maker : signsForRole f tpmMaker (signer f (ekCertificateOf f q)) ≡ true
   pub name : hashedTerm f (credentialTerm f c) ≡ iakOf f q
   pub key : credentialKey f c ≡ ekOf f q
   pub challenge : DeviceHolds f (iakOf f q) (ekOf f q) ⊎ Secret f s c d
@@ -75,11 +77,9 @@ Earlier f ledger i e =
 -- what holds of an entry of the ledger
 pub record EntryGood (f : File) (s : State) (i : ℕ) (e : Entry) : Type 0 where
   pub family : Family
-  pub familyKnown : List·Memᴰ family families
-  pub signed : SignedBy f family (e .certificate)
-  pub keyAttributes : attributes f (certifiedKey f (e .certificate)) ≡ family .keyAttributes
+  pub ofFamily : OfFamily f family e
   pub fixed : has (attributes f (certifiedKey f (e .certificate))) fixedTpm ≡ true
-  pub known : s .knows (signed .desk) (e .certificate) ≡ true
+  pub known : s .knows (ofFamily .signed .desk) (e .certificate) ≡ true
   pub least : 1 ≤ e .depth
   pub most : e .depth ≤ depthLimit
   pub earlier : Earlier f (s .ledger) i e
@@ -222,6 +222,7 @@ module _ (f : File) (ck : Checked f) (s s′ : State) (inv : Invariant f s) (st 
     iak = o .iak;
     ek = o .ek;
     endorsement = o .endorsement;
+    maker = o .maker;
     name = o .name;
     key = o .key;
     challenge = ⊎-elim inl (challenge-next c d q ic o) (o .challenge);
@@ -241,11 +242,9 @@ module _ (f : File) (ck : Checked f) (s s′ : State) (inv : Invariant f s) (st 
   entry-kept : (i : ℕ) (e : Entry) → EntryGood f s i e → EntryGood f s′ i e
   entry-kept i e g = record {
     family = g .family;
-    familyKnown = g .familyKnown;
-    signed = g .signed;
-    keyAttributes = g .keyAttributes;
+    ofFamily = g .ofFamily;
     fixed = g .fixed;
-    known = st .grows .knows (g .signed .desk) (e .certificate) (g .known);
+    known = st .grows .knows (g .ofFamily .signed .desk) (e .certificate) (g .known);
     least = g .least;
     most = g .most;
     earlier = earlier-kept i e (g .earlier);

@@ -119,7 +119,7 @@ module _ (bytes : List ℕ) (f : File) (loads : load bytes ≡ loaded f) where
     here i h = at-within (s .ledger) _ i h
 
     below : (i : ℕ) → i < length (s .ledger) → at i .certificate < length (f .terms)
-    below i h = declared f (at i .certificate) (λ k. let z : hashKind ≡ certificateKind = sym k ∙ inv .entries i (at i) (here i h) .signed .isCertificate in omega arith)
+    below i h = declared f (at i .certificate) (λ k. let z : hashKind ≡ certificateKind = sym k ∙ inv .entries i (at i) (here i h) .ofFamily .signed .isCertificate in omega arith)
 
     once : (i j : ℕ) → i < length (s .ledger) → j < length (s .ledger) → at i .certificate ≡ at j .certificate → i ≡ j
     once i j h k e = inv .once i j (at i) (at j) (here i h) (here j k) e

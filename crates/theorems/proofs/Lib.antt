@@ -3,6 +3,7 @@ pub mod Learning
 pub mod LoadingTerms
 pub mod LoadingFields
 pub mod LoadingSetup
+pub mod FamilyRows
 pub mod Loading
 pub mod Terms
 pub mod Passing
@@ -18,6 +19,7 @@ pub mod Reaching
 pub mod Pigeonhole
 pub mod History
 pub mod Demand3
+pub mod FamilyLaws
 pub mod Laws
 pub mod Refusal22
 pub mod Pieces

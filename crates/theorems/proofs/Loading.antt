@@ -4,7 +4,7 @@ use mathlib.Core.Path.{_≡_, refl, sym, subst, _∙_}
 use mathlib.Core.Bool.{Bool, true, false, cond, _&&_}
 use mathlib.Core.Logic.{_⊎_, inl, inr}
 use mathlib.Core.List.{List, [], _∷_, List·Memᴰ, List·Memᴰ·cases-cons}
-use Prim.Native.Nat.{ℕ, zero, suc, _+_, _<_, _≤_}
+use Prim.Native.Nat.{ℕ, zero, suc, _+_, _-_, _<_, _≤_}
 use native.Mathlib.Omega.{arith}
 use lib.Dec.{eqb, ltb, leb}
 use borrow.Author.Tests.{ltb-true, leb-true, eqb-true, eqb-false, not-true}
@@ -12,11 +12,13 @@ use lib.ListN.{getD, length, length-append, take, drop}
 use Rattle.rules.specs.declared.Term.{Term}
 use Rattle.rules.specs.Limits.{fileLimit, partyLimit, termLimit, device, tpmMaker}
 use Rattle.rules.specs.Attributes.{fixedTpm, has, deskKeyAttributes}
+use Rattle.rules.specs.Families.{requestFamilies}
 use Rattle.rules.specs.Term.{publicKeyKind, privateKeyKind, hashKind, signatureKind, attestKind, credentialKind, numberKind, idevidRequestKind, ldevidRequestKind, certificateKind, pairKind, fieldsIn, isTpmSubject, anyAlike}
-use Rattle.rules.specs.Record.{fieldsOf, sectionOf, partySection, termSection, setupSection, commandSection, bodyLength, Piece, whole, fault, cut, pieces}
-use Rattle.rules.specs.File.{File, Setup, learns, holds, signsWith, Command, hash, sign, certify, makeCredential, activateCredential, makeIdevidRequest, makeLdevidRequest, makePair, checkHash, checkSignature, checkCertificate, checkAttributes, send, selfIssue, challenge, issueIak, issueLak, roleOf, term, kind, parts, names, field, message, signingKey, subject, attributes, signer, credentialNumber, attestedKey, certifiedKey, idevidCertificate, ldevidCertificate, signsForRole}
+use Rattle.rules.specs.Record.{fieldsOf, lastKind, kindCount, sectionOf, partySection, termSection, setupSection, commandSection, bodyLength, Piece, whole, fault, cut, pieces}
+use Rattle.rules.specs.File.{File, Setup, learns, holds, signsWith, Command, hash, sign, certify, makeCredential, activateCredential, makeIdevidRequest, makeLdevidRequest, makePair, checkHash, checkSignature, checkCertificate, checkAttributes, send, selfIssue, challenge, issueIak, issue, roleOf, term, kind, parts, names, field, message, signingKey, subject, attributes, signer, credentialNumber, attestedKey, certifiedKey, idevidCertificate, ldevidCertificate, signsForRole}
 use Rattle.rules.specs.Load.{termAt, setupAt, commandAt, sectionFault, countFault, fieldsFault, alikeFault, setupFault, allowedFault, recordFault, withParty, withTerm, withSetup, withCommand, enter, Load, loaded, refused, settle, step, feed, emptyFile, load}
 use Rattle.theorems.proofs.Terms.{declared}
+use Rattle.theorems.proofs.FamilyRows.{row-of-kind}
 use Rattle.theorems.proofs.LoadingTerms.{Named, Names, AllName, Distinct, all-name, distinct-more, named-lower, parts-lower}
 use Rattle.theorems.proofs.LoadingFields.{first-zero, refuse-zero, SetupFields, AllPassed, passed, Each, each, fourth, within, term-names, setup-passed}
 use Rattle.theorems.proofs.LoadingSetup.{Setups, no-mem, none-yet, one-more, setups-stay}
@@ -39,7 +41,7 @@ Wellformed f (send p q t) = (p < length (f .roles)) × (q < length (f .roles)) �
 Wellformed f (selfIssue p r) = (p < length (f .roles)) × (kind f r ≡ certificateKind)
 Wellformed f (challenge p q r) = (p < length (f .roles)) × (kind f r ≡ credentialKind) × (q < length (f .terms))
 Wellformed f (issueIak p q c r) = (p < length (f .roles)) × (q < length (f .roles)) × (kind f c ≡ credentialKind) × (kind f r ≡ certificateKind)
-Wellformed f (issueLak p q r) = (p < length (f .roles)) × (kind f r ≡ certificateKind) × (q < length (f .terms))
+Wellformed f (issue family p q r) = (p < length (f .roles)) × (kind f r ≡ certificateKind) × (q < length (f .terms)) × List·Memᴰ family requestFamilies
 
 -- what holds of every file that loads
 pub record Checked (f : File) : Type 0 where
@@ -75,15 +77,15 @@ abbrev CommandPassed : File → List ℕ → ℕ → Type 0
 CommandPassed f bs k = AllPassed f (fieldsOf k) 0 bs → Wellformed f (commandAt k bs)
 
 module _ (f : File) (bs : List ℕ) where
-  each-command : Each (CommandPassed f bs) 17 0x30
+  each-command : Each (CommandPassed f bs) (kindCount - 0x30) 0x30
   unfolding fieldsOf sectionOf commandAt
-  each-command = ((λ h. (h .0, h .1 .0 .1, h .1 .0 .0)), ((λ h. (h .0, h .1 .0 .1)), ((λ h. (h .0, h .1 .0 .0, h .1 .0 .1)), ((λ h. (h .0, h .1 .0 .1)), ((λ h. (h .0, h .1 .0 .1)), ((λ h. (h .0, h .1 .0 .1)), ((λ h. (h .0, h .1 .0 .1)), ((λ h. (h .0, h .1 .0 .1)), ((λ h. (h .0, h .1 .0 .1, h .1 .0 .0, h .1 .1 .0)), ((λ h. (h .0, h .1 .0 .1, h .1 .1 .0 .1)), ((λ h. (h .0, h .1 .0 .1, h .1 .1 .0 .1)), ((λ h. (h .0, h .1 .0 .1)), ((λ h. (h .0, h .1 .0, h .1 .1 .0)), ((λ h. (h .0, h .1 .0 .1)), ((λ h. (h .0, h .1 .1 .0 .1, h .1 .0)), ((λ h. (h .0, h .1 .0, h .1 .1 .0 .1, h .1 .1 .1 .0 .1)), ((λ h. (h .0, h .1 .1 .0 .1, h .1 .0)), tt)))))))))))))))))
+  each-command = ((λ h. (h .0, h .1 .0 .1, h .1 .0 .0)), ((λ h. (h .0, h .1 .0 .1)), ((λ h. (h .0, h .1 .0 .0, h .1 .0 .1)), ((λ h. (h .0, h .1 .0 .1)), ((λ h. (h .0, h .1 .0 .1)), ((λ h. (h .0, h .1 .0 .1)), ((λ h. (h .0, h .1 .0 .1)), ((λ h. (h .0, h .1 .0 .1)), ((λ h. (h .0, h .1 .0 .1, h .1 .0 .0, h .1 .1 .0)), ((λ h. (h .0, h .1 .0 .1, h .1 .1 .0 .1)), ((λ h. (h .0, h .1 .0 .1, h .1 .1 .0 .1)), ((λ h. (h .0, h .1 .0 .1)), ((λ h. (h .0, h .1 .0, h .1 .1 .0)), ((λ h. (h .0, h .1 .0 .1)), ((λ h. (h .0, h .1 .1 .0 .1, h .1 .0)), ((λ h. (h .0, h .1 .0, h .1 .1 .0 .1, h .1 .1 .1 .0 .1)), ((λ h. (h .0, h .1 .1 .0 .1, h .1 .0, row-of-kind _)), ((λ h. (h .0, h .1 .1 .0 .1, h .1 .0, row-of-kind _)), ((λ h. (h .0, h .1 .1 .0 .1, h .1 .0, row-of-kind _)), tt)))))))))))))))))))
 
   command-passed : (k : ℕ) → sectionOf k ≡ commandSection → fieldsFault f (fieldsOf k) 0 bs ≡ 0 → Wellformed f (commandAt k bs)
   unfolding sectionOf
   command-passed k s e =
-      let r = within 0x30 k 0x40 (fourth (eqb k 1) (leb 0x10 k && leb k 0x1A) (leb 0x20 k && leb k 0x22) _ s) in
-      each (CommandPassed f bs) 17 0x30 each-command k (r .0) (omega arith) (passed f bs (fieldsOf k) 0 e)
+      let r = within 0x30 k lastKind (fourth (eqb k 1) (leb 0x10 k && leb k 0x1A) (leb 0x20 k && leb k 0x22) _ s) in
+      each (CommandPassed f bs) (kindCount - 0x30) 0x30 each-command k (r .0) (omega arith) (passed f bs (fieldsOf k) 0 e)
 
 -- The invariant: what holds after every record. A section that has not begun is empty.
 pub record Good (f : File) : Type 0 where
@@ -115,7 +117,7 @@ wellformed-stays f section c (send p q t) w = w
 wellformed-stays f section c (selfIssue p r) w = w
 wellformed-stays f section c (challenge p q r) w = w
 wellformed-stays f section c (issueIak p q d r) w = w
-wellformed-stays f section c (issueLak p q r) w = w
+wellformed-stays f section c (issue family p q r) w = w
 
 module _ (f : File) (g : Good f) where
   party-good : (role : ℕ) → f .section ≤ partySection → length (f .roles) < partyLimit → Good (withParty f role)
@@ -196,7 +198,7 @@ last-section false false false false h x y z = absurd (omega arith)
 
 command-section : (k : ℕ) → 0 < sectionOf k → (sectionOf k ≡ partySection → ⊥) → (sectionOf k ≡ termSection → ⊥) → (sectionOf k ≡ setupSection → ⊥) → sectionOf k ≡ commandSection
 unfolding sectionOf
-command-section k h x y z = last-section (eqb k 1) (leb 0x10 k && leb k 0x1A) (leb 0x20 k && leb k 0x22) (leb 0x30 k && leb k 0x40) h x y z
+command-section k h x y z = last-section (eqb k 1) (leb 0x10 k && leb k 0x1A) (leb 0x20 k && leb k 0x22) (leb 0x30 k && leb k lastKind) h x y z
 
 module _ (f : File) (place k : ℕ) (bs : List ℕ) (g : Good f) (known : 0 < sectionOf k) (none : recordFault f k bs ≡ 0) where
   in-order : f .section ≤ sectionOf k

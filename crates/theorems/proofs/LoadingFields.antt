@@ -14,7 +14,7 @@ use Rattle.rules.specs.declared.Term.the-variants.{IdevidRequest, Certificate}
 use Rattle.rules.specs.Term.{privateKeyKind, signatureKind, attestKind, idevidRequestKind, certificateKind, kindOf, fieldsIn, subjectFields}
 use Rattle.rules.specs.declared.Field.{Field}
 use Rattle.rules.specs.declared.Field.the-variants.{RoleField, IdentifierField, AttributesField, SubjectField, PartyField, AnyTerm, TermOf, SignedAttest}
-use Rattle.rules.specs.Record.{width, fieldsOf, sectionOf, termSection, setupSection, word}
+use Rattle.rules.specs.Record.{lastKind, width, fieldsOf, sectionOf, termSection, setupSection, word}
 use Rattle.rules.specs.File.{File, Setup, learns, holds, signsWith, kind, isKind, term, message}
 use Rattle.rules.specs.Load.{first, refuseUnless, declaredFault, fieldFault, fieldsFault, subjectAt, termAt, setupAt}
 use Rattle.theorems.proofs.LoadingTerms.{Names}
@@ -175,11 +175,11 @@ module _ (f : File) (bs : List ℕ) where
   pub term-names : (k : ℕ) → sectionOf k ≡ termSection → fieldsFault f (fieldsOf k) 0 bs ≡ 0 → Names (f .terms) (length (f .terms)) (termAt k bs)
   unfolding sectionOf
   term-names k s e =
-      let r = within 0x10 k 0x1A (second (eqb k 1) _ (leb 0x20 k && leb k 0x22) (leb 0x30 k && leb k 0x40) s) in
+      let r = within 0x10 k 0x1A (second (eqb k 1) _ (leb 0x20 k && leb k 0x22) (leb 0x30 k && leb k lastKind) s) in
       each (TermNames f bs) 11 0x10 each-term k (r .0) (omega arith) (passed f bs (fieldsOf k) 0 e)
 
   pub setup-passed : (k : ℕ) → sectionOf k ≡ setupSection → fieldsFault f (fieldsOf k) 0 bs ≡ 0 → SetupFields f (setupAt k bs)
   unfolding sectionOf
   setup-passed k s e =
-      let r = within 0x20 k 0x22 (third (eqb k 1) (leb 0x10 k && leb k 0x1A) _ (leb 0x30 k && leb k 0x40) s) in
+      let r = within 0x20 k 0x22 (third (eqb k 1) (leb 0x10 k && leb k 0x1A) _ (leb 0x30 k && leb k lastKind) s) in
       each (SetupPassed f bs) 3 0x20 each-setup k (r .0) (omega arith) (passed f bs (fieldsOf k) 0 e)

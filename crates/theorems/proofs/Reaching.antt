@@ -11,7 +11,7 @@ use native.Mathlib.Decide.{ℕ-discrete}
 use lib.ListN.{getElem?}
 use Rattle.rules.specs.Limits.{tpmMaker}
 use Rattle.rules.specs.Term.{certificateKind}
-use Rattle.rules.specs.File.{File, learns, signsWith, Command, hash, sign, certify, makeCredential, activateCredential, makeIdevidRequest, makeLdevidRequest, makePair, checkHash, checkSignature, checkCertificate, checkAttributes, send, selfIssue, challenge, issueIak, issueLak, roleOf, kind, certifiedKey, signer, signsForRole}
+use Rattle.rules.specs.File.{File, learns, signsWith, Command, hash, sign, certify, makeCredential, activateCredential, makeIdevidRequest, makeLdevidRequest, makePair, checkHash, checkSignature, checkCertificate, checkAttributes, send, selfIssue, challenge, issueIak, issue, roleOf, kind, certifiedKey, signer, signsForRole}
 use Rattle.rules.specs.Load.{commandsOf}
 use Rattle.rules.specs.State.{State, start}
 use Rattle.rules.specs.Run.{effectOf, outcome, after, reached}
@@ -23,7 +23,7 @@ use Rattle.theorems.proofs.Terms.{parts-publicKey, parts-number, parts-
 use Rattle.theorems.proofs.Running.{after-accepted, after-refused, reached-none, reached-next, reached-end, command-member}
 use Rattle.theorems.proofs.Invariant.{Good, Invariant, Step, invariant-next}
 use Rattle.theorems.proofs.DeviceSteps.{good-plain, number-good, certificate-good, signer-alone, hash-step, sign-step, certify-step, makeCredential-step, activateCredential-step, makeIdevidRequest-step, makeLdevidRequest-step, makePair-step, send-step, selfIssue-step}
-use Rattle.theorems.proofs.DeskSteps.{challenge-step, issueIak-step, issueLak-step}
+use Rattle.theorems.proofs.DeskSteps.{challenge-step, issueIak-step, issue-step}
 
 module _ (f : File) (ck : Checked f) where
   -- a certificate that a 20 gave is signed by a TPM maker
@@ -77,7 +77,7 @@ module _ (f : File) (ck : Checked f) where
     effect-step (selfIssue p r) w e = inr (selfIssue-step f ck s inv p r w e)
     effect-step (challenge p q r) w e = inr (challenge-step f ck s inv p q r w e)
     effect-step (issueIak p q c r) w e = inr (issueIak-step f ck s inv p q c r w e)
-    effect-step (issueLak p q r) w e = inr (issueLak-step f ck s inv p q r w e)
+    effect-step (issue family p q r) w e = inr (issue-step f ck s inv family p q r w e)
 
     after-step : (c : Command) → Wellformed f c → (after f s c ≡ s) ⊎ Step f s (after f s c)
     after-step c w = go (ℕ-discrete (outcome f s c) 0)

@@ -11,11 +11,13 @@ use Prim.Native.Nat.{ℕ}
 use lib.Dec.{eqb}
 use borrow.Author.Tests.{eqb-false, ne-eqb}
 use Rattle.rules.specs.Refusals.{Test, need, order, applies, firstOf, refusalOf}
+use Rattle.rules.specs.declared.Family.{Family}
+use Rattle.rules.specs.Families.{requestFamilies}
 use Rattle.rules.specs.Term.{ldevidRequestKind, pairKind}
-use Rattle.rules.specs.File.{File, Command, hash, sign, certify, makeCredential, activateCredential, makeIdevidRequest, makeLdevidRequest, makePair, checkHash, checkSignature, checkCertificate, checkAttributes, send, selfIssue, challenge, issueIak, issueLak, leftOf}
+use Rattle.rules.specs.File.{File, Command, hash, sign, certify, makeCredential, activateCredential, makeIdevidRequest, makeLdevidRequest, makePair, checkHash, checkSignature, checkCertificate, checkAttributes, send, selfIssue, challenge, issueIak, issue, leftOf}
 use Rattle.rules.specs.Load.{Load, loaded, refused, load}
 use Rattle.rules.specs.State.{State, start, listed}
-use Rattle.rules.specs.Desk.{requestBody, formTests, proofTests, parentCertificateOf, issueLakTests}
+use Rattle.rules.specs.Desk.{requestBody, formTests, proofTests, parentCertificateOf, issueTests}
 use Rattle.rules.specs.Run.{testsOf, outcome, after, run, outcomes, firstCommands, reached, outcomesOf, accepted, refusals, issued}
 use Rattle.rules.specs.Lent.{Lent, answered, runAnswer, leaves, runLeaves, found, pathAnswered, pathAnswer, pathBuffers, pathWritten, pathListed, pathLeaves}
 use Rattle.theorems.specs.Refusal22.{orderWith22, check22, testsWith22, outcomeWith22, afterWith22, runWith22, outcomesWith22, reachedWith22, outcomesOfWith22, answeredWith22, runAnswerWith22, leavesWith22, runLeavesWith22, pathAnsweredWith22, pathAnswerWith22, pathBuffersWith22, pathListedWith22, pathLeavesWith22, Never22, SameWithout22}
@@ -76,55 +78,57 @@ module _ (f : File) (ck : Checked f) (s : State) (inv : Invariant f s) where
   unfolding outcome outcomeWith22 testsWith22
   unchecked c e = rw e (unlooked (testsOf f s c) (λ z. no-22 f s c))
 
-  -- 40
-  module _ (p q r : ℕ) where
+  -- 40, 41, 42
+  module _ (family : Family) (p q r : ℕ) (row : List·Memᴰ family requestFamilies) where
     abbrev check : Test
     check = need 22 (listed (s .ledger) (parentCertificateOf f q))
 
     -- where no refusal before 22 applies, the check passes
-    check-passes : firstOf early (check ∷ issueLakTests f s p q r) ≡ 0 → listed (s .ledger) (parentCertificateOf f q) ≡ true
-    unfolding issueLakTests formTests proofTests requestBody
+    check-passes : firstOf early (check ∷ issueTests f s family p q r) ≡ 0 → listed (s .ledger) (parentCertificateOf f q) ≡ true
+    unfolding issueTests formTests proofTests requestBody
     check-passes e =
         parent-listed f ck s inv p q
         (record {
           known = clear 14 refl .1 .1 .0 refl;
           pair = isKind-kind f pairKind q (clear 19 refl .1 .1 .1 .0 refl);
           body = isKind-kind f ldevidRequestKind (leftOf f q) (clear 19 refl .1 .1 .1 .1 .0 refl);
+          family = family;
+          row = row;
           signed = clear 21 refl .1 .1 .1 .1 .1 .1 .1 .1 .1 .1 .1 .1 .0 refl;
         })
       where
-        clear : (n : ℕ) → among n early ≡ true → Clear n (check ∷ issueLakTests f s p q r)
-        clear = earlier-clear early (check ∷ issueLakTests f s p q r) 0 e
+        clear : (n : ℕ) → among n early ≡ true → Clear n (check ∷ issueTests f s family p q r)
+        clear = earlier-clear early (check ∷ issueTests f s family p q r) 0 e
 
-    checked-lak : outcomeWith22 f s (issueLak p q r) ≡ outcome f s (issueLak p q r)
+    checked-issue : outcomeWith22 f s (issue family p q r) ≡ outcome f s (issue family p q r)
     unfolding outcome outcomeWith22 testsWith22 check22 testsOf refusalOf applies
-    checked-lak =
-        unlooked (check ∷ issueLakTests f s p q r) (λ e. rw (check-passes e, no-22 f s (issueLak p q r)) refl)
-        ∙ unasked order check (issueLakTests f s p q r) refl
+    checked-issue =
+        unlooked (check ∷ issueTests f s family p q r) (λ e. rw (check-passes e, no-22 f s (issue family p q r)) refl)
+        ∙ unasked order check (issueTests f s family p q r) refl
 
-  same-outcome : (c : Command) → outcomeWith22 f s c ≡ outcome f s c
+  same-outcome : (c : Command) → Wellformed f c → outcomeWith22 f s c ≡ outcome f s c
   unfolding check22
-  same-outcome (hash p r) = unchecked (hash p r) refl
-  same-outcome (sign p r) = unchecked (sign p r) refl
-  same-outcome (certify p r) = unchecked (certify p r) refl
-  same-outcome (makeCredential p r) = unchecked (makeCredential p r) refl
-  same-outcome (activateCredential p r) = unchecked (activateCredential p r) refl
-  same-outcome (makeIdevidRequest p r) = unchecked (makeIdevidRequest p r) refl
-  same-outcome (makeLdevidRequest p r) = unchecked (makeLdevidRequest p r) refl
-  same-outcome (makePair p r) = unchecked (makePair p r) refl
-  same-outcome (checkHash p h t) = unchecked (checkHash p h t) refl
-  same-outcome (checkSignature p t k) = unchecked (checkSignature p t k) refl
-  same-outcome (checkCertificate p c k) = unchecked (checkCertificate p c k) refl
-  same-outcome (checkAttributes p k a) = unchecked (checkAttributes p k a) refl
-  same-outcome (send p q t) = unchecked (send p q t) refl
-  same-outcome (selfIssue p r) = unchecked (selfIssue p r) refl
-  same-outcome (challenge p q r) = unchecked (challenge p q r) refl
-  same-outcome (issueIak p q c r) = unchecked (issueIak p q c r) refl
-  same-outcome (issueLak p q r) = checked-lak p q r
+  same-outcome (hash p r) w = unchecked (hash p r) refl
+  same-outcome (sign p r) w = unchecked (sign p r) refl
+  same-outcome (certify p r) w = unchecked (certify p r) refl
+  same-outcome (makeCredential p r) w = unchecked (makeCredential p r) refl
+  same-outcome (activateCredential p r) w = unchecked (activateCredential p r) refl
+  same-outcome (makeIdevidRequest p r) w = unchecked (makeIdevidRequest p r) refl
+  same-outcome (makeLdevidRequest p r) w = unchecked (makeLdevidRequest p r) refl
+  same-outcome (makePair p r) w = unchecked (makePair p r) refl
+  same-outcome (checkHash p h t) w = unchecked (checkHash p h t) refl
+  same-outcome (checkSignature p t k) w = unchecked (checkSignature p t k) refl
+  same-outcome (checkCertificate p c k) w = unchecked (checkCertificate p c k) refl
+  same-outcome (checkAttributes p k a) w = unchecked (checkAttributes p k a) refl
+  same-outcome (send p q t) w = unchecked (send p q t) refl
+  same-outcome (selfIssue p r) w = unchecked (selfIssue p r) refl
+  same-outcome (challenge p q r) w = unchecked (challenge p q r) refl
+  same-outcome (issueIak p q c r) w = unchecked (issueIak p q c r) refl
+  same-outcome (issue family p q r) w = checked-issue family p q r (w .3)
 
-  same-after : (c : Command) → afterWith22 f s c ≡ after f s c
+  same-after : (c : Command) → Wellformed f c → afterWith22 f s c ≡ after f s c
   unfolding afterWith22 after
-  same-after c = rw (same-outcome c) refl
+  same-after c w = rw (same-outcome c w) refl
 
 module _ (f : File) (ck : Checked f) where
   -- commands one after the other
@@ -132,8 +136,9 @@ module _ (f : File) (ck : Checked f) where
   unfolding runWith22 run outcomesWith22 outcomes
   same-run [] w s inv = (refl, refl)
   same-run (c ∷ cs) w s inv =
-      let more = same-run cs (λ d m. w d (List·Memᴰ·tail m)) (after f s c) (after-invariant f ck s inv c (w c (List·Memᴰ·head refl))) in
-      (rw (same-after f ck s inv c) (more .0), rw (same-outcome f ck s inv c, same-after f ck s inv c, more .1) refl)
+      let here = w c (List·Memᴰ·head refl) in
+      let more = same-run cs (λ d m. w d (List·Memᴰ·tail m)) (after f s c) (after-invariant f ck s inv c here) in
+      (rw (same-after f ck s inv c here) (more .0), rw (same-outcome f ck s inv c here, same-after f ck s inv c here, more .1) refl)
 
   same-first : (n : ℕ) → (reachedWith22 f n ≡ reached f n) × (outcomesOfWith22 f n ≡ outcomesOf f n)
   unfolding reachedWith22 reached outcomesOfWith22 outcomesOf

@@ -1,29 +1,30 @@
--- Who knows a request knows what it names; and a desk's certificate in a known request for an LAK certificate is listed.
+-- Who knows a request knows what it names; and a desk's certificate in a known 18 request is listed.
 -- Assumes nothing.
-use mathlib.Core.Path.{_≡_, sym, _∙_}
-use mathlib.Core.Logic.{⊎-elim}
-use mathlib.Core.Bool.{true, _||_}
-use mathlib.Core.List.{[], _∷_}
+use mathlib.Core.Path.{_≡_, sym, ap, _∙_}
+use mathlib.Core.Bool.{true}
+use mathlib.Core.List.{[], _∷_, List·Memᴰ}
 use Prim.Native.Nat.{ℕ}
-use native.Mathlib.Omega.{arith}
-use Rattle.rules.specs.Limits.{tpmMaker, oemDesk, ownerDesk}
+use Rattle.rules.specs.declared.Family.{Family}
+use Rattle.rules.specs.Families.{requestFamilies}
 use Rattle.rules.specs.Term.{ldevidRequestKind, pairKind}
-use Rattle.rules.specs.File.{File, kind, ldevidMessage, ldevidCertificate, signer, leftOf, rightOf, signsForRole}
+use Rattle.rules.specs.File.{File, kind, ldevidMessage, ldevidCertificate, signer, leftOf, rightOf, signsForSome}
 use Rattle.rules.specs.Learning.{Knowledge}
 use Rattle.rules.specs.State.{State, listed}
 use Rattle.rules.specs.Desk.{requestBody, parentCertificateOf}
 use Rattle.theorems.proofs.Inside.{first-part, second-part}
 use Rattle.theorems.proofs.Loading.{Checked}
-use Rattle.theorems.proofs.Terms.{parts-pair, parts-ldevidRequest, signs-role-given}
+use Rattle.theorems.proofs.Terms.{parts-pair, parts-ldevidRequest}
 use Rattle.theorems.proofs.Invariant.{Invariant}
-use Rattle.theorems.proofs.Booleans.{or-true}
+use Rattle.theorems.proofs.FamilyRows.{request-row, may, some-signer}
 
--- the party p knows the request q for an LAK certificate, and an OEM desk or an owner desk signed the certificate in it
+-- the party p knows the 18 request q, and a desk signed the certificate in it that a family's parents may have as signer
 pub record DeskParent (f : File) (knows : Knowledge) (p q : ℕ) : Type 0 where
   pub known : knows p q ≡ true
   pub pair : kind f q ≡ pairKind
   pub body : kind f (leftOf f q) ≡ ldevidRequestKind
-  pub signed : (signsForRole f oemDesk (signer f (parentCertificateOf f q)) || signsForRole f ownerDesk (signer f (parentCertificateOf f q))) ≡ true
+  pub family : Family
+  pub row : List·Memᴰ family requestFamilies
+  pub signed : signsForSome f (family .signers) (signer f (parentCertificateOf f q)) ≡ true
 
 module _ (f : File) (ck : Checked f) (s : State) (inv : Invariant f s) where
   -- who knows a pair knows its two terms
@@ -38,11 +39,9 @@ module _ (f : File) (ck : Checked f) (s : State) (inv : Invariant f s) where
         (second-part f (leftOf f q) (ldevidMessage f (leftOf f q)) (ldevidCertificate f (leftOf f q)) [] (parts-ldevidRequest f (leftOf f q) (w .body)))
 
     -- a known certificate of a desk is listed
-    by-desk : (role : ℕ) → (role ≡ tpmMaker → ⊥) → signsForRole f role (signer f (parentCertificateOf f q)) ≡ true → listed (s .ledger) (parentCertificateOf f q) ≡ true
-    unfolding parentCertificateOf requestBody
-    by-desk role n h =
-        let g = signs-role-given f role (signer f (parentCertificateOf f q)) h in
-        inv .good p (parentCertificateOf f q) parent-known .issued (ck .ldevidCertificateKind (leftOf f q) (w .body)) (g .0) (g .1) (λ d. n (sym (g .2) ∙ d))
-
     pub parent-listed : listed (s .ledger) (parentCertificateOf f q) ≡ true
-    parent-listed = ⊎-elim (by-desk oemDesk (omega arith)) (by-desk ownerDesk (omega arith)) (or-true _ _ (w .signed))
+    unfolding parentCertificateOf requestBody
+    parent-listed =
+        let g = some-signer f (w .family .signers) (signer f (parentCertificateOf f q)) (w .signed) in
+        inv .good p (parentCertificateOf f q) parent-known .issued (ck .ldevidCertificateKind (leftOf f q) (w .body)) (g .party) (g .given)
+        (λ d. request-row (w .family) (w .row) .noMaker (sym (ap (may (w .family .signers)) d) ∙ g .allowed))

@@ -14,11 +14,11 @@ use native.Mathlib.Omega.{arith}
 use lib.ListN.{take, getElem?}
 use borrow.Author.Tests.{eq-eqb, ne-eqb}
 use Rattle.rules.specs.Refusals.{order}
-use Rattle.rules.specs.File.{File, Command, hash, sign, certify, makeCredential, activateCredential, makeIdevidRequest, makeLdevidRequest, makePair, checkHash, checkSignature, checkCertificate, checkAttributes, send, selfIssue, challenge, issueIak, issueLak}
+use Rattle.rules.specs.File.{File, Command, hash, sign, certify, makeCredential, activateCredential, makeIdevidRequest, makeLdevidRequest, makePair, checkHash, checkSignature, checkCertificate, checkAttributes, send, selfIssue, challenge, issueIak, issue}
 use Rattle.rules.specs.Load.{commandsOf}
 use Rattle.rules.specs.State.{State, start}
 use Rattle.rules.specs.Device.{deviceRole, hashTests, signTests, certifyTests, makeCredentialTests, activateCredentialTests, bothKnownTests, sendTests, selfIssueTests, checkRole, checkTests}
-use Rattle.rules.specs.Desk.{formTests, proofTests, numberTests, challengeTests, calledFor, issueIakTests, issueLakTests}
+use Rattle.rules.specs.Desk.{formTests, proofTests, numberTests, challengeTests, calledFor, issueIakTests, issueTests}
 use Rattle.rules.specs.Run.{testsOf, effectOf, outcome, after, run, firstCommands, reached}
 use Rattle.theorems.proofs.Passing.{ordered}
 
@@ -31,7 +31,7 @@ unfolding after
 after-refused f s c n = rw (ne-eqb (outcome f s c) 0 n)
 
 pub tests-ordered : (f : File) (s : State) (c : Command) → ordered order (testsOf f s c) ≡ true
-unfolding testsOf deviceRole hashTests signTests certifyTests makeCredentialTests activateCredentialTests bothKnownTests sendTests selfIssueTests checkRole checkTests challengeTests formTests proofTests numberTests issueIakTests calledFor issueLakTests
+unfolding testsOf deviceRole hashTests signTests certifyTests makeCredentialTests activateCredentialTests bothKnownTests sendTests selfIssueTests checkRole checkTests challengeTests formTests proofTests numberTests issueIakTests calledFor issueTests
 tests-ordered f s (hash p r) = refl
 tests-ordered f s (sign p r) = refl
 tests-ordered f s (certify p r) = refl
@@ -48,7 +48,7 @@ tests-ordered f s (send p q t) = refl
 tests-ordered f s (selfIssue p r) = refl
 tests-ordered f s (challenge p q r) = refl
 tests-ordered f s (issueIak p q c r) = refl
-tests-ordered f s (issueLak p q r) = refl
+tests-ordered f s (issue family p q r) = refl
 
 -- the commands in two parts
 pub run-append : (f : File) (xs ys : List Command) (s : State) → run f (xs ++ ys) s ≡ run f ys (run f xs s)

@@ -1,4 +1,5 @@
 pub mod Residency
+pub mod FamilyLaws
 pub mod Written
 pub mod Decimal
 pub mod Refusal22

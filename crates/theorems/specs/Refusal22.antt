@@ -8,7 +8,7 @@ use lib.Dec.{eqb, leb}
 use lib.ListN.{length, drop}
 use Rattle.rules.specs.Limits.{fileLimit, pathPlaces}
 use Rattle.rules.specs.Refusals.{Test, need, firstOf}
-use Rattle.rules.specs.File.{File, Command, hash, sign, certify, makeCredential, activateCredential, makeIdevidRequest, makeLdevidRequest, makePair, checkHash, checkSignature, checkCertificate, checkAttributes, send, selfIssue, challenge, issueIak, issueLak}
+use Rattle.rules.specs.File.{File, Command, hash, sign, certify, makeCredential, activateCredential, makeIdevidRequest, makeLdevidRequest, makePair, checkHash, checkSignature, checkCertificate, checkAttributes, send, selfIssue, challenge, issueIak, issue}
 use Rattle.rules.specs.Load.{Load, loaded, refused, load}
 use Rattle.rules.specs.State.{State, start, listed, depthOf}
 use Rattle.rules.specs.Desk.{parentCertificateOf}
@@ -21,7 +21,7 @@ orderWith22 =
     13 ∷ 14 ∷ 15 ∷ 16 ∷ 17 ∷ 18 ∷ 19 ∷ 20 ∷ 21 ∷ 22 ∷ 23
     ∷ 24 ∷ 25 ∷ 26 ∷ 27 ∷ 28 ∷ 29 ∷ []
 
--- The check, which 40 alone made: the certificate in the request is in the ledger.
+-- The check, which 40 made: the certificate in the request is in the ledger. Here the commands of its rule, 40, 41 and 42, all make it.
 unfoldable pub check22 : File → State → Command → List Test
 check22 f s (hash p r) = []
 check22 f s (sign p r) = []
@@ -39,7 +39,7 @@ check22 f s (send p q t) = []
 check22 f s (selfIssue p r) = []
 check22 f s (challenge p q r) = []
 check22 f s (issueIak p q c r) = []
-check22 f s (issueLak p q r) = need 22 (listed (s .ledger) (parentCertificateOf f q)) ∷ []
+check22 f s (issue family p q r) = need 22 (listed (s .ledger) (parentCertificateOf f q)) ∷ []
 
 -- The commands with the check: what one has to pass, its outcome, what it leaves.
 unfoldable pub testsWith22 : File → State → Command → List Test

@@ -6,13 +6,13 @@ use mathlib.Core.List.{List, [], _∷_, List·Memᴰ}
 use mathlib.Core.Option.{some}
 use Prim.Native.Nat.{ℕ, suc, _≤_, _<_}
 use lib.ListN.{length, getElem?}
-use Rattle.rules.specs.declared.Attributes.{Attributes}
+use Rattle.rules.specs.declared.Family.{Family}
 use Rattle.rules.specs.declared.Entry.{Entry}
 use Rattle.rules.specs.declared.Subject.the-variants.{Device}
-use Rattle.rules.specs.Limits.{device, oemDesk, ownerDesk, depthLimit}
-use Rattle.rules.specs.Attributes.{iakAttributes}
+use Rattle.rules.specs.Limits.{device, depthLimit}
+use Rattle.rules.specs.Families.{iakFamily, families}
 use Rattle.rules.specs.Term.{privateKeyKind, certificateKind}
-use Rattle.rules.specs.File.{File, learns, holds, signsWith, Command, hash, sign, certify, makeCredential, activateCredential, makeIdevidRequest, makeLdevidRequest, makePair, checkHash, checkSignature, checkCertificate, checkAttributes, send, selfIssue, challenge, issueIak, issueLak, roleOf, kind, parts, subject, attributes, paired, certifiedKey, signer, credentialNumber}
+use Rattle.rules.specs.File.{File, learns, holds, signsWith, Command, hash, sign, certify, makeCredential, activateCredential, makeIdevidRequest, makeLdevidRequest, makePair, checkHash, checkSignature, checkCertificate, checkAttributes, send, selfIssue, challenge, issueIak, issue, roleOf, kind, parts, subject, attributes, paired, certifiedKey, signer, credentialNumber, signsForSome}
 use Rattle.rules.specs.Load.{loaded, load, commandsOf}
 use Rattle.rules.specs.Desk.{ekCertificateOf, parentCertificateOf}
 use Rattle.rules.specs.Run.{outcome, reached}
@@ -40,7 +40,7 @@ Teaches f (send p receiver u) q t = (q ≡ receiver) × (t ≡ u)
 Teaches f (selfIssue p r) q t = (q ≡ p) × (t ≡ r)
 Teaches f (challenge p request r) q t = (q ≡ p) × (t ≡ r)
 Teaches f (issueIak p returning c r) q t = (q ≡ p) × (t ≡ r)
-Teaches f (issueLak p request r) q t = (q ≡ p) × (t ≡ r)
+Teaches f (issue family p request r) q t = (q ≡ p) × (t ≡ r)
 
 -- Accepted: the command of ordinal i is c, and its outcome is 0
 pub record Accepted (f : File) (i : ℕ) (c : Command) : Type 0 where
@@ -58,26 +58,12 @@ pub record Held (f : File) (tpm publicKey : ℕ) : Type 0 where
   pub pairs : paired f publicKey half ≡ true
   pub given : List·Memᴰ (holds tpm half) (f .setup)
 
--- A family of issued certificates: the attributes of its keys, and the role of the desk that signs them.
-pub record Family : Type 0 where
-  pub keyAttributes : Attributes
-  pub signerRole : ℕ
-
-abbrev pub iakFamily : Family
-iakFamily = record { keyAttributes = iakAttributes; signerRole = oemDesk }
-
-abbrev pub lakFamily : Family
-lakFamily = record { keyAttributes = iakAttributes; signerRole = ownerDesk }
-
-abbrev pub families : List Family
-families = iakFamily ∷ lakFamily ∷ []
-
 -- Desk key: given by a 22 to a party of a family's signing role (2 or 3)
 pub record SignedBy (f : File) (family : Family) (t : ℕ) : Type 0 where
   pub isCertificate : kind f t ≡ certificateKind
   pub desk : ℕ
   pub deskKey : List·Memᴰ (signsWith desk (signer f t)) (f .setup)
-  pub deskRole : roleOf f desk ≡ family .signerRole
+  pub deskRole : roleOf f desk ≡ family .desk
 
 -- a certificate that a desk of some family signed
 pub record DeskSigned (f : File) (t : ℕ) : Type 0 where
@@ -96,12 +82,13 @@ pub record Listed (f : File) (n t : ℕ) : Type 0 where
   pub here : EntryAt f n place entry
   pub same : entry .certificate ≡ t
 
--- Parent: the certificate in the 17 or 18 of the request; for 3F, of the request that its credential was opened with
-pub data Parent (f : File) (n t g : ℕ) : Type 0 where
+-- Parent: the certificate in the 17 or 18 of the request; for 3F, of the request that its credential was opened with. The family is that
+-- of the command that issued the certificate.
+pub data Parent (f : File) (n : ℕ) (family : Family) (t g : ℕ) : Type 0 where
   ofIak :
-      (i j p returning c q : ℕ) → i < n → Accepted f i (issueIak p returning c t) → j < i → Accepted f j (challenge p q c) → g ≡ ekCertificateOf f q
-      → Parent f n t g
-  ofLak : (i p q : ℕ) → i < n → Accepted f i (issueLak p q t) → g ≡ parentCertificateOf f q → Parent f n t g
+      (i j p returning c q : ℕ) → i < n → Accepted f i (issueIak p returning c t) → j < i → Accepted f j (challenge p q c) → family ≡ iakFamily → g ≡ ekCertificateOf f q
+      → Parent f n family t g
+  onRequest : (i p q : ℕ) → i < n → Accepted f i (issue family p q t) → g ≡ parentCertificateOf f q → Parent f n family t g
 
 -- Endorsement certificate of the set-up: a 19 that a 20 gave
 pub record Endorsement (f : File) (t : ℕ) : Type 0 where
@@ -112,7 +99,7 @@ pub record Endorsement (f : File) (t : ℕ) : Type 0 where
 -- A path and its certificates: a step goes from a listed certificate to its parent, and the last is an endorsement certificate.
 pub data Path (f : File) (n : ℕ) : ℕ → List ℕ → Type 0 where
   ends : {t : ℕ} → Endorsement f t → Path f n t (t ∷ [])
-  step : {t g : ℕ} {more : List ℕ} → Listed f n t → Parent f n t g → Path f n g more → Path f n t (t ∷ more)
+  step : {t g : ℕ} {family : Family} {more : List ℕ} → Listed f n t → Parent f n family t g → Path f n g more → Path f n t (t ∷ more)
 
 -- the certificate at a place of the ledger
 abbrev pub CertificateAt : File → ℕ → ℕ → ℕ → Type 0
@@ -133,15 +120,22 @@ AllButLast P [] = Unit {0}
 AllButLast P (x ∷ []) = Unit {0}
 AllButLast P (x ∷ y ∷ ys) = P x × AllButLast P (y ∷ ys)
 
+-- An entry is of a family: the desk that signed its certificate, the attributes of its key, and the signer and key of its parent are
+-- those of the family's row.
+pub record OfFamily (f : File) (family : Family) (e : Entry) : Type 0 where
+  pub listed : List·Memᴰ family families
+  pub signed : SignedBy f family (e .certificate)
+  pub keyAttributes : attributes f (certifiedKey f (e .certificate)) ≡ family .key
+  pub parentSigned : signsForSome f (family .signers) (signer f (e .parent)) ≡ true
+  pub parentAttributes : attributes f (certifiedKey f (e .parent)) ≡ family .parent
+
 -- What holds of the entry at a place of the ledger.
 pub record Sound (f : File) (n i : ℕ) (e : Entry) : Type 0 where
-  -- its certificate is of one of the families
+  -- which family it is of
   pub family : Family
-  pub familyKnown : List·Memᴰ family families
-  pub signed : SignedBy f family (e .certificate)
-  pub keyAttributes : attributes f (certifiedKey f (e .certificate)) ≡ family .keyAttributes
+  pub ofFamily : OfFamily f family e
   -- the entry names its certificate's parent, and that is listed earlier at a depth one less, or is an endorsement certificate
-  pub parent : Parent f n (e .certificate) (e .parent)
+  pub parent : Parent f n family (e .certificate) (e .parent)
   pub earlier :
       ((e .depth ≡ 1) × Endorsement f (e .parent))
       ⊎ ((j : ℕ) × (g : Entry) × (j < i) × EntryAt f n j g × (g .certificate ≡ e .parent) × (e .depth ≡ suc (g .depth)))

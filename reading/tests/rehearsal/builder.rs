@@ -10,6 +10,13 @@ pub const DEV: u8 = 1;
 pub const AK: u8 = 0x0B;
 pub const EK: u8 = 0x0D;
 pub const CA: u8 = 0x0A;
+/// Of an IDevID or LDevID.
+pub const ID: u8 = 0x0A;
+
+/// The attributes of the new key of a 40, 41 or 42.
+pub fn new_key(kind: u8) -> u8 {
+    if kind == 0x40 { AK } else { ID }
+}
 
 /// The sections of a file, each in the order added.
 #[derive(Clone, Default)]
@@ -208,9 +215,9 @@ impl Build {
         ])
     }
 
-    /// 40.
-    pub fn issue_lak(&mut self, desk: u8, request: u16, r: u16) -> usize {
-        self.check(0x40, desk, request, r)
+    /// 40, 41 and 42.
+    pub fn issue(&mut self, kind: u8, desk: u8, request: u16, r: u16) -> usize {
+        self.check(kind, desk, request, r)
     }
 
     /// Runs the first n commands.
@@ -321,6 +328,17 @@ pub struct Names {
     pub iak_certificate: u16,
 }
 
+impl Names {
+    /// The desk that does a 40, 41 or 42, and its key.
+    pub fn desk(&self, kind: u8) -> (u8, u16) {
+        if kind == 0x41 {
+            (self.oem, self.oem_private)
+        } else {
+            (self.owner, self.owner_private)
+        }
+    }
+}
+
 /// The terms of the IAK world; the attributes of IAK and EK may vary.
 pub fn iak_terms(b: &mut Build, iak_attributes: u8, ek_attributes: u8) -> Names {
     let device = b.party(0);
@@ -420,9 +438,43 @@ pub fn finish_iak(b: &mut Build, n: &Names) {
     b.issue_iak(n.oem, n.device, n.credential, n.iak_certificate);
 }
 
-/// The terms of one LAK step.
+/// One more IAK of the board, with that id, enrolled for a device Subject; its
+/// certificate is sent to the device. The names are those of the new IAK.
+pub fn another_iak(b: &mut Build, n: &Names, id: u16, who: u16) -> Names {
+    let (iak, iak_private) = b.keys(id, AK);
+    let csr = b.idevid(DEV, who, n.ek_certificate, iak);
+    let csr_hash = b.hash(csr);
+    let csr_signature = b.signature(csr_hash, iak_private);
+    let request = b.pair(csr, csr_signature);
+    let iak_hash = b.hash(iak);
+    let number = b.number(id);
+    let credential = b.credential(iak_hash, number, n.ek);
+    let iak_certificate = b.certificate(iak, DEV, who, n.oem_private);
+    let other = Names {
+        iak,
+        iak_private,
+        csr,
+        csr_hash,
+        csr_signature,
+        request,
+        iak_hash,
+        number,
+        credential,
+        iak_certificate,
+        ..n.clone()
+    };
+    b.hold(n.device, iak_private);
+    b.give(n.device, iak);
+    b.give(n.oem, number);
+    make_request(b, &other);
+    finish_iak(b, &other);
+    b.send(n.oem, n.device, iak_certificate);
+    other
+}
+
+/// The terms of one step by 40, 41 or 42.
 #[derive(Clone, Copy)]
-pub struct Lak {
+pub struct Attested {
     pub public: u16,
     pub private: u16,
     pub attest: u16,
@@ -434,15 +486,15 @@ pub struct Lak {
     pub certificate: u16,
 }
 
-/// Terms of a LAK with that id, under a parent's private key and certificate.
-pub fn lak_terms(
+/// Terms for a new key with that id, under a parent's private key and
+/// certificate.
+pub fn attested_terms(
     b: &mut Build,
     id: u16,
     attributes: u8,
-    parent_private: u16,
-    parent_certificate: u16,
+    (parent_private, parent_certificate): (u16, u16),
     desk_private: u16,
-) -> Lak {
+) -> Attested {
     let (public, private) = b.keys(id, attributes);
     let attest = b.attest(public);
     let signed_attest = b.signature(attest, parent_private);
@@ -451,7 +503,7 @@ pub fn lak_terms(
     let csr_signature = b.signature(csr_hash, private);
     let request = b.pair(csr, csr_signature);
     let certificate = b.certificate(public, DEV, 200, desk_private);
-    Lak {
+    Attested {
         public,
         private,
         attest,
@@ -464,32 +516,52 @@ pub fn lak_terms(
     }
 }
 
-/// 32, 36, 30, 31, 37, 3C, 40: a LAK; the device must know the parent.
-pub fn lak_commands(b: &mut Build, device: u8, owner: u8, l: &Lak) -> usize {
-    b.act(0x32, device, l.signed_attest);
-    b.act(0x36, device, l.csr);
-    b.act(0x30, device, l.csr_hash);
-    b.act(0x31, device, l.csr_signature);
-    b.act(0x37, device, l.request);
-    b.send(device, owner, l.request);
-    b.issue_lak(owner, l.request, l.certificate)
+/// 32, 36, 30, 31, 37, 3C: the request reaches a desk; the device must know
+/// the parent.
+pub fn ask(b: &mut Build, device: u8, desk: u8, a: &Attested) {
+    b.act(0x32, device, a.signed_attest);
+    b.act(0x36, device, a.csr);
+    b.act(0x30, device, a.csr_hash);
+    b.act(0x31, device, a.csr_signature);
+    b.act(0x37, device, a.request);
+    b.send(device, desk, a.request);
+}
+
+/// A whole step by 40, 41 or 42, for a new key with that id under a parent,
+/// and the certificate sent to the device. Gives the ordinal of the command.
+pub fn enrol(b: &mut Build, n: &Names, kind: u8, id: u16, parent: (u16, u16)) -> (usize, Attested) {
+    let (desk, desk_private) = n.desk(kind);
+    let a = attested_terms(b, id, new_key(kind), parent, desk_private);
+    b.hold(n.device, a.private);
+    ask(b, n.device, desk, &a);
+    let at = b.issue(kind, desk, a.request, a.certificate);
+    b.send(desk, n.device, a.certificate);
+    (at, a)
 }
 
 /// An honest IAK and under it a chain of `count` LAKs, each the parent of the
 /// next. Gives the ordinals of the 40s and the LAKs.
-pub fn chain(count: u16) -> (Build, Names, Vec<usize>, Vec<Lak>) {
+pub fn chain(count: u16) -> (Build, Names, Vec<usize>, Vec<Attested>) {
     let (mut b, n) = honest();
     b.send(n.oem, n.device, n.iak_certificate);
     let mut parent = (n.iak_private, n.iak_certificate);
     let mut ordinals = Vec::new();
     let mut laks = Vec::new();
     for step in 0..count {
-        let l = lak_terms(&mut b, 1000 + step, AK, parent.0, parent.1, n.owner_private);
-        b.hold(n.device, l.private);
-        ordinals.push(lak_commands(&mut b, n.device, n.owner, &l));
-        b.send(n.owner, n.device, l.certificate);
+        let (at, l) = enrol(&mut b, &n, 0x40, 1000 + step, parent);
+        ordinals.push(at);
         parent = (l.private, l.certificate);
         laks.push(l);
     }
     (b, n, ordinals, laks)
+}
+
+/// An honest IAK and under it a LAK, an IDevID and an LDevID, in this order.
+pub fn board() -> (Build, Names, [Attested; 3]) {
+    let (mut b, n) = honest();
+    b.send(n.oem, n.device, n.iak_certificate);
+    let parent = (n.iak_private, n.iak_certificate);
+    let issued =
+        [0x40, 0x41, 0x42].map(|kind| enrol(&mut b, &n, kind, 1000 + u16::from(kind), parent).1);
+    (b, n, issued)
 }

@@ -1,8 +1,8 @@
-//! Desk commands, 3E, 3F and 40: refusals 13 to 29 but 22.
+//! Desk commands, 3E to 42: refusals 13 to 29 but 22.
 //!
-//! 22 is no refusal any more. A 40 whose parent is not in the ledger is 14 or
-//! 21 at the latest: a 19 signed by a desk's key first becomes known by an
-//! accepted 3F or 40, which puts it in the ledger.
+//! 22 is no refusal any more. A 40, 41 or 42 whose parent is not in the ledger
+//! is 14 or 21 at the latest: a 19 signed by a desk's key first becomes known
+//! by an accepted 3F, 40, 41 or 42, which puts it in the ledger.
 
 use crate::builder::*;
 
@@ -367,63 +367,62 @@ fn issued_certificate_called_for_is_27_before_28() {
     assert_eq!(b.run().totals().2, 2);
 }
 
-/// A chain of one LAK, up to but not with its 40.
-fn lak_asked() -> (Build, Names, Lak) {
+/// An IAK and under it a new key, up to but not with its 40, 41 or 42. Gives
+/// also the desk that is asked.
+fn attested_asked(kind: u8) -> (Build, Names, u8, Attested) {
     let (mut b, n) = honest();
     b.send(n.oem, n.device, n.iak_certificate);
-    let l = lak_terms(
-        &mut b,
-        1000,
-        AK,
-        n.iak_private,
-        n.iak_certificate,
-        n.owner_private,
-    );
-    b.hold(n.device, l.private);
-    b.act(0x32, n.device, l.signed_attest);
-    b.act(0x36, n.device, l.csr);
-    b.act(0x30, n.device, l.csr_hash);
-    b.act(0x31, n.device, l.csr_signature);
-    b.act(0x37, n.device, l.request);
-    b.send(n.device, n.owner, l.request);
-    (b, n, l)
+    let (desk, desk_private) = n.desk(kind);
+    let parent = (n.iak_private, n.iak_certificate);
+    let a = attested_terms(&mut b, 1000, new_key(kind), parent, desk_private);
+    b.hold(n.device, a.private);
+    ask(&mut b, n.device, desk, &a);
+    (b, n, desk, a)
 }
 
 #[test]
-fn issue_lak() {
-    let (mut b, n, l) = lak_asked();
-    let last = b.issue_lak(n.owner, l.request, l.certificate);
-    assert_eq!(b.outcome(last), 0);
-    let ran = b.run();
-    assert_eq!(ran.totals().2, 2);
-    assert_eq!(ran.ledger[1].certificate, l.certificate);
-    assert_eq!(ran.ledger[1].parent, n.iak_certificate);
-    assert_eq!(ran.ledger[1].depth, 2);
-    assert!(ran.knows(n.owner, l.certificate));
-    assert!(!ran.knows(n.device, l.certificate));
-    let again = b.issue_lak(n.owner, l.request, l.certificate);
-    refused_cleanly(&b, again, 28);
-}
-
-#[test]
-fn issue_lak_role_and_knowledge() {
-    let (mut b, n, l) = lak_asked();
-    b.send(n.device, n.oem, l.request);
-    for party in [n.device, n.maker, n.oem] {
-        let last = b.issue_lak(party, l.request, l.certificate);
-        refused_cleanly(&b, last, 13);
+fn issue_attested() {
+    for kind in 0x40..=0x42 {
+        let (mut b, n, desk, a) = attested_asked(kind);
+        let last = b.issue(kind, desk, a.request, a.certificate);
+        assert_eq!(b.outcome(last), 0);
+        let ran = b.run();
+        assert_eq!(ran.totals().2, 2);
+        assert_eq!(ran.ledger[1].certificate, a.certificate);
+        assert_eq!(ran.ledger[1].parent, n.iak_certificate);
+        assert_eq!(ran.ledger[1].depth, 2);
+        for party in [n.device, n.maker, n.oem, n.owner] {
+            assert_eq!(ran.knows(party, a.certificate), party == desk);
+        }
+        let again = b.issue(kind, desk, a.request, a.certificate);
+        refused_cleanly(&b, again, 28);
     }
-    let second = b.party(3);
-    let last = b.issue_lak(second, l.request, l.certificate);
-    refused_cleanly(&b, last, 14);
-    // Known, but this desk has no key: no r is the one called for.
-    b.send(n.device, second, l.request);
-    let last = b.issue_lak(second, l.request, l.certificate);
-    refused_cleanly(&b, last, 27);
 }
 
-/// Builds and sends a request of an 18 and a 13; gives the outcome of its 40.
-fn try_lak(b: &mut Build, n: &Names, csr: u16, signer: u16, r: u16) -> usize {
+#[test]
+fn issue_attested_role_and_knowledge() {
+    for kind in 0x40..=0x42 {
+        let (mut b, n, desk, a) = attested_asked(kind);
+        for party in [n.device, n.maker, n.oem, n.owner] {
+            if party != desk {
+                b.send(n.device, party, a.request);
+                let last = b.issue(kind, party, a.request, a.certificate);
+                refused_cleanly(&b, last, 13);
+            }
+        }
+        let second = b.party(if kind == 0x41 { 2 } else { 3 });
+        let last = b.issue(kind, second, a.request, a.certificate);
+        refused_cleanly(&b, last, 14);
+        // Known, but this desk has no key: no r is the one called for.
+        b.send(n.device, second, a.request);
+        let last = b.issue(kind, second, a.request, a.certificate);
+        refused_cleanly(&b, last, 27);
+    }
+}
+
+/// Builds and sends a request of an 18 and a 13; gives the ordinal of its 40,
+/// 41 or 42.
+fn try_attested(b: &mut Build, n: &Names, kind: u8, csr: u16, signer: u16, r: u16) -> usize {
     let hash = b.hash(csr);
     let signature = b.signature(hash, signer);
     let request = b.pair(csr, signature);
@@ -436,203 +435,370 @@ fn try_lak(b: &mut Build, n: &Names, csr: u16, signer: u16, r: u16) -> usize {
         let at = b.act(kind, n.device, t);
         assert_eq!(b.outcome(at), 0);
     }
-    b.send(n.device, n.owner, request);
-    b.issue_lak(n.owner, request, r)
+    let (desk, _) = n.desk(kind);
+    b.send(n.device, desk, request);
+    b.issue(kind, desk, request, r)
 }
 
 #[test]
-fn issue_lak_form() {
-    let (mut b, n, l) = lak_asked();
-    let swapped = b.pair(l.csr_signature, l.csr);
-    b.act(0x37, n.device, swapped);
-    b.send(n.device, n.owner, swapped);
-    let plain = b.private(50, 2);
-    b.hold(n.device, plain);
-    let unhashed = b.signature(l.csr, plain);
-    let unhashed_request = b.pair(l.csr, unhashed);
-    b.act(0x31, n.device, unhashed);
-    b.act(0x37, n.device, unhashed_request);
-    b.send(n.device, n.owner, unhashed_request);
-    // A 3E request at a 40.
-    b.send(n.device, n.owner, n.request);
-    for request in [swapped, unhashed_request, n.request, l.csr, l.csr_signature] {
-        let last = b.issue_lak(n.owner, request, l.certificate);
+fn issue_attested_form() {
+    for kind in 0x40..=0x42 {
+        let (mut b, n, desk, a) = attested_asked(kind);
+        let swapped = b.pair(a.csr_signature, a.csr);
+        b.act(0x37, n.device, swapped);
+        b.send(n.device, desk, swapped);
+        let plain = b.private(50, 2);
+        b.hold(n.device, plain);
+        let unhashed = b.signature(a.csr, plain);
+        let unhashed_request = b.pair(a.csr, unhashed);
+        b.act(0x31, n.device, unhashed);
+        b.act(0x37, n.device, unhashed_request);
+        b.send(n.device, desk, unhashed_request);
+        // A 3E request here.
+        b.send(n.device, desk, n.request);
+        for request in [swapped, unhashed_request, n.request, a.csr, a.csr_signature] {
+            let last = b.issue(kind, desk, request, a.certificate);
+            refused_cleanly(&b, last, 19);
+        }
+        // The 18's message: a bare 14, a 13 over a 12.
+        let bare = b.ldevid(a.attest, n.iak_certificate);
+        let last = try_attested(&mut b, &n, kind, bare, a.private, a.certificate);
+        refused_cleanly(&b, last, 19);
+        let over_hash = b.ldevid(a.csr_signature, n.iak_certificate);
+        let last = try_attested(&mut b, &n, kind, over_hash, a.private, a.certificate);
+        refused_cleanly(&b, last, 19);
+        // The request at a 3E.
+        let number = b.number(78);
+        let credential = b.credential(n.iak_hash, number, n.ek);
+        b.give(n.oem, number);
+        b.send(n.device, n.oem, a.request);
+        let last = b.challenge(n.oem, a.request, credential);
         refused_cleanly(&b, last, 19);
     }
-    // The 18's message: a bare 14, a 13 over a 12.
-    let bare = b.ldevid(l.attest, n.iak_certificate);
-    let last = try_lak(&mut b, &n, bare, l.private, l.certificate);
-    refused_cleanly(&b, last, 19);
-    let over_hash = b.ldevid(l.csr_signature, n.iak_certificate);
-    let last = try_lak(&mut b, &n, over_hash, l.private, l.certificate);
-    refused_cleanly(&b, last, 19);
-    // A LAK request at a 3E.
-    let number = b.number(78);
-    let credential = b.credential(n.iak_hash, number, n.ek);
-    b.give(n.oem, number);
-    b.send(n.device, n.oem, l.request);
-    let last = b.challenge(n.oem, l.request, credential);
-    refused_cleanly(&b, last, 19);
 }
 
 #[test]
-fn issue_lak_hash_and_signatures() {
-    let (mut b, n, l) = lak_asked();
-    // Signed by the IAK, not the LAK.
-    let by_iak = b.signature(l.csr_hash, n.iak_private);
-    let by_iak_request = b.pair(l.csr, by_iak);
-    b.act(0x31, n.device, by_iak);
-    b.act(0x37, n.device, by_iak_request);
-    b.send(n.device, n.owner, by_iak_request);
-    let last = b.issue_lak(n.owner, by_iak_request, l.certificate);
-    refused_cleanly(&b, last, 20);
-    // The hash of something else.
-    let other_signature = b.signature(n.iak_hash, l.private);
-    let other_request = b.pair(l.csr, other_signature);
-    b.act(0x30, n.device, n.iak_hash);
-    b.act(0x31, n.device, other_signature);
-    b.act(0x37, n.device, other_request);
-    b.send(n.device, n.owner, other_request);
-    let last = b.issue_lak(n.owner, other_request, l.certificate);
-    refused_cleanly(&b, last, 20);
-    // The attest signed by the LAK itself, not the certificate's key.
-    let own_attest = b.signature(l.attest, l.private);
-    let csr = b.ldevid(own_attest, n.iak_certificate);
-    b.act(0x32, n.device, own_attest);
-    let last = try_lak(&mut b, &n, csr, l.private, l.certificate);
-    refused_cleanly(&b, last, 20);
-    // The attest signed by an unrestricted key of the IAK's id.
-    let near = b.private(2, CA);
-    let near_attest = b.signature(l.attest, near);
-    let csr = b.ldevid(near_attest, n.iak_certificate);
-    b.hold(n.device, near);
-    b.act(0x31, n.device, near_attest);
-    let last = try_lak(&mut b, &n, csr, l.private, l.certificate);
-    refused_cleanly(&b, last, 20);
+fn issue_attested_hash_and_signatures() {
+    for kind in 0x40..=0x42 {
+        let (mut b, n, desk, a) = attested_asked(kind);
+        // Signed by the IAK, not the new key.
+        let by_iak = b.signature(a.csr_hash, n.iak_private);
+        let by_iak_request = b.pair(a.csr, by_iak);
+        b.act(0x31, n.device, by_iak);
+        b.act(0x37, n.device, by_iak_request);
+        b.send(n.device, desk, by_iak_request);
+        let last = b.issue(kind, desk, by_iak_request, a.certificate);
+        refused_cleanly(&b, last, 20);
+        // The hash of something else.
+        let other_signature = b.signature(n.iak_hash, a.private);
+        let other_request = b.pair(a.csr, other_signature);
+        b.act(0x30, n.device, n.iak_hash);
+        b.act(0x31, n.device, other_signature);
+        b.act(0x37, n.device, other_request);
+        b.send(n.device, desk, other_request);
+        let last = b.issue(kind, desk, other_request, a.certificate);
+        refused_cleanly(&b, last, 20);
+        // The attest signed by the new key itself, not the certificate's.
+        let own_attest = b.signature(a.attest, a.private);
+        let csr = b.ldevid(own_attest, n.iak_certificate);
+        b.act(0x32, n.device, own_attest);
+        let last = try_attested(&mut b, &n, kind, csr, a.private, a.certificate);
+        refused_cleanly(&b, last, 20);
+        // The attest signed by an unrestricted key of the IAK's id.
+        let near = b.private(2, CA);
+        let near_attest = b.signature(a.attest, near);
+        let csr = b.ldevid(near_attest, n.iak_certificate);
+        b.hold(n.device, near);
+        b.act(0x31, n.device, near_attest);
+        let last = try_attested(&mut b, &n, kind, csr, a.private, a.certificate);
+        refused_cleanly(&b, last, 20);
+    }
 }
 
 #[test]
-fn issue_lak_signer() {
-    // The EK certificate as parent: the maker's key is no desk's. The attest
-    // must be signed by the EK to get so far, and an EK cannot sign; so use a
-    // maker's certificate of the IAK.
-    let (mut b, n, l) = lak_asked();
-    let by_maker = b.certificate(n.iak, TPM, 100, n.maker_private);
-    b.give(n.device, by_maker);
-    let csr = b.ldevid(l.signed_attest, by_maker);
-    let last = try_lak(&mut b, &n, csr, l.private, l.certificate);
-    refused_cleanly(&b, last, 21);
-    // A self-issued certificate of the IAK.
-    let own = b.private(60, 2);
-    let self_issued = b.certificate(n.iak, DEV, 200, own);
-    b.hold(n.device, own);
-    b.act(0x3D, n.device, self_issued);
-    let csr = b.ldevid(l.signed_attest, self_issued);
-    let last = try_lak(&mut b, &n, csr, l.private, l.certificate);
-    refused_cleanly(&b, last, 21);
+fn issue_attested_signer() {
+    for kind in 0x40..=0x42 {
+        // The EK certificate as parent: the maker's key is no desk's. The
+        // attest must be signed by the EK to get so far, and an EK cannot
+        // sign; so use a maker's certificate of the IAK.
+        let (mut b, n, _, a) = attested_asked(kind);
+        let by_maker = b.certificate(n.iak, TPM, 100, n.maker_private);
+        b.give(n.device, by_maker);
+        let csr = b.ldevid(a.signed_attest, by_maker);
+        let last = try_attested(&mut b, &n, kind, csr, a.private, a.certificate);
+        refused_cleanly(&b, last, 21);
+        // A self-issued certificate of the IAK, also by a key with the
+        // attributes of a desk's.
+        for attributes in [2, CA] {
+            let own = b.private(60, attributes);
+            let self_issued = b.certificate(n.iak, DEV, 200, own);
+            b.hold(n.device, own);
+            b.act(0x3D, n.device, self_issued);
+            let csr = b.ldevid(a.signed_attest, self_issued);
+            let last = try_attested(&mut b, &n, kind, csr, a.private, a.certificate);
+            refused_cleanly(&b, last, 21);
+        }
+    }
 }
 
 #[test]
-fn issue_lak_parent_not_in_the_ledger() {
+fn issue_attested_parent_not_in_the_ledger() {
     // Of a desk's key but not issued: all is as called for, but nobody can
     // know the parent, so the request never reaches the desk.
-    let (b, n, l) = lak_asked();
-    for signer in [n.oem_private, n.owner_private] {
-        let mut b = b.clone();
-        let parent = b.certificate(n.iak, DEV, 201, signer);
-        let csr = b.ldevid(l.signed_attest, parent);
-        let hash = b.hash(csr);
-        let signature = b.signature(hash, l.private);
-        let request = b.pair(csr, signature);
-        let r = b.certificate(l.public, DEV, 201, n.owner_private);
-        for (kind, t, expected) in [
-            (0x3D, parent, 15),
-            (0x36, csr, 14),
-            (0x30, hash, 14),
-            (0x31, signature, 17),
-            (0x37, request, 14),
-        ] {
-            let at = b.act(kind, n.device, t);
-            refused_cleanly(&b, at, expected);
+    for kind in 0x40..=0x42 {
+        let (b, n, desk, a) = attested_asked(kind);
+        for signer in [n.oem_private, n.owner_private] {
+            let mut b = b.clone();
+            let parent = b.certificate(n.iak, DEV, 201, signer);
+            let csr = b.ldevid(a.signed_attest, parent);
+            let hash = b.hash(csr);
+            let signature = b.signature(hash, a.private);
+            let request = b.pair(csr, signature);
+            let r = b.certificate(a.public, DEV, 201, n.desk(kind).1);
+            // A Restricted key wants a hash of its TPM, another a known one.
+            let unsigned = if kind == 0x40 { 17 } else { 14 };
+            for (kind, t, expected) in [
+                (0x3D, parent, 15),
+                (0x36, csr, 14),
+                (0x30, hash, 14),
+                (0x31, signature, unsigned),
+                (0x37, request, 14),
+            ] {
+                let at = b.act(kind, n.device, t);
+                refused_cleanly(&b, at, expected);
+            }
+            let at = b.send(n.device, desk, request);
+            refused_cleanly(&b, at, 14);
+            let last = b.issue(kind, desk, request, r);
+            refused_cleanly(&b, last, 14);
         }
-        let at = b.send(n.device, n.owner, request);
-        refused_cleanly(&b, at, 14);
-        let last = b.issue_lak(n.owner, request, r);
-        refused_cleanly(&b, last, 14);
     }
 }
 
 #[test]
-fn issue_lak_attributes() {
-    for attributes in 0..16 {
-        let (mut b, n) = honest();
-        b.send(n.oem, n.device, n.iak_certificate);
-        let l = lak_terms(
-            &mut b,
-            1000,
-            attributes,
-            n.iak_private,
-            n.iak_certificate,
-            n.owner_private,
-        );
-        b.hold(n.device, l.private);
-        let last = lak_commands(&mut b, n.device, n.owner, &l);
-        let expected = match attributes {
-            AK => 0,
-            _ if attributes & 2 == 0 => 14,
-            _ => 23,
-        };
-        assert_eq!(b.outcome(last), expected, "LAK {attributes:x}");
+fn issue_attested_attributes_of_the_new_key() {
+    for kind in 0x40..=0x42 {
+        for attributes in 0..16 {
+            let (mut b, n) = honest();
+            b.send(n.oem, n.device, n.iak_certificate);
+            let (desk, desk_private) = n.desk(kind);
+            let parent = (n.iak_private, n.iak_certificate);
+            let a = attested_terms(&mut b, 1000, attributes, parent, desk_private);
+            b.hold(n.device, a.private);
+            ask(&mut b, n.device, desk, &a);
+            let last = b.issue(kind, desk, a.request, a.certificate);
+            let expected = match attributes {
+                _ if attributes == new_key(kind) => 0,
+                _ if attributes & 2 == 0 => 14,
+                _ => 23,
+            };
+            assert_eq!(b.outcome(last), expected, "{kind:x}, key {attributes:x}");
+        }
     }
-    // A parent of other attributes is never in the ledger, so it is 21 if its
-    // signer is no desk. (The parent's 23 cannot be built.)
-    let (mut b, n, l) = lak_asked();
-    let own = b.private(60, 2);
-    let parent = b.public(61, CA);
-    let parent_private = b.private(61, CA);
-    let certificate = b.certificate(parent, DEV, 200, own);
-    let forged = b.signature(l.attest, parent_private);
-    b.hold(n.device, own);
-    b.hold(n.device, parent_private);
-    b.give(n.device, parent);
-    b.act(0x3D, n.device, certificate);
-    b.act(0x31, n.device, forged);
-    let csr = b.ldevid(forged, certificate);
-    let last = try_lak(&mut b, &n, csr, l.private, l.certificate);
-    refused_cleanly(&b, last, 21);
 }
 
 #[test]
-fn issue_lak_result() {
-    let (mut b, n, l) = lak_asked();
-    let wrong_key = b.certificate(n.iak, DEV, 200, n.owner_private);
-    let wrong_number = b.certificate(l.public, DEV, 201, n.owner_private);
-    let wrong_subject = b.certificate(l.public, TPM, 200, n.owner_private);
-    let wrong_signer = b.certificate(l.public, DEV, 200, n.oem_private);
-    for r in [
-        wrong_key,
-        wrong_number,
-        wrong_subject,
-        wrong_signer,
-        n.iak_certificate,
+fn one_request_at_the_other_commands() {
+    let (mut b, n, [lak, idevid, ldevid]) = board();
+    for a in [lak, idevid, ldevid] {
+        b.send(n.device, n.oem, a.request);
+        b.send(n.device, n.owner, a.request);
+    }
+    let lak_by_oem = b.certificate(lak.public, DEV, 200, n.oem_private);
+    let idevid_by_owner = b.certificate(idevid.public, DEV, 200, n.owner_private);
+    let ldevid_by_oem = b.certificate(ldevid.public, DEV, 200, n.oem_private);
+    for (kind, a, r) in [
+        (0x40, idevid, idevid_by_owner),
+        (0x40, ldevid, ldevid.certificate),
+        (0x41, lak, lak_by_oem),
+        (0x42, lak, lak.certificate),
     ] {
-        let last = b.issue_lak(n.owner, l.request, r);
-        refused_cleanly(&b, last, 27);
+        let last = b.issue(kind, n.desk(kind).0, a.request, r);
+        refused_cleanly(&b, last, 23);
     }
+    // A key may have both an IDevID and an LDevID certificate.
+    for (kind, a, r) in [
+        (0x41, ldevid, ldevid_by_oem),
+        (0x42, idevid, idevid_by_owner),
+    ] {
+        let last = b.issue(kind, n.desk(kind).0, a.request, r);
+        assert_eq!(b.outcome(last), 0);
+    }
+    let ran = b.run();
+    assert_eq!(ran.totals().2, 6);
+    assert_eq!((ran.ledger[4].depth, ran.ledger[5].depth), (2, 2));
+}
+
+#[test]
+fn issue_attested_parents() {
+    // Of an IDevID or LDevID: 23, and 21 before it.
+    let (b, n, [lak, idevid, ldevid]) = board();
+    for (parent, expected) in [
+        (lak, [0, 21, 0]),
+        (idevid, [23, 23, 23]),
+        (ldevid, [23, 21, 23]),
+    ] {
+        for (kind, expected) in (0x40..=0x42).zip(expected) {
+            let mut b = b.clone();
+            let parent = (parent.private, parent.certificate);
+            let (at, _) = enrol(&mut b, &n, kind, 2000, parent);
+            assert_eq!(b.outcome(at), expected);
+            if expected != 0 {
+                refused_cleanly(&b, at, expected);
+            }
+        }
+    }
+    // Of such a key too, but its signer is no desk: 21.
+    for kind in 0x40..=0x42 {
+        let (mut b, n, _, a) = attested_asked(kind);
+        let own = b.private(60, 2);
+        let (parent, parent_private) = b.keys(61, ID);
+        let certificate = b.certificate(parent, DEV, 200, own);
+        b.hold(n.device, own);
+        b.hold(n.device, parent_private);
+        b.give(n.device, parent);
+        b.act(0x3D, n.device, certificate);
+        let parent = (parent_private, certificate);
+        let last = try_again(&mut b, &n, kind, &a, parent, a.certificate);
+        refused_cleanly(&b, last, 21);
+    }
+}
+
+#[test]
+fn attest_signed_by_an_unrestricted_key() {
+    // An IDevID or LDevID signs, by a 31, the attest of a key that another
+    // TPM holds.
+    let (b, n, [_, idevid, ldevid]) = board();
+    for (parent, expected) in [(idevid, [23, 23, 23]), (ldevid, [23, 21, 23])] {
+        for (kind, expected) in (0x40..=0x42).zip(expected) {
+            let mut b = b.clone();
+            let other = b.party(0);
+            let (desk, desk_private) = n.desk(kind);
+            let parent = (parent.private, parent.certificate);
+            let a = attested_terms(&mut b, 2000, new_key(kind), parent, desk_private);
+            let own_attest = b.signature(a.attest, a.private);
+            b.hold(other, a.private);
+            b.act(0x32, other, own_attest);
+            b.send(other, n.device, own_attest);
+            b.act(0x31, n.device, a.signed_attest);
+            b.act(0x36, n.device, a.csr);
+            b.send(n.device, other, a.csr);
+            b.act(0x30, other, a.csr_hash);
+            b.act(0x31, other, a.csr_signature);
+            b.act(0x37, other, a.request);
+            let sent = b.send(other, desk, a.request);
+            assert_eq!(b.outcome(sent), 0);
+            let last = b.issue(kind, desk, a.request, a.certificate);
+            refused_cleanly(&b, last, expected);
+        }
+    }
+}
+
+#[test]
+fn idevid_by_another_oem_desk() {
+    // The parent is signed by an OEM desk, not by this one.
+    let (mut b, n, _, a) = attested_asked(0x41);
+    let second = b.party(2);
+    let key = b.private(70, CA);
+    let certificate = b.certificate(a.public, DEV, 200, key);
+    b.hold(second, key);
+    b.desk_key(second, key);
+    b.send(n.device, second, a.request);
+    let last = b.issue(0x41, second, a.request, a.certificate);
+    refused_cleanly(&b, last, 27);
+    for (desk, r) in [(second, certificate), (n.oem, a.certificate)] {
+        let last = b.issue(0x41, desk, a.request, r);
+        assert_eq!(b.outcome(last), 0);
+    }
+}
+
+#[test]
+fn issue_attested_result() {
+    for kind in 0x40..=0x42 {
+        let (mut b, n, desk, a) = attested_asked(kind);
+        let (_, desk_private) = n.desk(kind);
+        let other_private = if kind == 0x41 {
+            n.owner_private
+        } else {
+            n.oem_private
+        };
+        let wrong_key = b.certificate(n.ek, DEV, 200, desk_private);
+        let wrong_number = b.certificate(a.public, DEV, 201, desk_private);
+        let wrong_subject = b.certificate(a.public, TPM, 200, desk_private);
+        let wrong_signer = b.certificate(a.public, DEV, 200, other_private);
+        for r in [
+            wrong_key,
+            wrong_number,
+            wrong_subject,
+            wrong_signer,
+            n.iak_certificate,
+        ] {
+            let last = b.issue(kind, desk, a.request, r);
+            refused_cleanly(&b, last, 27);
+        }
+    }
+}
+
+/// Asks for a certificate of a key under another parent.
+fn try_again(
+    b: &mut Build,
+    n: &Names,
+    kind: u8,
+    a: &Attested,
+    parent: (u16, u16),
+    r: u16,
+) -> usize {
+    let attest = b.signature(a.attest, parent.0);
+    let csr = b.ldevid(attest, parent.1);
+    b.act(0x32, n.device, attest);
+    try_attested(b, n, kind, csr, a.private, r)
+}
+
+#[test]
+fn issued_already_under_another_parent() {
+    // Under another IAK of the board.
+    let (mut b, n, issued) = board();
+    let [lak, idevid, ldevid] = issued;
+    let second = another_iak(&mut b, &n, 500, 200);
+    let parent = (second.iak_private, second.iak_certificate);
+    for (kind, a) in (0x40..=0x42).zip(issued) {
+        let at = try_again(&mut b, &n, kind, &a, parent, a.certificate);
+        refused_cleanly(&b, at, 28);
+    }
+    // Under the LAK; 21 and 23 come before.
+    let parent = (lak.private, lak.certificate);
+    let at = try_again(&mut b, &n, 0x42, &ldevid, parent, ldevid.certificate);
+    refused_cleanly(&b, at, 28);
+    let at = try_again(&mut b, &n, 0x41, &idevid, parent, idevid.certificate);
+    refused_cleanly(&b, at, 21);
+    let parent = (idevid.private, idevid.certificate);
+    let at = try_again(&mut b, &n, 0x42, &ldevid, parent, ldevid.certificate);
+    refused_cleanly(&b, at, 23);
+    // Under an IAK of another Subject another certificate is called for.
+    let third = another_iak(&mut b, &n, 501, 300);
+    let parent = (third.iak_private, third.iak_certificate);
+    for (kind, a) in (0x40..=0x42).zip(issued) {
+        let mut b = b.clone();
+        let other = b.certificate(a.public, DEV, 300, n.desk(kind).1);
+        let at = try_again(&mut b, &n, kind, &a, parent, other);
+        assert_eq!(b.outcome(at), 0);
+    }
+    let at = try_again(&mut b, &n, 0x41, &idevid, parent, idevid.certificate);
+    refused_cleanly(&b, at, 27);
 }
 
 #[test]
 fn issued_already_before_too_deep() {
-    // At depth 9 a certificate that is in the ledger already: 28. The LAK of
-    // depth 2 asks again, certified by the LAK of depth 8.
+    // At depth 9 a certificate that is in the ledger already: 28. The keys of
+    // depth 2 ask again, certified by the LAK of depth 8.
     let (mut b, n, _, laks) = chain(7);
-    let first = laks[0];
-    let last = laks[6];
-    let attest = b.signature(first.attest, last.private);
-    let csr = b.ldevid(attest, last.certificate);
-    b.act(0x32, n.device, attest);
-    let at = try_lak(&mut b, &n, csr, first.private, first.certificate);
-    refused_cleanly(&b, at, 28);
+    let iak = (n.iak_private, n.iak_certificate);
+    let (_, ldevid) = enrol(&mut b, &n, 0x42, 2000, iak);
+    let parent = (laks[6].private, laks[6].certificate);
+    for (kind, a) in [(0x40, laks[0]), (0x42, ldevid)] {
+        let at = try_again(&mut b, &n, kind, &a, parent, a.certificate);
+        refused_cleanly(&b, at, 28);
+    }
 }
 
 #[test]
@@ -643,9 +809,15 @@ fn lak_may_be_its_own_certifier() {
     let attest = b.attest(n.iak);
     let signed = b.signature(attest, n.iak_private);
     let csr = b.ldevid(signed, n.iak_certificate);
-    let r = b.certificate(n.iak, DEV, 200, n.owner_private);
+    let by_owner = b.certificate(n.iak, DEV, 200, n.owner_private);
     b.act(0x32, n.device, signed);
-    let at = try_lak(&mut b, &n, csr, n.iak_private, r);
+    // An IDevID or LDevID it cannot be.
+    for (kind, r) in [(0x41, n.iak_certificate), (0x42, by_owner)] {
+        let mut b = b.clone();
+        let at = try_attested(&mut b, &n, kind, csr, n.iak_private, r);
+        refused_cleanly(&b, at, 23);
+    }
+    let at = try_attested(&mut b, &n, 0x40, csr, n.iak_private, by_owner);
     assert_eq!(b.outcome(at), 0);
     assert_eq!(b.run().ledger[1].depth, 2);
 }

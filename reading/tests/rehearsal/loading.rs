@@ -89,7 +89,7 @@ fn unknown_kinds() {
         .into_iter()
         .chain(0x10..=0x1A)
         .chain(0x20..=0x22)
-        .chain(0x30..=0x40)
+        .chain(0x30..=0x42)
         .collect();
     for kind in 0..=255u8 {
         let (number, place) = refused(&[0x01, 0x00, kind]);
@@ -133,6 +133,8 @@ fn body_lengths() {
         (0x3E, 5),
         (0x3F, 6),
         (0x40, 5),
+        (0x41, 5),
+        (0x42, 5),
     ];
     for (kind, length) in lengths {
         let mut record = vec![kind];
@@ -151,6 +153,25 @@ fn body_lengths() {
             assert_eq!(refused(&record), (3, 3));
         }
     }
+}
+
+#[test]
+fn last_kinds() {
+    // 42 is the last kind; a body of 41 or 42 cut at any byte is 4.
+    let (b, n, [_, idevid, ldevid]) = board();
+    let start = b.bytes().len() as u32;
+    for (kind, desk, a) in [(0x41, n.oem, idevid), (0x42, n.owner, ldevid)] {
+        let mut b = b.clone();
+        b.issue(kind, desk, a.request, a.certificate);
+        let file = b.bytes();
+        loads(&file);
+        for cut in 1..=5 {
+            assert_eq!(refused(&file[..file.len() - cut]), (4, start));
+        }
+    }
+    let mut b = b.clone();
+    b.issue(0x43, n.owner, ldevid.request, ldevid.certificate);
+    assert_eq!(refused(&b.bytes()), (3, start));
 }
 
 #[test]
@@ -736,9 +757,16 @@ fn command_fields() {
     for t in o.of {
         let mut b = o.b.clone();
         b.challenge(0, t, credential);
-        b.issue_lak(0, t, certificate);
+        for kind in 0x40..=0x42 {
+            b.issue(kind, 0, t, certificate);
+        }
         loads(&b.bytes());
-        for (kind, only) in [(0x3E, credential), (0x40, certificate)] {
+        for (kind, only) in [
+            (0x3E, credential),
+            (0x40, certificate),
+            (0x41, certificate),
+            (0x42, certificate),
+        ] {
             let mut b = o.b.clone();
             b.check(kind, 0, public, t);
             if t == only {
@@ -769,6 +797,12 @@ fn command_fields() {
         &[0x3F, 0, 0, 0, 11, 0, 0],
         &[0x40, 0, 0, 11, 0, 0],
         &[0x40, 0, 0, 0, 0, 11],
+        &[0x41, 1, 0, 0, 0, 0],
+        &[0x41, 0, 0, 11, 0, 0],
+        &[0x41, 0, 0, 0, 0, 11],
+        &[0x42, 1, 0, 0, 0, 0],
+        &[0x42, 0, 0, 11, 0, 0],
+        &[0x42, 0, 0, 0, 0, 11],
     ] {
         let mut b = o.b.clone();
         b.raw(record);

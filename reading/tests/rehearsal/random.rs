@@ -15,6 +15,37 @@ impl Dice {
     }
 }
 
+/// The two bytes at a place of the file.
+fn two(file: &[u8], place: usize) -> u16 {
+    u16::from_be_bytes([file[place], file[place + 1]])
+}
+
+/// The attributes of a certificate's key and the role that its signer was
+/// given to, read from the file.
+fn key_and_signer(file: &[u8], ran: &Ran, certificate: u16) -> (u8, u8) {
+    let place = |t| usize::from(two(&ran.term(t), 6));
+    let at = place(certificate);
+    let attributes = file[place(two(file, at + 1)) + 3];
+    // A desk's key is FixedTPM, so that its one holder is the desk.
+    let holder = ran.term(two(file, at + 6))[1].trailing_zeros() as usize;
+    (attributes, file[2 * holder + 1])
+}
+
+/// An entry is of one of the four families.
+fn check_entry(file: &[u8], ran: &Ran, entry: &Entry) {
+    let certificate = key_and_signer(file, ran, entry.certificate);
+    let parent = key_and_signer(file, ran, entry.parent);
+    match (certificate, parent) {
+        // 3F, 41.
+        ((AK, 2), (EK, 1)) => assert_eq!(entry.depth, 1),
+        ((ID, 2), (AK, 2)) => assert_eq!(entry.depth, 2),
+        // 40, 42.
+        ((AK | ID, 3), (AK, 2)) => assert_eq!(entry.depth, 2),
+        ((AK | ID, 3), (AK, 3)) => assert!((3..=8).contains(&entry.depth)),
+        both => panic!("{both:?}"),
+    }
+}
+
 fn check(file: &[u8], n: usize) {
     let ran = run_bytes(file, n);
     let mut state = vec![1; STATE_BYTES];
@@ -42,6 +73,7 @@ fn check(file: &[u8], n: usize) {
             }
             assert_eq!(run_bytes(file, 0).state, state);
             for entry in &ran.ledger[..issued as usize] {
+                check_entry(file, &ran, entry);
                 let mut list = vec![0; LIST_PLACES];
                 let mut again = ran.clone();
                 let answer = path(
@@ -68,7 +100,7 @@ fn noise() {
         .into_iter()
         .chain(0x10..=0x1A)
         .chain(0x20..=0x22)
-        .chain(0x30..=0x40)
+        .chain(0x30..=0x42)
         .collect();
     for _ in 0..2000 {
         let length = dice.roll(60);
@@ -86,20 +118,20 @@ fn noise() {
 #[test]
 fn honest_files_with_changed_bytes() {
     let mut dice = Dice(0xFEED_F00D_0000_0001);
-    let (b, ..) = chain(2);
-    let good = b.bytes();
-    check(&good, usize::MAX);
-    for _ in 0..3000 {
-        let mut file = good.clone();
-        for _ in 0..=dice.roll(2) {
-            let at = dice.roll(file.len() as u64) as usize;
-            file[at] = match dice.roll(3) {
-                0 => dice.roll(4) as u8,
-                1 => dice.roll(48) as u8,
-                _ => file[at] ^ (1 << dice.roll(8)),
-            };
+    for good in [chain(2).0.bytes(), board().0.bytes()] {
+        check(&good, usize::MAX);
+        for _ in 0..3000 {
+            let mut file = good.clone();
+            for _ in 0..=dice.roll(2) {
+                let at = dice.roll(file.len() as u64) as usize;
+                file[at] = match dice.roll(3) {
+                    0 => dice.roll(4) as u8,
+                    1 => dice.roll(0x44) as u8,
+                    _ => file[at] ^ (1 << dice.roll(8)),
+                };
+            }
+            check(&file, usize::MAX);
         }
-        check(&file, usize::MAX);
     }
 }
 
@@ -116,5 +148,64 @@ fn honest_terms_with_random_commands() {
             b.send(party, dice.roll(4) as u8, t);
         }
         check(&b.bytes(), usize::MAX);
+    }
+}
+
+#[test]
+fn requests_at_random_desks() {
+    // Keys of 0A and 0B hex, under every kind of parent, each asked for at
+    // every desk by every command.
+    let mut dice = Dice(0x0A0B_0C0D_0E0F_0102);
+    let (mut base, n, issued) = board();
+    let second = another_iak(&mut base, &n, 500, 200);
+    let iaks = [&n, &second].map(|n| (n.iak_private, n.iak_certificate));
+    let parents: Vec<(u16, u16)> = iaks
+        .into_iter()
+        .chain(issued.map(|a| (a.private, a.certificate)))
+        .collect();
+    let mut requests = Vec::new();
+    let mut certificates = Vec::new();
+    for (id, attributes) in [(2000, AK), (2001, ID)] {
+        let (public, private) = base.keys(id, attributes);
+        let attest = base.attest(public);
+        base.hold(n.device, private);
+        for (parent_private, parent) in &parents {
+            let signed = base.signature(attest, *parent_private);
+            let csr = base.ldevid(signed, *parent);
+            let hash = base.hash(csr);
+            let signature = base.signature(hash, private);
+            let request = base.pair(csr, signature);
+            base.act(0x32, n.device, signed);
+            base.act(0x36, n.device, csr);
+            base.act(0x30, n.device, hash);
+            base.act(0x31, n.device, signature);
+            base.act(0x37, n.device, request);
+            base.send(n.device, n.oem, request);
+            base.send(n.device, n.owner, request);
+            requests.push(request);
+        }
+        for signer in [n.oem_private, n.owner_private] {
+            certificates.push(base.certificate(public, DEV, 200, signer));
+        }
+    }
+    let before = base.commands();
+    let mut seen = [0; 30];
+    for _ in 0..200 {
+        let mut b = base.clone();
+        for _ in 0..40 {
+            let kind = 0x40 + dice.roll(3) as u8;
+            let desk = [n.oem, n.owner][dice.roll(2) as usize];
+            let request = requests[dice.roll(requests.len() as u64) as usize];
+            let r = certificates[dice.roll(certificates.len() as u64) as usize];
+            b.issue(kind, desk, request, r);
+        }
+        check(&b.bytes(), usize::MAX);
+        for outcome in &b.run().outcomes[before..b.commands()] {
+            seen[usize::from(*outcome)] += 1;
+        }
+    }
+    // These and no others.
+    for (outcome, count) in seen.iter().enumerate() {
+        assert_eq!(*count > 0, matches!(outcome, 0 | 13 | 21 | 23 | 27 | 28));
     }
 }

@@ -187,6 +187,95 @@ fn depth_eight_and_nine() {
     assert_eq!(ran.ledger[1].parent, n.iak_certificate);
 }
 
+/// The certificates of a path.
+fn path_of(b: &Build, certificate: u16) -> Vec<u16> {
+    let mut again = b.run();
+    let mut list = vec![0; LIST_PLACES];
+    let answer = path(
+        &b.bytes(),
+        usize::MAX,
+        &mut again.state,
+        &mut again.ledger,
+        &mut again.outcomes,
+        certificate,
+        &mut list,
+    );
+    let PathAnswer::Steps(steps) = answer else {
+        panic!("{answer:?}")
+    };
+    list[..=steps as usize].to_vec()
+}
+
+#[test]
+fn idevid_and_ldevid_of_one_board() {
+    // Beside an IAK and a LAK, all four of one Subject.
+    let (mut b, n, [lak, idevid, ldevid]) = board();
+    let iak = n.iak_certificate;
+    let ek = n.ek_certificate;
+    assert_eq!(
+        b.text(),
+        format!(
+            "I {iak} {ek} 1\nI {} {iak} 2\nI {} {iak} 2\nI {} {iak} 2\nT 34 0 4\n",
+            lak.certificate, idevid.certificate, ldevid.certificate
+        )
+    );
+    let ran = b.run();
+    for (a, desk, other) in [(idevid, n.oem, n.owner), (ldevid, n.owner, n.oem)] {
+        assert!(ran.knows(desk, a.certificate) && ran.knows(n.device, a.certificate));
+        assert!(!ran.knows(other, a.certificate));
+        assert_eq!(ran.term(a.certificate)[1..6], [0; 5]);
+        assert_eq!(path_of(&b, a.certificate), [a.certificate, iak, ek]);
+    }
+    // Another LDevID, under the LAK.
+    let parent = (lak.private, lak.certificate);
+    let (at, deeper) = enrol(&mut b, &n, 0x42, 2000, parent);
+    assert_eq!(b.outcome(at), 0);
+    let certificates = [deeper.certificate, lak.certificate, iak, ek];
+    assert_eq!(path_of(&b, deeper.certificate), certificates);
+}
+
+#[test]
+fn depths_of_idevid_and_ldevid() {
+    let (mut b, n, _, laks) = chain(7);
+    for (depth, lak) in (2..).zip(&laks) {
+        let parent = (lak.private, lak.certificate);
+        let issued = b.run().totals().2 as usize;
+        // Under a LAK of that depth: an IDevID never, an LDevID up to 8.
+        let (at, _) = enrol(&mut b, &n, 0x41, 2000 + depth, parent);
+        assert_eq!(b.outcome(at), 21);
+        let (at, ldevid) = enrol(&mut b, &n, 0x42, 3000 + depth, parent);
+        if depth == 8 {
+            assert_eq!(b.outcome(at), 29);
+            continue;
+        }
+        assert_eq!(b.outcome(at), 0);
+        assert_eq!(
+            b.run().ledger[issued],
+            Entry {
+                certificate: ldevid.certificate,
+                parent: lak.certificate,
+                depth: depth + 1
+            }
+        );
+    }
+    // An IDevID stands at depth 2, under each IAK.
+    let second = another_iak(&mut b, &n, 500, 200);
+    for (id, n) in [(4000, &n), (4001, &second)] {
+        let issued = b.run().totals().2 as usize;
+        let parent = (n.iak_private, n.iak_certificate);
+        let (at, idevid) = enrol(&mut b, n, 0x41, id, parent);
+        assert_eq!(b.outcome(at), 0);
+        assert_eq!(
+            b.run().ledger[issued],
+            Entry {
+                certificate: idevid.certificate,
+                parent: n.iak_certificate,
+                depth: 2
+            }
+        );
+    }
+}
+
 #[test]
 fn hash_of_an_attest_signed_by_a_restricted_key() {
     let mut b = Build::default();

@@ -1,11 +1,10 @@
 use borrow.Author.Needs.{needs}
-use mathlib.Core.Path.{refl}
 use Prim.Native.Nat.{_+_}
 use native.Mathlib.Omega.{arith}
 use denote.Ref.{now}
-use Rattle.rules.specs.File.{challenge, issueLak}
-use Rattle.lookup.proofs.Fields.{four-bytes, two-read, known-as, challenge-there, issue-iak-there, issue-lak-there}
-use Rattle.desk.proofs.Places.{lak-kind, iak-bytes, two-bytes, issue-read, decided-as}
+use Rattle.rules.specs.File.{challenge}
+use Rattle.lookup.proofs.Fields.{four-bytes, two-read, known-as, challenge-there, issue-iak-there}
+use Rattle.desk.proofs.Places.{issue-as, iak-bytes, two-bytes, issue-read, decided-as}
 use Rattle.desk.proofs.decide.Statement.{statement}
 use Rattle.desk.proofs.decide.Tie as tie
 
@@ -90,17 +89,20 @@ returns-2 c =
     let e = two-read challenge (challenge-there _ _ (c .before .if2 .taken)) (c .before .before .before .word-at3 .ensures) (c .before .before .word-at4 .ensures) in
     decided-as _ _ e (now (c .before .before .before .before .before .before .before .before .before .args .state)) _ _ _ (λ n ledger h. c .decide-challenge .ensures ledger)
 
-decide-issue-lak-requires : tie.Need-decide-issue-lak-requires
-decide-issue-lak-requires c κs =
-    let p = c .before .before .before .before .before .before .before .before .pre in
-    let e = two-read issueLak (issue-lak-there _ _ (lak-kind (p .3) (p .4) (c .before .before .before .if1 .left) (c .if2 .left))) (c .before .before .word-at3 .ensures) (c .before .word-at4 .ensures) in
+family-of-requires : tie.Need-family-of-requires
+family-of-requires c κs = search needs
+
+decide-issue-requires : tie.Need-decide-issue-requires
+decide-issue-requires c κs =
+    let p = c .before .before .before .before .before .before .before .before .before .pre in
+    let e = issue-as (p .3) (p .4) (c .before .before .before .before .if1 .left) (c .before .if2 .left) (c .family-of .ensures) (c .before .before .before .word-at3 .ensures) (c .before .before .word-at4 .ensures) in
     (p .0, p .1, p .2, known-as (p .3) e, p .5, p .7)
 
 returns-3 : tie.Need-returns-3
 returns-3 c =
-    let p = c .before .before .before .before .before .before .before .before .before .pre in
-    let e = two-read issueLak (issue-lak-there _ _ (lak-kind (p .3) (p .4) (c .before .before .before .before .if1 .left) (c .before .if2 .left))) (c .before .before .before .word-at3 .ensures) (c .before .before .word-at4 .ensures) in
-    decided-as _ _ e (now (c .before .before .before .before .before .before .before .before .before .args .state)) _ _ _ (c .decide-issue-lak .ensures)
+    let p = c .before .before .before .before .before .before .before .before .before .before .pre in
+    let e = issue-as (p .3) (p .4) (c .before .before .before .before .before .if1 .left) (c .before .before .if2 .left) (c .before .family-of .ensures) (c .before .before .before .before .word-at3 .ensures) (c .before .before .before .word-at4 .ensures) in
+    decided-as _ _ e (now (c .before .before .before .before .before .before .before .before .before .before .args .state)) _ _ _ (c .decide-issue .ensures)
 
 pub decide-spec : {M : Type 1} → statement M
 decide-spec =
@@ -129,5 +131,6 @@ decide-spec =
     cast-r-2
     decide-challenge-requires
     returns-2
-    decide-issue-lak-requires
+    family-of-requires
+    decide-issue-requires
     returns-3)

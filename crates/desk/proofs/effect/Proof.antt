@@ -2,10 +2,10 @@ use borrow.Author.Needs.{needs}
 use mathlib.Core.Path.{refl}
 use Prim.Native.Nat.{_+_}
 use native.Mathlib.Omega.{arith}
-use Rattle.rules.specs.File.{challenge, issueLak}
-use Rattle.lookup.proofs.Fields.{four-bytes, two-read, known-as, challenge-there, issue-iak-there, issue-lak-there}
+use Rattle.rules.specs.File.{challenge}
+use Rattle.lookup.proofs.Fields.{four-bytes, two-read, known-as, challenge-there, issue-iak-there}
 use Rattle.desk.proofs.Issued.{iak-open}
-use Rattle.desk.proofs.Places.{lak-kind, iak-bytes, two-bytes, issue-read, accepts-as, issues-as, challenge-as}
+use Rattle.desk.proofs.Places.{issue-as, iak-bytes, two-bytes, issue-read, accepts-as, issues-as, challenge-as}
 use Rattle.desk.proofs.effect.Statement.{statement}
 use Rattle.desk.proofs.effect.Tie as tie
 
@@ -91,11 +91,11 @@ returns-2 c =
     let e = two-read challenge (challenge-there _ _ (c .before .before .before .before .if2 .taken)) (c .before .before .before .before .before .before .word-at3 .ensures) (c .before .before .before .before .before .word-at4 .ensures) in
     challenge-as _ _ e (c .before .before .effect-challenge .ensures)
 
-effect-issue-lak-requires : tie.Need-effect-issue-lak-requires
-effect-issue-lak-requires c κs =
+effect-issue-requires : tie.Need-effect-issue-requires
+effect-issue-requires c κs =
     let p = c .before .before .before .before .before .before .before .before .before .before .before .pre in
-    let e = two-read issueLak (issue-lak-there _ _ (lak-kind (p .command) (p .isDesk) (c .before .before .before .before .before .before .if1 .left) (c .before .before .before .if2 .left))) (c .before .before .before .before .before .word-at3 .ensures) (c .before .before .before .before .word-at4 .ensures) in
-    (p .holds, known-as (p .command) e, accepts-as _ _ e (p .accepts), p .keys, p .parents)
+    let e = issue-as (p .command) (p .isDesk) (c .before .before .before .before .before .before .if1 .left) (c .before .before .before .if2 .left) refl (c .before .before .before .before .before .word-at3 .ensures) (c .before .before .before .before .word-at4 .ensures) in
+    (p .holds, record { family = _; wellformed = known-as (p .command) e; accepts = accepts-as _ _ e (p .accepts); words = p .keys; parents = p .parents })
 
 add-result-2 : tie.Need-add-result-2
 add-result-2 c = search needs
@@ -106,8 +106,8 @@ same-length-3 c = search needs
 returns-3 : tie.Need-returns-3
 returns-3 c =
     let p = c .before .before .before .before .before .before .before .before .before .before .before .before .before .before .pre in
-    let e = two-read issueLak (issue-lak-there _ _ (lak-kind (p .command) (p .isDesk) (c .before .before .before .before .before .before .before .before .before .if1 .left) (c .before .before .before .before .before .before .if2 .left))) (c .before .before .before .before .before .before .before .before .word-at3 .ensures) (c .before .before .before .before .before .before .before .word-at4 .ensures) in
-    issues-as _ _ e (c .before .before .effect-issue-lak .ensures)
+    let e = issue-as (p .command) (p .isDesk) (c .before .before .before .before .before .before .before .before .before .if1 .left) (c .before .before .before .before .before .before .if2 .left) refl (c .before .before .before .before .before .before .before .before .word-at3 .ensures) (c .before .before .before .before .before .before .before .word-at4 .ensures) in
+    issues-as _ _ e (c .before .before .effect-issue .ensures _)
 
 pub effect-spec : {M : Type 1} → statement M
 effect-spec =
@@ -136,7 +136,7 @@ effect-spec =
     effect-challenge-requires
     same-length-2
     returns-2
-    effect-issue-lak-requires
+    effect-issue-requires
     add-result-2
     same-length-3
     returns-3)

@@ -70,7 +70,15 @@ returns-16 c = sym (ap bodyLength (c .match .keys16))
 
 returns-17 : tie.Need-returns-17
 unfolding bodyLength fieldsOf sectionOf widths width
-returns-17 c = sym (ap bodyLength (last-arm (c .before .args .kind) 0x30 16 (c .match .rest) (c .before .pre .0) (c .before .pre .1)))
+returns-17 c = sym (ap bodyLength (c .match .keys17))
+
+returns-18 : tie.Need-returns-18
+unfolding bodyLength fieldsOf sectionOf widths width
+returns-18 c = sym (ap bodyLength (c .match .keys18))
+
+returns-19 : tie.Need-returns-19
+unfolding bodyLength fieldsOf sectionOf widths width
+returns-19 c = sym (ap bodyLength (last-arm (c .before .args .kind) 0x30 18 (c .match .rest) (c .before .pre .0) (c .before .pre .1)))
 
 pub command-length-spec : {M : Type 1} → statement M
 command-length-spec =
@@ -92,4 +100,6 @@ command-length-spec =
     returns-14
     returns-15
     returns-16
-    returns-17)
+    returns-17
+    returns-18
+    returns-19)

@@ -1,8 +1,8 @@
 use mathlib.Core.Path.{_≡_, refl, sym, ap}
-use Prim.Native.Nat.{ℕ, _+_, _<_, _≤_}
+use Prim.Native.Nat.{ℕ, _+_, _-_, _<_, _≤_}
 use native.Mathlib.Omega.{arith}
 use borrow.Author.Tests.{ne-eqb, lt-leb}
-use Rattle.rules.specs.Record.{sectionOf}
+use Rattle.rules.specs.Record.{kindCount, sectionOf}
 use Rattle.records.proofs.EachKind.{values, agree, section-past}
 use Rattle.records.proofs.section_of.Statement.{statement}
 use Rattle.records.proofs.section_of.Tie as tie
@@ -25,7 +25,7 @@ returns-3 c = within 3 0x20 3 refl (c .before .before .before .before .before .a
 
 returns-4 : tie.Need-returns-4
 unfolding sectionOf
-returns-4 c = within 4 0x30 17 refl (c .before .before .before .before .before .before .before .args .kind) (omega arith) (omega arith)
+returns-4 c = within 4 0x30 (kindCount - 0x30) refl (c .before .before .before .before .before .before .before .args .kind) (omega arith) (omega arith)
 
 returns-5 : tie.Need-returns-5
 unfolding sectionOf

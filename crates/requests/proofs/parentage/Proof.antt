@@ -1,14 +1,12 @@
-use borrow.Author.Needs.{needs}
 use borrow.Author.Tests.{not-true, not-false}
-use mathlib.Core.Path.{_≡_, refl, sym, ap, _∙_}
-use mathlib.Core.Bool.{true, _||_}
+use mathlib.Core.Path.{_≡_, refl, sym, _∙_}
+use mathlib.Core.Bool.{true}
 use mathlib.Core.List.{List, _∷_}
 use native.Mathlib.Omega.{arith}
 use denote.Ref.{now}
-use Rattle.rules.specs.Limits.{oemDesk, ownerDesk}
 use Rattle.rules.specs.Refusals.{Test, need}
-use Rattle.rules.specs.Attributes.{sameAttributes, iakAttributes}
-use Rattle.rules.specs.File.{attributes, paired, signsForRole}
+use Rattle.rules.specs.Attributes.{sameAttributes}
+use Rattle.rules.specs.File.{attributes, paired, signsForSome}
 use Rattle.loaded.specs.Chain.{chain}
 use Rattle.loaded.specs.Loaded.{fileIn}
 use Rattle.loaded.proofs.Chain.{chain-none, chain-passes, chain-fails}
@@ -33,8 +31,8 @@ passes-1 c =
     let p = c .before .before .before .before .pre in
     pair-read (p .1) (p .5) (p .3) refl (c .before .is-half .ensures) (not-false _ (c .if1 .left))
 
-signs-for-desk-requires : tie.Need-signs-for-desk-requires
-signs-for-desk-requires c κs =
+signs-for-some-requires : tie.Need-signs-for-some-requires
+signs-for-some-requires c κs =
     let p = c .before .before .before .before .pre in
     let few = checked-here (p .0) .fewTerms in
     (checked-here (p .0), p .1, p .2, (λ i l. party-here (p .0) (omega (arith, l, p .2))), omega (arith, few, p .6))
@@ -42,52 +40,41 @@ signs-for-desk-requires c κs =
 returns-2 : tie.Need-returns-2
 returns-2 c =
     sym (chain-passes 20 _ _ (passes-1 (c .before .before))
-    ∙ chain-fails 21 _ _ (sym (c .before .signs-for-desk .ensures) ∙ not-true _ (c .if2 .taken)))
+    ∙ chain-fails 21 _ _ (sym (c .before .signs-for-some .ensures) ∙ not-true _ (c .if2 .taken)))
 
-passes-2 : (c : tie.Else2) → let a = c .before .before .before .before .before .before .args in (signsForRole (fileIn (now (a .file))) oemDesk (a .certificate .signer) || signsForRole (fileIn (now (a .file))) ownerDesk (a .certificate .signer)) ≡ true
-passes-2 c = sym (c .before .signs-for-desk .ensures) ∙ not-false _ (c .if2 .left)
-
-iak-requires : tie.Need-iak-requires
-iak-requires c κs = search needs
+passes-2 : (c : tie.Else2) → let a = c .before .before .before .before .before .before .args in signsForSome (fileIn (now (a .file))) (a .family .signers) (a .certificate .signer) ≡ true
+passes-2 c = sym (c .before .signs-for-some .ensures) ∙ not-false _ (c .if2 .left)
 
 has-exactly-requires : tie.Need-has-exactly-requires
-has-exactly-requires c κs = let p = c .before .before .before .before .before .before .before .pre in term-here (p .0) (p .4)
+has-exactly-requires c κs = let p = c .before .before .before .before .before .before .pre in term-here (p .0) (p .4)
 
 returns-3 : tie.Need-returns-3
 returns-3 c =
-    let a = c .before .before .before .before .before .before .before .before .before .args in
-    sym (chain-passes 20 _ _ (passes-1 (c .before .before .before .before .before))
-    ∙ chain-passes 21 _ _ (passes-2 (c .before .before .before))
-    ∙ chain-fails 23 _ _ (ap (sameAttributes (attributes (fileIn (now (a .file))) (a .lak))) (sym (c .before .before .iak .ensures)) ∙ sym (c .before .has-exactly .ensures) ∙ not-true _ (c .if3 .taken)))
+    sym (chain-passes 20 _ _ (passes-1 (c .before .before .before .before))
+    ∙ chain-passes 21 _ _ (passes-2 (c .before .before))
+    ∙ chain-fails 23 _ _ (sym (c .before .has-exactly .ensures) ∙ not-true _ (c .if3 .taken)))
 
-passes-3 : (c : tie.Else3) → let a = c .before .before .before .before .before .before .before .before .before .args in sameAttributes (attributes (fileIn (now (a .file))) (a .lak)) iakAttributes ≡ true
-passes-3 c =
-    let a = c .before .before .before .before .before .before .before .before .before .args in
-    ap (sameAttributes (attributes (fileIn (now (a .file))) (a .lak))) (sym (c .before .before .iak .ensures)) ∙ sym (c .before .has-exactly .ensures) ∙ not-false _ (c .if3 .left)
-
-iak-requires-2 : tie.Need-iak-requires-2
-iak-requires-2 c κs = search needs
+passes-3 : (c : tie.Else3) → let a = c .before .before .before .before .before .before .before .before .args in sameAttributes (attributes (fileIn (now (a .file))) (a .new)) (a .family .key) ≡ true
+passes-3 c = sym (c .before .has-exactly .ensures) ∙ not-false _ (c .if3 .left)
 
 has-exactly-requires-2 : tie.Need-has-exactly-requires-2
-has-exactly-requires-2 c κs = let p = c .before .before .before .before .before .before .before .before .before .before .pre in term-here (p .0) (p .5)
+has-exactly-requires-2 c κs = let p = c .before .before .before .before .before .before .before .before .pre in term-here (p .0) (p .5)
 
 -- the tests but for the last
-first-three : (c : tie.Else3) (xs : List Test) → let a = c .before .before .before .before .before .before .before .before .before .args in
-    chain (need 20 (paired (fileIn (now (a .file))) (a .certificate .key) (a .half)) ∷ need 21 (signsForRole (fileIn (now (a .file))) oemDesk (a .certificate .signer) || signsForRole (fileIn (now (a .file))) ownerDesk (a .certificate .signer)) ∷ need 23 (sameAttributes (attributes (fileIn (now (a .file))) (a .lak)) iakAttributes) ∷ xs) ≡ chain xs
-first-three c xs = chain-passes 20 _ _ (passes-1 (c .before .before .before .before .before)) ∙ chain-passes 21 _ _ (passes-2 (c .before .before .before)) ∙ chain-passes 23 _ _ (passes-3 c)
+first-three : (c : tie.Else3) (xs : List Test) → let a = c .before .before .before .before .before .before .before .before .args in
+    chain (need 20 (paired (fileIn (now (a .file))) (a .certificate .key) (a .half)) ∷ need 21 (signsForSome (fileIn (now (a .file))) (a .family .signers) (a .certificate .signer)) ∷ need 23 (sameAttributes (attributes (fileIn (now (a .file))) (a .new)) (a .family .key)) ∷ xs) ≡ chain xs
+first-three c xs = chain-passes 20 _ _ (passes-1 (c .before .before .before .before)) ∙ chain-passes 21 _ _ (passes-2 (c .before .before)) ∙ chain-passes 23 _ _ (passes-3 c)
 
 returns-4 : tie.Need-returns-4
 returns-4 c =
-    let a = c .before .before .before .before .before .before .before .before .before .before .before .before .args in
-    sym (first-three (c .before .before .before) _
-    ∙ chain-fails 23 _ _ (ap (sameAttributes (attributes (fileIn (now (a .file))) (a .certificate .key))) (sym (c .before .before .iak2 .ensures)) ∙ sym (c .before .has-exactly2 .ensures) ∙ not-true _ (c .if4 .taken)))
+    sym (first-three (c .before .before) _
+    ∙ chain-fails 23 _ _ (sym (c .before .has-exactly2 .ensures) ∙ not-true _ (c .if4 .taken)))
 
 returns-5 : tie.Need-returns-5
 returns-5 c =
-    let a = c .before .before .before .before .before .before .before .before .before .before .before .before .args in
-    sym (first-three (c .before .before .before) _
-    ∙ chain-passes 23 _ _ (ap (sameAttributes (attributes (fileIn (now (a .file))) (a .certificate .key))) (sym (c .before .before .iak2 .ensures)) ∙ sym (c .before .has-exactly2 .ensures) ∙ not-false _ (c .if4 .left))
+    sym (first-three (c .before .before) _
+    ∙ chain-passes 23 _ _ (sym (c .before .has-exactly2 .ensures) ∙ not-false _ (c .if4 .left))
     ∙ chain-none)
 
 pub parentage-spec : {M : Type 1} → statement M
-parentage-spec = tie.close (tie.spec is-half-requires returns signs-for-desk-requires returns-2 iak-requires has-exactly-requires returns-3 iak-requires-2 has-exactly-requires-2 returns-4 returns-5)
+parentage-spec = tie.close (tie.spec is-half-requires returns signs-for-some-requires returns-2 has-exactly-requires returns-3 has-exactly-requires-2 returns-4 returns-5)

@@ -1,0 +1,138 @@
+-- The laws of families: by what a row of the table has, and by demand 3.
+--     signed-once, maker-signed     who signed a certificate; a TPM maker signed an endorsement certificate
+--     parent-key                    the key of a parent has the attributes that the family asks for
+--     may-maker, may-oem            a role that is the only one that may sign
+--     family-laws                   the laws
+-- Assumes nothing.
+use mathlib.Core.Path.{_≡_, refl, sym, ap, subst, _∙_}
+use mathlib.Core.Logic.{⊎-elim}
+use mathlib.Core.Bool.{Bool, true, false, false≢true, cond}
+use mathlib.Core.List.{List, List·Memᴰ, List·Memᴰ·head}
+use Prim.Native.Nat.{ℕ, suc}
+use native.Mathlib.Omega.{arith}
+use lib.Dec.{eqb}
+use borrow.Author.Tests.{eqb-true}
+use Rattle.rules.specs.declared.Entry.{Entry}
+use Rattle.rules.specs.declared.Family.{Family}
+use Rattle.rules.specs.Limits.{tpmMaker, oemDesk, ownerDesk}
+use Rattle.rules.specs.Attributes.{sameAttributes}
+use Rattle.rules.specs.Term.{publicKeyKind, numberKind, certificateKind}
+use Rattle.rules.specs.Families.{tpmMakers, oemDesks, iakFamily, idevidFamily, families}
+use Rattle.rules.specs.File.{File, signsWith, challenge, issue, roleOf, attributes, certifiedKey, signer}
+use Rattle.rules.specs.Load.{loaded, load}
+use Rattle.rules.specs.Desk.{ekOf}
+use Rattle.rules.specs.Run.{reached}
+use Rattle.theorems.specs.Residency.{SignedBy, EntryAt, Parent, ofIak, onRequest, Endorsement, OfFamily, Sound}
+use Rattle.theorems.specs.FamilyLaws.{OneFamily, NeverParent, FamilyLaws}
+use Rattle.theorems.proofs.FamilyRows.{barren, no-child, family-row, one-row, may, Signer, some-signer}
+use Rattle.theorems.proofs.Loading.{Checked, checked}
+use Rattle.theorems.proofs.Terms.{signs-role-given}
+use Rattle.theorems.proofs.Running.{command-member}
+use Rattle.theorems.proofs.DeviceSteps.{signer-alone}
+use Rattle.theorems.proofs.DeskSteps.{challenge-ek, issue-family}
+use Rattle.theorems.proofs.Reaching.{reached-invariant}
+use Rattle.theorems.proofs.Demand3.{demand3}
+
+module _ (f : File) (ck : Checked f) where
+  -- one party signs with a key
+  signed-once : (p m k : ℕ) → List·Memᴰ (signsWith p k) (f .setup) → List·Memᴰ (signsWith m k) (f .setup) → roleOf f p ≡ roleOf f m
+  signed-once p m k g h = ap (roleOf f) (signer-alone f ck p m k h (ck .signsHeld p k g))
+
+  -- the role of who signed a family's certificate is one that may sign, where that is asked
+  may-sign : (family : Family) (t : ℕ) → SignedBy f family t → (other : Family) → (x : Signer f (other .signers) (signer f t)) → may (other .signers) (family .desk) ≡ true
+  may-sign family t s other x = ap (may (other .signers)) (sym (s .deskRole) ∙ signed-once (s .desk) (x .party) (signer f t) (s .deskKey) (x .given)) ∙ x .allowed
+
+  -- a TPM maker signed an endorsement certificate
+  maker-signed : (t : ℕ) → Endorsement f t → (other : Family) → (x : Signer f (other .signers) (signer f t)) → other .signers .maker ≡ true
+  maker-signed t e other x =
+      ⊎-elim (λ k. absurd (let z : publicKeyKind ≡ certificateKind = sym k ∙ e .isCertificate in omega arith))
+      (⊎-elim (λ k. absurd (let z : numberKind ≡ certificateKind = sym k ∙ e .isCertificate in omega arith))
+      (λ w. let g = signs-role-given f tpmMaker (signer f t) (w .2) in
+      ap (may (other .signers)) (sym (g .2) ∙ signed-once (g .0) (x .party) (signer f t) (g .1) (x .given)) ∙ x .allowed))
+      (ck .learnsAllowed (e .party) t (e .given))
+
+  parent-key : (n : ℕ) (family : Family) (t g : ℕ) → Parent f n family t g → List·Memᴰ family families × (attributes f (certifiedKey f g) ≡ family .parent)
+  unfolding ekOf
+  parent-key n family t g (ofIak i j p returning c q l a k b h e) = (
+    subst (λ (x : Family). List·Memᴰ x families) (sym h) (List·Memᴰ·head refl),
+    ap (λ (x : ℕ). attributes f (certifiedKey f x)) e
+        ∙ challenge-ek f ck (reached f j) (reached-invariant f ck j) p q c (ck .wellformed (challenge p q c) (command-member f j (challenge p q c) (b .here))) (b .zeroOutcome)
+        ∙ sym (ap (λ (x : Family). x .parent) h),
+  )
+  parent-key n family t g (onRequest i p q l a e) =
+      let o = issue-family f ck (reached f i) (reached-invariant f ck i) family p q t (ck .wellformed (issue family p q t) (command-member f i (issue family p q t) (a .here))) (a .zeroOutcome) in
+      (o .listed, ap (λ (x : ℕ). attributes f (certifiedKey f x)) e ∙ o .parentAttributes)
+
+one-family : OneFamily
+one-family bytes f e x a b c d =
+    let ck = checked bytes f e in
+    one-row a b (c .listed) (d .listed) (sym (c .keyAttributes) ∙ d .keyAttributes)
+    (sym (c .signed .deskRole) ∙ signed-once f ck (c .signed .desk) (d .signed .desk) (signer f (x .certificate)) (c .signed .deskKey) (d .signed .deskKey) ∙ d .signed .deskRole)
+
+never-parent : (family : Family) → barren family ≡ true → NeverParent family
+never-parent family h bytes f e n i x at o other t p =
+    let w = parent-key f (checked bytes f e) n other t (x .certificate) p in
+    no-child family h other (w .0) (sym (w .1) ∙ o .keyAttributes)
+
+-- a role that is the only one that may sign
+may-maker : (role : ℕ) → may tpmMakers role ≡ true → role ≡ tpmMaker
+may-maker role = go (eqb role tpmMaker) refl (eqb role oemDesk) (eqb role ownerDesk)
+  where
+    go : (a : Bool) → eqb role tpmMaker ≡ a → (b c : Bool) → cond a true (cond b false (cond c false false)) ≡ true → role ≡ tpmMaker
+    go true e b c h = eqb-true role tpmMaker e
+    go false e true c h = absurd (false≢true h)
+    go false e false true h = absurd (false≢true h)
+    go false e false false h = absurd (false≢true h)
+
+may-oem : (role : ℕ) → may oemDesks role ≡ true → role ≡ oemDesk
+may-oem role = go (eqb role tpmMaker) (eqb role oemDesk) refl (eqb role ownerDesk)
+  where
+    go : (a b : Bool) → eqb role oemDesk ≡ b → (c : Bool) → cond a false (cond b true (cond c false false)) ≡ true → role ≡ oemDesk
+    go true b e c h = absurd (false≢true h)
+    go false true e c h = eqb-true role oemDesk e
+    go false false e true h = absurd (false≢true h)
+    go false false e false h = absurd (false≢true h)
+
+module _ (bytes : List ℕ) (f : File) (loads : load bytes ≡ loaded f) (n : ℕ) where
+  ck : Checked f
+  ck = checked bytes f loads
+
+  sound-at : (i : ℕ) (e : Entry) → EntryAt f n i e → Sound f n i e
+  sound-at = demand3 bytes f loads n .sound
+
+  -- the desk that signed a listed parent is one that may sign it
+  parent-desk : (family : Family) (e g : Entry) → OfFamily f family e → (other : Family) → OfFamily f other g → g .certificate ≡ e .parent → may (family .signers) (other .desk) ≡ true
+  parent-desk family e g o other x c =
+      may-sign f ck other (e .parent) (subst (SignedBy f other) c (x .signed)) family (some-signer f (family .signers) (signer f (e .parent)) (o .parentSigned))
+
+  iak-depth : (i : ℕ) (e : Entry) → EntryAt f n i e → OfFamily f iakFamily e → e .depth ≡ 1
+  iak-depth i e at o = ⊎-elim (λ w. w .0) (λ w. absurd (below (w .1) (w .4) (sound-at (w .0) (w .1) (w .3)))) (sound-at i e at .earlier)
+    where
+      -- its parent is listed under no family, since a TPM maker signed it
+      below : (g : Entry) → g .certificate ≡ e .parent → {j : ℕ} → Sound f n j g → ⊥
+      below g c s =
+          family-row (s .family) (s .ofFamily .listed) .desk (may-maker (s .family .desk) (parent-desk iakFamily e g o (s .family) (s .ofFamily) c))
+
+  idevid-depth : (i : ℕ) (e : Entry) → EntryAt f n i e → OfFamily f idevidFamily e → e .depth ≡ 2
+  idevid-depth i e at o =
+      ⊎-elim (λ w. absurd (false≢true (maker-signed f ck (e .parent) (w .1) idevidFamily (some-signer f oemDesks (signer f (e .parent)) (o .parentSigned)))))
+      (λ w. w .5 ∙ ap suc (iak-depth (w .0) (w .1) (w .3) (iak (w .1) (w .4) (sound-at (w .0) (w .1) (w .3))))) (sound-at i e at .earlier)
+    where
+      -- an OEM desk signed its parent, and the parent's key has an IAK's attributes
+      iak : (g : Entry) → g .certificate ≡ e .parent → {j : ℕ} → Sound f n j g → OfFamily f iakFamily g
+      iak g c s =
+          subst (λ (x : Family). OfFamily f x g)
+          (one-row (s .family) iakFamily (s .ofFamily .listed) (List·Memᴰ·head refl)
+          (sym (s .ofFamily .keyAttributes) ∙ ap (λ (t : ℕ). attributes f (certifiedKey f t)) c ∙ o .parentAttributes)
+          (may-oem (s .family .desk) (parent-desk idevidFamily e g o (s .family) (s .ofFamily) c)))
+          (s .ofFamily)
+
+pub family-laws : FamilyLaws
+unfolding sameAttributes
+family-laws = record {
+  one = one-family;
+  idevidNeverParent = never-parent _ refl;
+  ldevidNeverParent = never-parent _ refl;
+  iakDepth = iak-depth;
+  idevidDepth = idevid-depth;
+}

@@ -1,0 +1,31 @@
+-- Laws of the families of issued certificates (request 1 of document 02): of every file that loads and every n.
+use mathlib.Core.Path.{_≡_}
+use mathlib.Core.List.{List}
+use Prim.Native.Nat.{ℕ}
+use Rattle.rules.specs.declared.Entry.{Entry}
+use Rattle.rules.specs.declared.Family.{Family}
+use Rattle.rules.specs.Families.{iakFamily, idevidFamily, ldevidFamily}
+use Rattle.rules.specs.File.{File}
+use Rattle.rules.specs.Load.{loaded, load}
+use Rattle.theorems.specs.Residency.{EntryAt, Parent, OfFamily}
+
+-- an entry is of one family alone
+abbrev pub OneFamily : Type 0
+OneFamily = (bytes : List ℕ) (f : File) → load bytes ≡ loaded f → (e : Entry) (a b : Family) → OfFamily f a e → OfFamily f b e → a ≡ b
+
+-- a certificate of the family is never a parent, of whatever family the other is
+abbrev pub NeverParent : Family → Type 0
+NeverParent family =
+    (bytes : List ℕ) (f : File) → load bytes ≡ loaded f → (n i : ℕ) (e : Entry) → EntryAt f n i e → OfFamily f family e
+    → (other : Family) (t : ℕ) → Parent f n other t (e .certificate) → ⊥
+
+-- every entry of the family has this depth
+abbrev pub AlwaysAt : ℕ → Family → Type 0
+AlwaysAt depth family = (bytes : List ℕ) (f : File) → load bytes ≡ loaded f → (n i : ℕ) (e : Entry) → EntryAt f n i e → OfFamily f family e → e .depth ≡ depth
+
+pub record FamilyLaws : Type 0 where
+  pub one : OneFamily
+  pub idevidNeverParent : NeverParent idevidFamily
+  pub ldevidNeverParent : NeverParent ldevidFamily
+  pub iakDepth : AlwaysAt 1 iakFamily
+  pub idevidDepth : AlwaysAt 2 idevidFamily
