@@ -10,6 +10,9 @@ const EXAMPLE: [u8; 30] = [
 /// Certificates up to depth 8, each the parent of the next.
 const CHAIN: &[u8] = include_bytes!("../../../crates/cases/data/s_depth_8");
 
+/// All four families of certificates.
+const FAMILIES: &[u8] = include_bytes!("../../../crates/cases/data/s_idevid_and_ldevid");
+
 #[test]
 fn the_example_loads() {
     let mut state = vec![0xFF; STATE_BYTES + 3];
@@ -67,6 +70,23 @@ fn a_chain_of_certificates() {
         path(CHAIN, 5, &mut state, &mut entries, &mut outcomes, last, &mut list),
         PathAnswer::Refused(Refusal { number: 30, place: last as u32 })
     );
+}
+
+/// An IAK certificate, below it those of an LAK and an IDevID, and below the LAK's that of an LDevID.
+#[test]
+fn four_families_of_one_board() {
+    let mut buffers = Buffers::new();
+    let RunAnswer::Ran { refused: 0, issued: 4, .. } = buffers.run_all(FAMILIES) else {
+        panic!("the four certificates are issued")
+    };
+    let ledger: Vec<Entry> = buffers.ledger().collect();
+    let [iak, lak, idevid, ldevid] = ledger[..] else { panic!("four entries") };
+    assert_eq!([iak.depth, lak.depth, idevid.depth, ldevid.depth], [1, 2, 2, 3]);
+    assert_eq!([lak.parent, idevid.parent, ldevid.parent], [iak.certificate, iak.certificate, lak.certificate]);
+    let steps: Vec<u16> = buffers.path(ldevid.certificate).unwrap().collect();
+    assert_eq!(steps, [ldevid.certificate, lak.certificate, iak.certificate, iak.parent]);
+    let steps: Vec<u16> = buffers.path(idevid.certificate).unwrap().collect();
+    assert_eq!(steps, [idevid.certificate, iak.certificate, iak.parent]);
 }
 
 #[test]

@@ -15,11 +15,10 @@ ghost use Rattle.rules.specs.Attributes.{sameAttributes};
 ghost use Rattle.rules.specs.Term.{credentialKind, idevidRequestKind, ldevidRequestKind, certificateKind, pairKind, isTpmSubject, isDeviceSubject};
 ghost use Rattle.rules.specs.File.{isRole, kind, message, signingKey, attestedKey, credentialTerm, credentialNumber, credentialKey, idevidCertificate, idevidKey, ldevidMessage, ldevidCertificate, certifiedKey, signer, leftOf, rightOf, subject, attributes, signsForRole, signsForSome};
 ghost use Rattle.rules.specs.Desk.{formTests, proofTests};
-ghost use Rattle.theorems.proofs.Loading.{Checked};
-ghost use Rattle.setup.specs.Allowed.{noKey};
 ghost use Rattle.tables.specs.Regions.{tablesIn};
 ghost use Rattle.loaded.specs.Chain.{chain};
 ghost use Rattle.loaded.specs.Loaded.{fileIn, Holds, Finds, PartyHere, TermHere};
+ghost use Rattle.requests.specs.Search.{Searched};
 ghost use Rattle.requests.specs.Names.{Names};
 ghost use Rattle.requests.specs.Tests.{endorsementTests, credentialTests, calledTests, attestTests, parentageTests};
 
@@ -239,7 +238,7 @@ pub fn signs_for_role(
     key: usize,
     parties: usize,
 ) -> bool
-    requires { ⌜ Checked (fileIn (now file)) × Finds (now file) (now tables) × (parties ≡ length (fileIn (now file) .roles)) × ((p : ℕ) → p < parties → PartyHere (now file) p) × (key < noKey) ⌝ }
+    requires { ⌜ Searched (now file) (now tables) parties key ⌝ }
     ensures { λ x. ⌜ x ≡ signsForRole (fileIn (now (file .entry))) role key ⌝ }
 {
     let mut p = 0;
@@ -409,7 +408,7 @@ fn signs_if(
     key: usize,
     parties: usize,
 ) -> bool
-    requires { ⌜ Checked (fileIn (now file)) × Finds (now file) (now tables) × (parties ≡ length (fileIn (now file) .roles)) × ((p : ℕ) → p < parties → PartyHere (now file) p) × (key < noKey) ⌝ }
+    requires { ⌜ Searched (now file) (now tables) parties key ⌝ }
     ensures { λ x. ⌜ x ≡ (asked && signsForRole (fileIn (now (file .entry))) role key) ⌝ }
 {
     if !asked {
@@ -426,7 +425,7 @@ fn signs_for_some(
     key: usize,
     parties: usize,
 ) -> bool
-    requires { ⌜ Checked (fileIn (now file)) × Finds (now file) (now tables) × (parties ≡ length (fileIn (now file) .roles)) × ((p : ℕ) → p < parties → PartyHere (now file) p) × (key < noKey) ⌝ }
+    requires { ⌜ Searched (now file) (now tables) parties key ⌝ }
     ensures { λ x. ⌜ x ≡ signsForSome (fileIn (now (file .entry))) who key ⌝ }
 {
     if signs_if(who.maker, file, tables, rules::TPM_MAKER, key, parties) {

@@ -1,4 +1,5 @@
 -- What a scenario file gives, computed on the rules; and a name that opens every rule.
+use mathlib.Core.Bool.{true}
 use mathlib.Core.List.{List, [], _∷_}
 use Prim.Native.Nat.{ℕ}
 use lib.ListN.{length, drop}
@@ -46,3 +47,10 @@ withLedger s entries = record { knows = s .knows; table = s .table; mark = s .ma
 unfoldable pub outcomesUnlisted : ℕ → Load → List ℕ
 outcomesUnlisted n (loaded f) = outcomes f (drop n (commandsOf f)) (withLedger (reached f n) [])
 outcomesUnlisted n (refused number place) = number ∷ []
+
+-- what the commands of a file give where every party knows everything before them, a state that no file comes to either
+unfoldable pub outcomesKnowing : Load → List ℕ
+outcomesKnowing (loaded f) =
+    outcomes f (commandsOf f)
+    (record { knows = λ p t. true; table = start f .table; mark = start f .mark; desk = start f .desk; request = start f .request; ledger = [] })
+outcomesKnowing (refused number place) = number ∷ []

@@ -1,5 +1,5 @@
 -- The bytes of a scenario file's records, each by a function of its fields (document 01, "The scenario file" to "Checks and listing").
--- Attributes: 0A hex a desk's or TPM maker's key, 0B hex an IAK or LAK, 0D hex an EK.
+-- Attributes: 0A hex a desk's or TPM maker's key, an IDevID or LDevID; 0B hex an IAK or LAK; 0D hex an EK.
 use mathlib.Core.List.{List, [], _∷_, _++_}
 use Prim.Native.Nat.{ℕ, _/_, _%_}
 

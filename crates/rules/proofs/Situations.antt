@@ -4,7 +4,7 @@ use mathlib.Core.List.{List, [], _∷_, _++_}
 use Prim.Native.Nat.{ℕ, zero, suc, _+_, _*_}
 use Rattle.rules.specs.Load.{load}
 use Rattle.rules.specs.Listing.{listing}
-use Rattle.rules.proofs.Computed.{Result, ran, notLoaded, result, withLedger, outcomesUnlisted}
+use Rattle.rules.proofs.Computed.{Result, ran, notLoaded, result, withLedger, outcomesUnlisted, outcomesKnowing}
 use Rattle.rules.proofs.Records.{Bytes, written, aDevice, aTpmMaker, anOemDesk, anOwnerDesk, tpm, device, publicKey, privateKey, hash, signature, attest, credential, number, idevidRequest, ldevidRequest, certificate, pair, learns, holds, signsWith, makeHash, sign, certify, makeCredential, activateCredential, makeIdevidRequest, makeLdevidRequest, makePair, send, challenge, issueIak, issue}
 
 -- A file and what it gives.
@@ -35,7 +35,7 @@ abbrev parties : List Bytes
 parties = anOemDesk ∷ aTpmMaker ∷ aDevice ∷ []
 
 -- terms, by their numbers
-abbrev oemKey : ℕ
+abbrev pub oemKey : ℕ
 oemKey = 0
 
 abbrev makerKey : ℕ
@@ -50,7 +50,7 @@ ekPrivate = 3
 abbrev iak : ℕ
 iak = 4
 
-abbrev iakPrivate : ℕ
+abbrev pub iakPrivate : ℕ
 iakPrivate = 5
 
 abbrev pub ekCertificate : ℕ
@@ -244,7 +244,7 @@ attestHashed-holds = refl
 abbrev pub owner : ℕ
 owner = 3
 
-abbrev ownerKey : ℕ
+abbrev pub ownerKey : ℕ
 ownerKey = 15
 
 -- What one is: its command's kind, the attributes of its key, the desk that issues it with the desk's key, and its parent with the private
@@ -295,6 +295,11 @@ askedCommands n a =
     ∷ issue (a .kind) (a .desk) (nthRequest n) (nthCertificate n)
     ∷ []
 
+-- 40, 41 or 42 alone
+abbrev issuing : ℕ → List Asked → List Bytes
+issuing n [] = []
+issuing n (a ∷ more) = issue (a .kind) (a .desk) (nthRequest n) (nthCertificate n) ∷ issuing (suc n) more
+
 -- one under the IAK, or under the n-th, which an owner desk issued
 abbrev pub underIak : ℕ → ℕ → ℕ → ℕ → Asked
 underIak kind attributes desk deskKey = record { kind = kind; attributes = attributes; desk = desk; deskKey = deskKey; parent = iakCertificate; parentPrivate = iakPrivate; parentDesk = oem }
@@ -324,7 +329,7 @@ abbrev pub allCommands : ℕ → List Asked → List Bytes
 allCommands n [] = []
 allCommands n (a ∷ more) = askedCommands n a ++ allCommands (suc n) more
 
--- an enrolment and an owner desk: more terms and 21 records, then commands
+-- an owner desk beside the parties of an enrolment: more terms and 21 records, then commands
 abbrev withOwner : List Bytes → List Bytes → List Bytes → Bytes
 withOwner more held commands =
     written
@@ -333,12 +338,11 @@ withOwner more held commands =
     ++ (privateKey 2 0x0A ∷ more)
     ++ setup
     ++ (holds owner ownerKey ∷ signsWith owner ownerKey ∷ held)
-    ++ enrolled
     ++ commands)
 
--- those of a list, then more
+-- an enrolment, those of a list, then more
 abbrev pub asking : List Asked → List Bytes → List Bytes → Bytes
-asking which terms commands = withOwner (allTerms 0 which ++ terms) (allHeld 0 which) (allCommands 0 which ++ commands)
+asking which terms commands = withOwner (allTerms 0 which ++ terms) (allHeld 0 which) (enrolled ++ allCommands 0 which ++ commands)
 
 -- LAKs, each under the one before, from the n-th on
 abbrev pub laksFrom : ℕ → ℕ → List Asked → List Asked
@@ -353,14 +357,6 @@ laks m more = anLak ∷ laksFrom 0 m more
 abbrev pub eightDeep : List (ℕ × ℕ × ℕ)
 eightDeep = (14, 6, 1) ∷ (24, 14, 2) ∷ (33, 24, 3) ∷ (42, 33, 4) ∷ (51, 42, 5) ∷ (60, 51, 6) ∷ (69, 60, 7) ∷ (78, 69, 8) ∷ []
 
--- Depth 8 issued: seven LAKs, each under the one before.
-abbrev pub depth8 : Situation
-depth8 = record { file = asking (laks 6 []) [] []; gives = ran (fine 65 []) eightDeep 65 0 8 }
-
-pub depth8-holds : Holds depth8
-unfolding result
-depth8-holds = refl
-
 -- Depth 9: an eighth LAK.
 abbrev pub depth9 : Situation
 depth9 = record { file = asking (laks 7 []) [] []; gives = ran (fine 72 (29 ∷ [])) eightDeep 72 1 8 }
@@ -368,55 +364,6 @@ depth9 = record { file = asking (laks 7 []) [] []; gives = ran (fine 72 (29 ∷ 
 pub depth9-holds : Holds depth9
 unfolding result
 depth9-holds = refl
-
--- Families (request 1 of document 02): what the wrong engines get wrong. The other situations are in `situations`.
-
--- Each asked for under the other's attributes: an LAK with 0A hex, an IDevID and an LDevID with 0B hex.
-abbrev pub othersAttributes : Situation
-othersAttributes = record {
-  file = asking (underIak 0x40 0x0A owner ownerKey ∷ underIak 0x41 0x0B oem oemKey ∷ underIak 0x42 0x0B owner ownerKey ∷ []) [] [];
-  gives = ran (fine 16 (23 ∷ fine 7 (23 ∷ fine 7 (23 ∷ [])))) ((iakCertificate, ekCertificate, 1) ∷ []) 30 3 1;
-}
-
-pub othersAttributes-holds : Holds othersAttributes
-unfolding result
-othersAttributes-holds = refl
-
--- 41 with a parent that an owner desk signed, an LAK's certificate.
-abbrev pub ownersParent : Situation
-ownersParent = record {
-  file = asking (anLak ∷ under 0 anIdevid ∷ []) [] [];
-  gives = ran (fine 24 (21 ∷ [])) ((iakCertificate, ekCertificate, 1) ∷ (nthCertificate 0, iakCertificate, 2) ∷ []) 24 1 2;
-}
-
-pub ownersParent-holds : Holds ownersParent
-unfolding result
-ownersParent-holds = refl
-
--- An IDevID certificate as the parent of an LAK, of an IDevID and of an LDevID. Its key attests: 32 asks for no Restricted key.
-abbrev underIdevid : Asked → Asked
-underIdevid a = record { kind = a .kind; attributes = a .attributes; desk = a .desk; deskKey = a .deskKey; parent = nthCertificate 0; parentPrivate = nth 0 + 1; parentDesk = oem }
-
-abbrev pub idevidParent : Situation
-idevidParent = record {
-  file = asking (anIdevid ∷ underIdevid anLak ∷ underIdevid anIdevid ∷ underIdevid anLdevid ∷ []) [] [];
-  gives = ran (fine 24 (23 ∷ fine 7 (23 ∷ fine 7 (23 ∷ [])))) ((iakCertificate, ekCertificate, 1) ∷ (nthCertificate 0, iakCertificate, 2) ∷ []) 38 3 2;
-}
-
-pub idevidParent-holds : Holds idevidParent
-unfolding result
-idevidParent-holds = refl
-
--- 41 done by an owner desk and 42 by an OEM desk, each with a certificate that it would sign.
-abbrev pub otherDesks : Situation
-otherDesks = record {
-  file = asking (underIak 0x41 0x0A owner ownerKey ∷ underIak 0x42 0x0A oem oemKey ∷ []) [] [];
-  gives = ran (fine 16 (13 ∷ fine 7 (13 ∷ []))) ((iakCertificate, ekCertificate, 1) ∷ []) 23 2 1;
-}
-
-pub otherDesks-holds : Holds otherDesks
-unfolding result
-otherDesks-holds = refl
 
 -- The listing of the example: "R 1 15" and "T 1 1 0".
 abbrev space : ℕ
@@ -557,6 +504,23 @@ honestLak = asking (anLak ∷ []) [] []
 parent-unasked : outcomesUnlisted 16 (load honestLak) ≡ 0 ∷ []
 unfolding result outcomesUnlisted withLedger
 parent-unasked = refl
+
+-- Slips at 40, 41 and 42, in a state that no file comes to: every party knows everything. An LAK (issued); an IDevID and an LDevID with 0B hex;
+-- an IDevID under the LAK; an IDevID (issued); an LAK under the IDevID; an IDevID by the owner desk.
+abbrev slips : List Asked
+slips =
+    anLak
+    ∷ underIak 0x41 0x0B oem oemKey
+    ∷ underIak 0x42 0x0B owner ownerKey
+    ∷ under 0 anIdevid
+    ∷ anIdevid
+    ∷ under 4 anLak
+    ∷ underIak 0x41 0x0A owner ownerKey
+    ∷ []
+
+slips-refused : outcomesKnowing (load (withOwner (allTerms 0 slips) (allHeld 0 slips) (issuing 0 slips))) ≡ 0 ∷ 23 ∷ 23 ∷ 21 ∷ 0 ∷ 23 ∷ 13 ∷ []
+unfolding result outcomesKnowing
+slips-refused = refl
 
 -- A Restricted key that signs a private key of its TPM, itself.
 abbrev privateSigned : Situation

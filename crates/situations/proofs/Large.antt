@@ -1,10 +1,10 @@
--- The large starred situations of document 01 ("Situations"): as many terms as a file may have, and one more.
-use mathlib.Core.Path.{_≡_, refl}
+-- The large starred situations of document 01 ("Situations"): as many terms as a file may have, and one more; depth 8.
+use mathlib.Core.Path.{refl}
 use mathlib.Core.List.{List, [], _∷_, _++_}
 use Prim.Native.Nat.{ℕ, zero, suc}
 use Rattle.rules.proofs.Computed.{ran, notLoaded, result}
 use Rattle.rules.proofs.Records.{Bytes, written, aDevice, number, learns, send}
-use Rattle.rules.proofs.Situations.{Situation, Holds}
+use Rattle.rules.proofs.Situations.{Situation, Holds, fine, asking, laks, eightDeep}
 
 -- n numbers, with the ids i, i + 1, ..
 abbrev numbers : ℕ → ℕ → List Bytes
@@ -26,3 +26,11 @@ overfullFile = record { file = written (aDevice ∷ numbers 1025 0); gives = not
 pub overfullFile-holds : Holds overfullFile
 unfolding result
 overfullFile-holds = refl
+
+-- Depth 8 issued: seven LAKs, each under the one before.
+abbrev pub depth8 : Situation
+depth8 = record { file = asking (laks 6 []) [] []; gives = ran (fine 65 []) eightDeep 65 0 8 }
+
+pub depth8-holds : Holds depth8
+unfolding result
+depth8-holds = refl

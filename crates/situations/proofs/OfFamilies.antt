@@ -1,10 +1,10 @@
 -- Situations of the families (request 1 of document 02), computed on the rules: what is issued, parents, what is issued already, depths.
 use mathlib.Core.Path.{refl}
-use mathlib.Core.List.{[], _∷_}
+use mathlib.Core.List.{[], _∷_, _++_}
 use Prim.Native.Nat.{_+_}
 use Rattle.rules.proofs.Computed.{ran, notLoaded, result}
 use Rattle.rules.proofs.Records.{written, aDevice, signature, ldevidRequest, hash, pair, certify, makeLdevidRequest, makeHash, sign, makePair, send, issue}
-use Rattle.rules.proofs.Situations.{Situation, Holds, fine, oem, dev, owner, iakCertificate, ekCertificate, nth, nthRequest, nthCertificate, under, anLak, anIdevid, anLdevid, asking, laks, eightDeep}
+use Rattle.rules.proofs.Situations.{Situation, Holds, fine, oem, dev, owner, oemKey, ownerKey, iakCertificate, ekCertificate, Asked, nth, nthRequest, nthCertificate, underIak, under, anLak, anIdevid, anLdevid, asking, laks, eightDeep}
 
 -- An IAK, an LAK, an IDevID and an LDevID of one board: the IDevID under the IAK, the LDevID under the LAK.
 abbrev pub fourFamilies : Situation
@@ -16,6 +16,53 @@ fourFamilies = record {
 pub fourFamilies-holds : Holds fourFamilies
 unfolding result
 fourFamilies-holds = refl
+
+-- Each asked for under the other's attributes: an LAK with 0A hex, an IDevID and an LDevID with 0B hex.
+abbrev pub othersAttributes : Situation
+othersAttributes = record {
+  file = asking (underIak 0x40 0x0A owner ownerKey ∷ underIak 0x41 0x0B oem oemKey ∷ underIak 0x42 0x0B owner ownerKey ∷ []) [] [];
+  gives = ran (fine 16 (23 ∷ fine 7 (23 ∷ fine 7 (23 ∷ [])))) ((iakCertificate, ekCertificate, 1) ∷ []) 30 3 1;
+}
+
+pub othersAttributes-holds : Holds othersAttributes
+unfolding result
+othersAttributes-holds = refl
+
+-- 41 with a parent that an owner desk signed, an LAK's certificate.
+abbrev pub ownersParent : Situation
+ownersParent = record {
+  file = asking (anLak ∷ under 0 anIdevid ∷ []) [] [];
+  gives = ran (fine 24 (21 ∷ [])) ((iakCertificate, ekCertificate, 1) ∷ (nthCertificate 0, iakCertificate, 2) ∷ []) 24 1 2;
+}
+
+pub ownersParent-holds : Holds ownersParent
+unfolding result
+ownersParent-holds = refl
+
+-- An IDevID certificate as the parent of an LAK, of an IDevID and of an LDevID. Its key attests: 32 asks for no Restricted key.
+abbrev underIdevid : Asked → Asked
+underIdevid a = record { kind = a .kind; attributes = a .attributes; desk = a .desk; deskKey = a .deskKey; parent = nthCertificate 0; parentPrivate = nth 0 + 1; parentDesk = oem }
+
+abbrev pub idevidParent : Situation
+idevidParent = record {
+  file = asking (anIdevid ∷ underIdevid anLak ∷ underIdevid anIdevid ∷ underIdevid anLdevid ∷ []) [] [];
+  gives = ran (fine 24 (23 ∷ fine 7 (23 ∷ fine 7 (23 ∷ [])))) ((iakCertificate, ekCertificate, 1) ∷ (nthCertificate 0, iakCertificate, 2) ∷ []) 38 3 2;
+}
+
+pub idevidParent-holds : Holds idevidParent
+unfolding result
+idevidParent-holds = refl
+
+-- 41 done by an owner desk and 42 by an OEM desk, each with a certificate that it would sign.
+abbrev pub otherDesks : Situation
+otherDesks = record {
+  file = asking (underIak 0x41 0x0A owner ownerKey ∷ underIak 0x42 0x0A oem oemKey ∷ []) [] [];
+  gives = ran (fine 16 (13 ∷ fine 7 (13 ∷ []))) ((iakCertificate, ekCertificate, 1) ∷ []) 23 2 1;
+}
+
+pub otherDesks-holds : Holds otherDesks
+unfolding result
+otherDesks-holds = refl
 
 -- An LDevID certificate as a parent: 23, and 21 at 41, since an owner desk signed it.
 abbrev pub ldevidParent : Situation
@@ -62,21 +109,16 @@ pub unknownKind-holds : Holds unknownKind
 unfolding result
 unknownKind-holds = refl
 
--- An LDevID at depth 8: six LAKs, each under the one before, and the LDevID under the last.
-abbrev pub ldevidAt8 : Situation
-ldevidAt8 = record { file = asking (laks 5 (under 5 anLdevid ∷ [])) [] []; gives = ran (fine 65 []) eightDeep 65 0 8 }
+-- An LDevID at depth 8, under the last but one of seven LAKs, each under the one before; and at depth 9, under the last.
+abbrev pub ldevidDepths : Situation
+ldevidDepths = record {
+  file = asking (laks 6 (under 5 anLdevid ∷ under 6 anLdevid ∷ [])) [] [];
+  gives = ran (fine 80 (29 ∷ [])) (eightDeep ++ ((nthCertificate 7, nthCertificate 5, 8) ∷ [])) 80 1 9;
+}
 
-pub ldevidAt8-holds : Holds ldevidAt8
+pub ldevidDepths-holds : Holds ldevidDepths
 unfolding result
-ldevidAt8-holds = refl
-
--- At depth 9: under a seventh LAK.
-abbrev pub ldevidAt9 : Situation
-ldevidAt9 = record { file = asking (laks 6 (under 6 anLdevid ∷ [])) [] []; gives = ran (fine 72 (29 ∷ [])) eightDeep 72 1 8 }
-
-pub ldevidAt9-holds : Holds ldevidAt9
-unfolding result
-ldevidAt9-holds = refl
+ldevidDepths-holds = refl
 
 -- An IDevID beside three LAKs: depth 2.
 abbrev pub idevidAt2 : Situation

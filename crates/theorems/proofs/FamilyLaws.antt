@@ -7,7 +7,7 @@
 use mathlib.Core.Path.{_≡_, refl, sym, ap, subst, _∙_}
 use mathlib.Core.Logic.{⊎-elim}
 use mathlib.Core.Bool.{Bool, true, false, false≢true, cond}
-use mathlib.Core.List.{List, List·Memᴰ, List·Memᴰ·head}
+use mathlib.Core.List.{List, List·Memᴰ, List·Memᴰ·head, List·Memᴰ·tail}
 use Prim.Native.Nat.{ℕ, suc}
 use native.Mathlib.Omega.{arith}
 use lib.Dec.{eqb}
@@ -15,20 +15,25 @@ use borrow.Author.Tests.{eqb-true}
 use Rattle.rules.specs.declared.Entry.{Entry}
 use Rattle.rules.specs.declared.Family.{Family}
 use Rattle.rules.specs.Limits.{tpmMaker, oemDesk, ownerDesk}
+use Rattle.rules.specs.Refusals.{order, applies}
 use Rattle.rules.specs.Attributes.{sameAttributes}
-use Rattle.rules.specs.Term.{publicKeyKind, numberKind, certificateKind}
+use Rattle.rules.specs.Term.{publicKeyKind, numberKind, ldevidRequestKind, certificateKind, pairKind}
 use Rattle.rules.specs.Families.{tpmMakers, oemDesks, iakFamily, idevidFamily, families}
-use Rattle.rules.specs.File.{File, signsWith, challenge, issue, roleOf, attributes, certifiedKey, signer}
+use Rattle.rules.specs.File.{File, signsWith, challenge, issue, roleOf, attributes, certifiedKey, signer, leftOf, signsForSome}
 use Rattle.rules.specs.Load.{loaded, load}
-use Rattle.rules.specs.Desk.{ekOf}
-use Rattle.rules.specs.Run.{reached}
+use Rattle.rules.specs.State.{depthOf}
+use Rattle.rules.specs.Desk.{requestBody, formTests, proofTests, ekOf, calledFor, parentCertificateOf, issueTests}
+use Rattle.rules.specs.Run.{testsOf, outcome, reached}
 use Rattle.theorems.specs.Residency.{SignedBy, EntryAt, Parent, ofIak, onRequest, Endorsement, OfFamily, Sound}
 use Rattle.theorems.specs.FamilyLaws.{OneFamily, NeverParent, FamilyLaws}
 use Rattle.theorems.proofs.FamilyRows.{barren, no-child, family-row, one-row, may, Signer, some-signer}
 use Rattle.theorems.proofs.Loading.{Checked, checked}
-use Rattle.theorems.proofs.Terms.{signs-role-given}
+use Rattle.theorems.proofs.Passing.{among, before, Clear, earlier-passed, applied}
+use Rattle.theorems.proofs.Terms.{isKind-kind, same-attributes, signs-role-given}
 use Rattle.theorems.proofs.Running.{command-member}
 use Rattle.theorems.proofs.DeviceSteps.{signer-alone}
+use Rattle.theorems.proofs.Ledgers.{Listing, listed-found}
+use Rattle.theorems.proofs.Requests.{parent-listed}
 use Rattle.theorems.proofs.DeskSteps.{challenge-ek, issue-family}
 use Rattle.theorems.proofs.Reaching.{reached-invariant}
 use Rattle.theorems.proofs.Demand3.{demand3}
@@ -113,19 +118,60 @@ module _ (bytes : List ℕ) (f : File) (loads : load bytes ≡ loaded f) (n : �
       below g c s =
           family-row (s .family) (s .ofFamily .listed) .desk (may-maker (s .family .desk) (parent-desk iakFamily e g o (s .family) (s .ofFamily) c))
 
+  -- an entry is an IAK's where an OEM desk signed its certificate, of a key with an IAK's attributes
+  iak-entry : (g : Entry) (family : Family) → OfFamily f family g → may oemDesks (family .desk) ≡ true → attributes f (certifiedKey f (g .certificate)) ≡ iakFamily .key → OfFamily f iakFamily g
+  iak-entry g family x m a =
+      subst (λ (y : Family). OfFamily f y g) (one-row family iakFamily (x .listed) (List·Memᴰ·head refl) (sym (x .keyAttributes) ∙ a) (may-oem (family .desk) m)) x
+
   idevid-depth : (i : ℕ) (e : Entry) → EntryAt f n i e → OfFamily f idevidFamily e → e .depth ≡ 2
   idevid-depth i e at o =
       ⊎-elim (λ w. absurd (false≢true (maker-signed f ck (e .parent) (w .1) idevidFamily (some-signer f oemDesks (signer f (e .parent)) (o .parentSigned)))))
       (λ w. w .5 ∙ ap suc (iak-depth (w .0) (w .1) (w .3) (iak (w .1) (w .4) (sound-at (w .0) (w .1) (w .3))))) (sound-at i e at .earlier)
     where
-      -- an OEM desk signed its parent, and the parent's key has an IAK's attributes
       iak : (g : Entry) → g .certificate ≡ e .parent → {j : ℕ} → Sound f n j g → OfFamily f iakFamily g
       iak g c s =
-          subst (λ (x : Family). OfFamily f x g)
-          (one-row (s .family) iakFamily (s .ofFamily .listed) (List·Memᴰ·head refl)
-          (sym (s .ofFamily .keyAttributes) ∙ ap (λ (t : ℕ). attributes f (certifiedKey f t)) c ∙ o .parentAttributes)
-          (may-oem (s .family .desk) (parent-desk idevidFamily e g o (s .family) (s .ofFamily) c)))
-          (s .ofFamily)
+          iak-entry g (s .family) (s .ofFamily) (parent-desk idevidFamily e g o (s .family) (s .ofFamily) c)
+          (ap (λ (t : ℕ). attributes f (certifiedKey f t)) c ∙ o .parentAttributes)
+
+  module _ (p q r : ℕ) (refused : outcome f (reached f n) (issue idevidFamily p q r) ≡ 29) where
+    -- the tests of the refusals before 29
+    clear : (m : ℕ) → among m (before 29 order) ≡ true → Clear m (issueTests f (reached f n) idevidFamily p q r)
+    unfolding outcome testsOf
+    clear = earlier-passed (issueTests f (reached f n) idevidFamily p q r) 29 refused
+
+    signed : signsForSome f oemDesks (signer f (parentCertificateOf f q)) ≡ true
+    unfolding issueTests formTests proofTests calledFor
+    signed = clear 21 refl .1 .1 .1 .1 .1 .1 .1 .1 .1 .1 .1 .0 refl
+
+    parentAttributes : attributes f (certifiedKey f (parentCertificateOf f q)) ≡ iakFamily .key
+    unfolding issueTests formTests proofTests calledFor
+    parentAttributes = same-attributes _ _ (clear 23 refl .1 .1 .1 .1 .1 .1 .1 .1 .1 .1 .1 .1 .1 .0 refl)
+
+    parent : Listing (reached f n .ledger) (parentCertificateOf f q)
+    unfolding issueTests formTests proofTests calledFor requestBody
+    parent =
+        listed-found (reached f n .ledger) (parentCertificateOf f q)
+        (parent-listed f ck (reached f n) (reached-invariant f ck n) p q
+        (record {
+          known = clear 14 refl .1 .0 refl;
+          pair = isKind-kind f pairKind q (clear 19 refl .1 .1 .0 refl);
+          body = isKind-kind f ldevidRequestKind (leftOf f q) (clear 19 refl .1 .1 .1 .0 refl);
+          family = idevidFamily;
+          row = List·Memᴰ·tail (List·Memᴰ·head refl);
+          signed = signed;
+        }))
+
+    parent-depth : depthOf (reached f n .ledger) (parentCertificateOf f q) ≡ 1
+    parent-depth =
+        let s = sound-at (parent .place) (parent .entry) (parent .here) in
+        let m = may-sign f ck (s .family) (parentCertificateOf f q) (subst (SignedBy f (s .family)) (parent .same) (s .ofFamily .signed)) idevidFamily (some-signer f oemDesks (signer f (parentCertificateOf f q)) signed) in
+        let a = ap (λ (t : ℕ). attributes f (certifiedKey f t)) (parent .same) ∙ parentAttributes in
+        sym (parent .depth) ∙ iak-depth (parent .place) (parent .entry) (parent .here) (iak-entry (parent .entry) (s .family) (s .ofFamily) m a)
+
+    idevid-not-too-deep : ⊥
+    unfolding outcome testsOf issueTests formTests proofTests calledFor applies
+    idevid-not-too-deep =
+        false≢true (sym (rw parent-depth refl) ∙ applied (issueTests f (reached f n) idevidFamily p q r) 29 (omega arith) refused)
 
 pub family-laws : FamilyLaws
 unfolding sameAttributes
@@ -135,4 +181,5 @@ family-laws = record {
   ldevidNeverParent = never-parent _ refl;
   iakDepth = iak-depth;
   idevidDepth = idevid-depth;
+  idevidNeverTooDeep = idevid-not-too-deep;
 }

@@ -5,8 +5,9 @@ use Prim.Native.Nat.{ℕ}
 use Rattle.rules.specs.declared.Entry.{Entry}
 use Rattle.rules.specs.declared.Family.{Family}
 use Rattle.rules.specs.Families.{iakFamily, idevidFamily, ldevidFamily}
-use Rattle.rules.specs.File.{File}
+use Rattle.rules.specs.File.{File, issue}
 use Rattle.rules.specs.Load.{loaded, load}
+use Rattle.rules.specs.Run.{outcome, reached}
 use Rattle.theorems.specs.Residency.{EntryAt, Parent, OfFamily}
 
 -- an entry is of one family alone
@@ -23,9 +24,14 @@ NeverParent family =
 abbrev pub AlwaysAt : ℕ → Family → Type 0
 AlwaysAt depth family = (bytes : List ℕ) (f : File) → load bytes ≡ loaded f → (n i : ℕ) (e : Entry) → EntryAt f n i e → OfFamily f family e → e .depth ≡ depth
 
+-- no command that issues one of the family is refused for the depth
+abbrev pub NeverTooDeep : Family → Type 0
+NeverTooDeep family = (bytes : List ℕ) (f : File) → load bytes ≡ loaded f → (n p q r : ℕ) → outcome f (reached f n) (issue family p q r) ≡ 29 → ⊥
+
 pub record FamilyLaws : Type 0 where
   pub one : OneFamily
   pub idevidNeverParent : NeverParent idevidFamily
   pub ldevidNeverParent : NeverParent ldevidFamily
   pub iakDepth : AlwaysAt 1 iakFamily
   pub idevidDepth : AlwaysAt 2 idevidFamily
+  pub idevidNeverTooDeep : NeverTooDeep idevidFamily
