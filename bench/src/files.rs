@@ -385,6 +385,7 @@ pub fn run() -> Vec<File> {
         ("empty", Draft::default()),
         ("honest IAK", stored(include_bytes!("../../crates/cases/data/s_honest_iak"))),
         ("honest IAK and LAK", stored(include_bytes!("../../crates/cases/data/s_honest_lak"))),
+        ("IAK, LAK, IDevID and LDevID", stored(include_bytes!("../../crates/cases/data/s_idevid_and_ldevid"))),
         ("certificates up to depth 8", stored(include_bytes!("../../crates/cases/data/s_depth_8"))),
         ("accepted: commands 30", maker(true, false)),
         ("accepted: commands 30 to 37, shuffled", maker(true, true)),
