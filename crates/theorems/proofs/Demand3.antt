@@ -146,7 +146,7 @@ module _ (f : File) (ck : Checked f) (n : ℕ) where
   listed-known : (t : ℕ) → Listed f n t → DeskSigned f t × ((p : ℕ) × (p < length (f .roles)) × Known f n p t)
   listed-known t l =
       subst (λ (x : ℕ). DeskSigned f x × ((p : ℕ) × (p < length (f .roles)) × Known f n p x)) (l .same) (
-        record { family = g .family; known = g .ofFamily .listed; signed = g .ofFamily .signed },
+        record { family = g .family; known = g .ofFamily .row; signed = g .ofFamily .signed },
         (g .ofFamily .signed .desk, inv .party (g .ofFamily .signed .desk) (l .entry .certificate) (g .known), bits-known f n (g .ofFamily .signed .desk) (l .entry .certificate) (g .known)),
       )
     where

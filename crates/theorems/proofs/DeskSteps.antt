@@ -267,7 +267,7 @@ module _ (f : File) (ck : Checked f) (s : State) (inv : Invariant f s) where
     pub issueIak-family : OfFamily f iakFamily iakEntry
     unfolding ekOf signsForSome
     issueIak-family = record {
-      listed = List·Memᴰ·head refl;
+      row = List·Memᴰ·head refl;
       signed = record { isCertificate = w .3; desk = p; deskKey = iakKey; deskRole = iakRole };
       keyAttributes = iakAttributed;
       parentSigned = rw (wasOpen .maker) refl;
@@ -423,7 +423,7 @@ module _ (f : File) (ck : Checked f) (s : State) (inv : Invariant f s) where
     pub issue-family : OfFamily f family newEntry
     unfolding issueTests formTests proofTests calledFor
     issue-family = record {
-      listed = List·Memᴰ·tail (w .3);
+      row = List·Memᴰ·tail (w .3);
       signed = record { isCertificate = w .1; desk = p; deskKey = issuerKey; deskRole = issuerRole };
       keyAttributes = newAttributed;
       parentSigned = issueTested .1 .1 .1 .1 .1 .1 .1 .1 .1 .1 .1 .0;

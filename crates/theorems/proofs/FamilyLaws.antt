@@ -18,7 +18,7 @@ use Rattle.rules.specs.Limits.{tpmMaker, oemDesk, ownerDesk}
 use Rattle.rules.specs.Refusals.{order, applies}
 use Rattle.rules.specs.Attributes.{sameAttributes}
 use Rattle.rules.specs.Term.{publicKeyKind, numberKind, ldevidRequestKind, certificateKind, pairKind}
-use Rattle.rules.specs.Families.{tpmMakers, oemDesks, iakFamily, idevidFamily, families}
+use Rattle.rules.specs.Families.{tpmMakers, oemDesks, iakFamily, idevidFamily, requestFamilies, families}
 use Rattle.rules.specs.File.{File, signsWith, challenge, issue, roleOf, attributes, certifiedKey, signer, leftOf, signsForSome}
 use Rattle.rules.specs.Load.{loaded, load}
 use Rattle.rules.specs.State.{depthOf}
@@ -29,7 +29,7 @@ use Rattle.theorems.specs.FamilyLaws.{OneFamily, NeverParent, FamilyLaws
 use Rattle.theorems.proofs.FamilyRows.{barren, no-child, family-row, one-row, may, Signer, some-signer}
 use Rattle.theorems.proofs.Loading.{Checked, checked}
 use Rattle.theorems.proofs.Passing.{among, before, Clear, earlier-passed, applied}
-use Rattle.theorems.proofs.Terms.{isKind-kind, same-attributes, signs-role-given}
+use Rattle.theorems.proofs.Terms.{isKind-kind, isRole-role, same-attributes, signs-given, signs-role-given}
 use Rattle.theorems.proofs.Running.{command-member}
 use Rattle.theorems.proofs.DeviceSteps.{signer-alone}
 use Rattle.theorems.proofs.Ledgers.{Listing, listed-found}
@@ -66,12 +66,12 @@ module _ (f : File) (ck : Checked f) where
   )
   parent-key n family t g (onRequest i p q l a e) =
       let o = issue-family f ck (reached f i) (reached-invariant f ck i) family p q t (ck .wellformed (issue family p q t) (command-member f i (issue family p q t) (a .here))) (a .zeroOutcome) in
-      (o .listed, ap (λ (x : ℕ). attributes f (certifiedKey f x)) e ∙ o .parentAttributes)
+      (o .row, ap (λ (x : ℕ). attributes f (certifiedKey f x)) e ∙ o .parentAttributes)
 
 one-family : OneFamily
 one-family bytes f e x a b c d =
     let ck = checked bytes f e in
-    one-row a b (c .listed) (d .listed) (sym (c .keyAttributes) ∙ d .keyAttributes)
+    one-row a b (c .row) (d .row) (sym (c .keyAttributes) ∙ d .keyAttributes)
     (sym (c .signed .deskRole) ∙ signed-once f ck (c .signed .desk) (d .signed .desk) (signer f (x .certificate)) (c .signed .deskKey) (d .signed .deskKey) ∙ d .signed .deskRole)
 
 never-parent : (family : Family) → barren family ≡ true → NeverParent family
@@ -116,12 +116,12 @@ module _ (bytes : List ℕ) (f : File) (loads : load bytes ≡ loaded f) (n : �
       -- its parent is listed under no family, since a TPM maker signed it
       below : (g : Entry) → g .certificate ≡ e .parent → {j : ℕ} → Sound f n j g → ⊥
       below g c s =
-          family-row (s .family) (s .ofFamily .listed) .desk (may-maker (s .family .desk) (parent-desk iakFamily e g o (s .family) (s .ofFamily) c))
+          family-row (s .family) (s .ofFamily .row) .desk (may-maker (s .family .desk) (parent-desk iakFamily e g o (s .family) (s .ofFamily) c))
 
   -- an entry is an IAK's where an OEM desk signed its certificate, of a key with an IAK's attributes
   iak-entry : (g : Entry) (family : Family) → OfFamily f family g → may oemDesks (family .desk) ≡ true → attributes f (certifiedKey f (g .certificate)) ≡ iakFamily .key → OfFamily f iakFamily g
   iak-entry g family x m a =
-      subst (λ (y : Family). OfFamily f y g) (one-row family iakFamily (x .listed) (List·Memᴰ·head refl) (sym (x .keyAttributes) ∙ a) (may-oem (family .desk) m)) x
+      subst (λ (y : Family). OfFamily f y g) (one-row family iakFamily (x .row) (List·Memᴰ·head refl) (sym (x .keyAttributes) ∙ a) (may-oem (family .desk) m)) x
 
   idevid-depth : (i : ℕ) (e : Entry) → EntryAt f n i e → OfFamily f idevidFamily e → e .depth ≡ 2
   idevid-depth i e at o =
@@ -133,19 +133,22 @@ module _ (bytes : List ℕ) (f : File) (loads : load bytes ≡ loaded f) (n : �
           iak-entry g (s .family) (s .ofFamily) (parent-desk idevidFamily e g o (s .family) (s .ofFamily) c)
           (ap (λ (t : ℕ). attributes f (certifiedKey f t)) c ∙ o .parentAttributes)
 
+  -- the tests of the refusals before the one that a 40, 41 or 42 got
+  clear : (family : Family) (p q r x : ℕ) → outcome f (reached f n) (issue family p q r) ≡ x → (m : ℕ) → among m (before x order) ≡ true → Clear m (issueTests f (reached f n) family p q r)
+  unfolding outcome testsOf
+  clear family p q r x = earlier-passed (issueTests f (reached f n) family p q r) x
+
   module _ (p q r : ℕ) (refused : outcome f (reached f n) (issue idevidFamily p q r) ≡ 29) where
-    -- the tests of the refusals before 29
-    clear : (m : ℕ) → among m (before 29 order) ≡ true → Clear m (issueTests f (reached f n) idevidFamily p q r)
-    unfolding outcome testsOf
-    clear = earlier-passed (issueTests f (reached f n) idevidFamily p q r) 29 refused
+    passes : (m : ℕ) → among m (before 29 order) ≡ true → Clear m (issueTests f (reached f n) idevidFamily p q r)
+    passes = clear idevidFamily p q r 29 refused
 
     signed : signsForSome f oemDesks (signer f (parentCertificateOf f q)) ≡ true
     unfolding issueTests formTests proofTests calledFor
-    signed = clear 21 refl .1 .1 .1 .1 .1 .1 .1 .1 .1 .1 .1 .0 refl
+    signed = passes 21 refl .1 .1 .1 .1 .1 .1 .1 .1 .1 .1 .1 .0 refl
 
     parentAttributes : attributes f (certifiedKey f (parentCertificateOf f q)) ≡ iakFamily .key
     unfolding issueTests formTests proofTests calledFor
-    parentAttributes = same-attributes _ _ (clear 23 refl .1 .1 .1 .1 .1 .1 .1 .1 .1 .1 .1 .1 .1 .0 refl)
+    parentAttributes = same-attributes _ _ (passes 23 refl .1 .1 .1 .1 .1 .1 .1 .1 .1 .1 .1 .1 .1 .0 refl)
 
     parent : Listing (reached f n .ledger) (parentCertificateOf f q)
     unfolding issueTests formTests proofTests calledFor requestBody
@@ -153,9 +156,9 @@ module _ (bytes : List ℕ) (f : File) (loads : load bytes ≡ loaded f) (n : �
         listed-found (reached f n .ledger) (parentCertificateOf f q)
         (parent-listed f ck (reached f n) (reached-invariant f ck n) p q
         (record {
-          known = clear 14 refl .1 .0 refl;
-          pair = isKind-kind f pairKind q (clear 19 refl .1 .1 .0 refl);
-          body = isKind-kind f ldevidRequestKind (leftOf f q) (clear 19 refl .1 .1 .1 .0 refl);
+          known = passes 14 refl .1 .0 refl;
+          pair = isKind-kind f pairKind q (passes 19 refl .1 .1 .0 refl);
+          body = isKind-kind f ldevidRequestKind (leftOf f q) (passes 19 refl .1 .1 .1 .0 refl);
           family = idevidFamily;
           row = List·Memᴰ·tail (List·Memᴰ·head refl);
           signed = signed;
@@ -173,6 +176,33 @@ module _ (bytes : List ℕ) (f : File) (loads : load bytes ≡ loaded f) (n : �
     idevid-not-too-deep =
         false≢true (sym (rw parent-depth refl) ∙ applied (issueTests f (reached f n) idevidFamily p q r) 29 (omega arith) refused)
 
+  module _ (p q r : ℕ) (family : Family) (row : List·Memᴰ family requestFamilies) (refused : outcome f (reached f n) (issue family p q r) ≡ 28) where
+    asked : (m : ℕ) → among m (before 28 order) ≡ true → Clear m (issueTests f (reached f n) family p q r)
+    asked = clear family p q r 28 refused
+
+    issuer : roleOf f p ≡ family .desk
+    unfolding issueTests formTests proofTests calledFor
+    issuer = isRole-role f (family .desk) p (asked 13 refl .0 refl)
+
+    issuer-key : List·Memᴰ (signsWith p (signer f r)) (f .setup)
+    unfolding issueTests formTests proofTests calledFor
+    issuer-key = signs-given f p (signer f r) (asked 27 refl .1 .1 .1 .1 .1 .1 .1 .1 .1 .1 .1 .1 .1 .1 .1 .1 .0 refl)
+
+    key-attributes : attributes f (certifiedKey f r) ≡ family .key
+    unfolding issueTests formTests proofTests calledFor
+    key-attributes =
+        ap (attributes f) (eqb-true _ _ (asked 27 refl .1 .1 .1 .1 .1 .1 .1 .1 .1 .1 .1 .1 .1 .1 .0 refl))
+        ∙ same-attributes _ _ (asked 23 refl .1 .1 .1 .1 .1 .1 .1 .1 .1 .1 .1 .1 .0 refl)
+
+    issued-by-own : (i : ℕ) (e : Entry) → EntryAt f n i e → e .certificate ≡ r → OfFamily f family e
+    issued-by-own i e at c =
+        let s = sound-at i e at in
+        let by = subst (SignedBy f (s .family)) c (s .ofFamily .signed) in
+        subst (λ (x : Family). OfFamily f x e)
+        (one-row (s .family) family (s .ofFamily .row) (List·Memᴰ·tail row)
+        (sym (s .ofFamily .keyAttributes) ∙ ap (λ (t : ℕ). attributes f (certifiedKey f t)) c ∙ key-attributes)
+        (sym (by .deskRole) ∙ signed-once f ck (by .desk) p (signer f r) (by .deskKey) issuer-key ∙ issuer)) (s .ofFamily)
+
 pub family-laws : FamilyLaws
 unfolding sameAttributes
 family-laws = record {
@@ -182,4 +212,5 @@ family-laws = record {
   iakDepth = iak-depth;
   idevidDepth = idevid-depth;
   idevidNeverTooDeep = idevid-not-too-deep;
+  issuedByOwn = issued-by-own;
 }

@@ -1,10 +1,10 @@
 -- Laws of the families of issued certificates (request 1 of document 02): of every file that loads and every n.
 use mathlib.Core.Path.{_≡_}
-use mathlib.Core.List.{List}
+use mathlib.Core.List.{List, List·Memᴰ}
 use Prim.Native.Nat.{ℕ}
 use Rattle.rules.specs.declared.Entry.{Entry}
 use Rattle.rules.specs.declared.Family.{Family}
-use Rattle.rules.specs.Families.{iakFamily, idevidFamily, ldevidFamily}
+use Rattle.rules.specs.Families.{iakFamily, idevidFamily, ldevidFamily, requestFamilies}
 use Rattle.rules.specs.File.{File, issue}
 use Rattle.rules.specs.Load.{loaded, load}
 use Rattle.rules.specs.Run.{outcome, reached}
@@ -28,6 +28,12 @@ AlwaysAt depth family = (bytes : List ℕ) (f : File) → load bytes ≡ loaded 
 abbrev pub NeverTooDeep : Family → Type 0
 NeverTooDeep family = (bytes : List ℕ) (f : File) → load bytes ≡ loaded f → (n p q r : ℕ) → outcome f (reached f n) (issue family p q r) ≡ 29 → ⊥
 
+-- what a 40, 41 or 42 finds issued already is a certificate of its own family
+abbrev pub IssuedByOwn : Type 0
+IssuedByOwn =
+    (bytes : List ℕ) (f : File) → load bytes ≡ loaded f → (n p q r : ℕ) (family : Family) → List·Memᴰ family requestFamilies → outcome f (reached f n) (issue family p q r) ≡ 28
+    → (i : ℕ) (e : Entry) → EntryAt f n i e → e .certificate ≡ r → OfFamily f family e
+
 pub record FamilyLaws : Type 0 where
   pub one : OneFamily
   pub idevidNeverParent : NeverParent idevidFamily
@@ -35,3 +41,4 @@ pub record FamilyLaws : Type 0 where
   pub iakDepth : AlwaysAt 1 iakFamily
   pub idevidDepth : AlwaysAt 2 idevidFamily
   pub idevidNeverTooDeep : NeverTooDeep idevidFamily
+  pub issuedByOwn : IssuedByOwn

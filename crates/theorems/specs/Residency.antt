@@ -123,7 +123,7 @@ AllButLast P (x ∷ y ∷ ys) = P x × AllButLast P (y ∷ ys)
 -- An entry is of a family: the desk that signed its certificate, the attributes of its key, and the signer and key of its parent are
 -- those of the family's row.
 pub record OfFamily (f : File) (family : Family) (e : Entry) : Type 0 where
-  pub listed : List·Memᴰ family families
+  pub row : List·Memᴰ family families
   pub signed : SignedBy f family (e .certificate)
   pub keyAttributes : attributes f (certifiedKey f (e .certificate)) ≡ family .key
   pub parentSigned : signsForSome f (family .signers) (signer f (e .parent)) ≡ true
