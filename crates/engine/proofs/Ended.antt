@@ -32,7 +32,7 @@ use Rattle.learning.specs.There.{kindThere}
 use Rattle.reader.specs.Place.{nextPlace}
 use Rattle.lookup.specs.Commands.{commandsFrom, commandsLeft}
 use Rattle.lookup.proofs.Left.{first-commands, commands-wellformed, left-few}
-use Rattle.loader.specs.declared.Scanned.{Scanned}
+use Rattle.scan.specs.declared.Scanned.{Scanned}
 use Rattle.loader.specs.Tabled.{Filled, FillResult}
 use Rattle.loader.proofs.Bounds.{near-refusal}
 use Rattle.loaded.specs.Loaded.{fileIn}

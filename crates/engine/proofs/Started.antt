@@ -18,7 +18,7 @@ use Rattle.entries.specs.Words.{ledgerWords, entriesIn}
 use Rattle.entries.proofs.Words.{zeros-at, entries-none}
 use Rattle.lookup.specs.Commands.{Commands}
 use Rattle.lookup.proofs.Left.{commands-wellformed}
-use Rattle.loader.specs.declared.Scanned.{Scanned}
+use Rattle.scan.specs.declared.Scanned.{Scanned}
 use Rattle.loader.specs.Tabled.{Filled, FillResult}
 use Rattle.loaded.specs.Loaded.{fileIn}
 use Rattle.loaded.specs.Entries.{entryFrom, Enters}

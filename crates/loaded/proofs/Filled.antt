@@ -9,14 +9,14 @@ use lib.Dec.{eqb}
 use lib.ListN.{length}
 use Rattle.rules.specs.Limits.{partyLimit, stateBytes}
 use Rattle.rules.specs.File.{File, term, roleOf, halfIn, signsFor}
-use Rattle.rules.specs.Load.{load, loaded}
+use Rattle.rules.specs.Load.{loaded}
 use Rattle.state.specs.View.{view}
 use Rattle.tables.specs.Regions.{tablesIn}
 use Rattle.learning.specs.There.{termThere}
 use Rattle.checks.specs.There.{roleThere, TermsThere}
 use Rattle.setup.specs.Allowed.{noKey}
 use Rattle.index.specs.Indexed.{passes}
-use Rattle.loader.specs.declared.Scanned.{Scanned}
+use Rattle.scan.specs.declared.Scanned.{Scanned}
 use Rattle.loader.specs.Tabled.{Filled}
 use Rattle.loader.proofs.Signing.{signs-for-table}
 use Rattle.loaded.specs.Loaded.{fileOf, fileIn, Holds, Finds}

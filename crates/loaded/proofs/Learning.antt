@@ -1,21 +1,19 @@
 -- Learning by the terms' records is learning by the rules.
 -- Assumes nothing.
-use mathlib.Core.Path.{_≡_, refl, sym, ap, _∙_}
-use mathlib.Core.Bool.{true, cond}
-use mathlib.Core.List.{List, List·Memᴰ}
-use Prim.Native.Nat.{ℕ, suc, _<_, _≤_}
+use mathlib.Core.Path.{_≡_, refl, ap, _∙_}
+use mathlib.Core.Bool.{true}
+use mathlib.Core.List.{List}
+use Prim.Native.Nat.{ℕ, suc, _<_}
 use native.Mathlib.Omega.{arith}
 use lib.ListN.{length}
-use Rattle.rules.specs.declared.Entry.{Entry}
-use Rattle.rules.specs.Limits.{partyLimit}
 use Rattle.rules.specs.Term.{partsOf}
 use Rattle.rules.specs.File.{parts}
 use Rattle.rules.specs.Learning.{Knowledge, opened, learn}
 use Rattle.rules.specs.State.{learnt}
 use Rattle.state.specs.View.{Columns, view, withKnows}
 use Rattle.state.proofs.Exact.{stateOf}
-use Rattle.learning.specs.There.{termThere, partsThere, learnThere, Ready}
-use Rattle.loader.proofs.Entering.{opened-same}
+use Rattle.learning.specs.There.{partsThere, learnThere, Ready}
+use Rattle.scan.proofs.Entering.{opened-same}
 use Rattle.loaded.specs.Loaded.{fileIn, Holds, Learns}
 
 module _ {bs s : List ℕ} (h : Holds bs s) (p : ℕ) {t : ℕ} (l : t < length (fileIn bs .terms)) where

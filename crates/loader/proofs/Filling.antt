@@ -13,13 +13,12 @@ use Rattle.rules.specs.Limits.{partyLimit, stateBytes}
 use Rattle.rules.specs.File.{File}
 use Rattle.setup.specs.Allowed.{noKey}
 use Rattle.state.specs.View.{view}
-use Rattle.tables.specs.Regions.{Tables, tablesIn}
+use Rattle.tables.specs.Regions.{tablesIn}
 use Rattle.index.specs.Indexed.{Indexed, passes}
 use Rattle.index.proofs.Halves.{half-follows}
 use Rattle.lookup.specs.Commands.{commandsFrom}
-use Rattle.loader.specs.declared.Tally.{Tally}
-use Rattle.loader.specs.declared.Scanned.{Scanned}
-use Rattle.loader.specs.Describes.{Describes, ScanReady, ScanResult}
+use Rattle.scan.specs.declared.Scanned.{Scanned}
+use Rattle.scan.specs.Describes.{Describes, ScanReady, ScanResult}
 use Rattle.loader.specs.Tabled.{Tabled, FillReady, FillResult, Signed}
 
 -- what the scan starts from

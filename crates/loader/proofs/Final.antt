@@ -18,16 +18,16 @@ use Rattle.rules.specs.Limits.{fileLimit, termLimit, rowWidth, stateBytes}
 use Rattle.rules.specs.File.{File, parts, holdsKey}
 use Rattle.rules.specs.Load.{Load, load, loaded, refused}
 use Rattle.rules.specs.State.{start, taught}
-use Rattle.rules.specs.Lent.{success, refusal, loadInNumbers, rows, firstPart, loadAnswered, loadAnswer, loadWritten, loadLeaves}
+use Rattle.rules.specs.Lent.{success, loadInNumbers, rows, firstPart, loadAnswered, loadAnswer, loadWritten, loadLeaves}
 use Rattle.theorems.specs.Residency.{Inside, itself, inPart}
 use Rattle.theorems.proofs.Learning.{taught-only}
 use Rattle.theorems.proofs.Loading.{Checked, checked}
 use Rattle.theorems.proofs.Terms.{holds-given, private-declared}
 use Rattle.state.specs.View.{view}
 use Rattle.state.proofs.Exact.{stateOf, ZeroAt, whole, rows-length, rows-same}
-use Rattle.loader.specs.declared.Tally.{Tally}
-use Rattle.loader.specs.Describes.{Describes}
-use Rattle.loader.proofs.Entering.{learnt-declared}
+use Rattle.scan.specs.declared.Tally.{Tally}
+use Rattle.scan.specs.Describes.{Describes}
+use Rattle.scan.proofs.Entering.{learnt-declared}
 
 pub never-true : (b : Bool) → (b ≡ true → ⊥) → b ≡ false
 never-true true h = absurd (h refl)

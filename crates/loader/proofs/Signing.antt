@@ -7,7 +7,7 @@ use Prim.Native.Nat.{ℕ, _+_, _<_}
 use native.Mathlib.Omega.{arith}
 use lib.Dec.{eqb}
 use lib.ListN.{getD}
-use borrow.Author.Tests.{eq-eqb, eqb-true, eqb-false, ne-eqb}
+use borrow.Author.Tests.{eq-eqb, eqb-true, eqb-false}
 use Rattle.rules.specs.Limits.{partyLimit}
 use Rattle.rules.specs.File.{File, signsFor, isSigningKey}
 use Rattle.rules.specs.Load.{load, loaded}
@@ -17,7 +17,7 @@ use Rattle.setup.specs.Allowed.{noKey}
 use Rattle.theorems.proofs.Loading.{checked}
 use Rattle.theorems.proofs.Terms.{setup-finds, signs-given}
 use Rattle.loader.specs.Tabled.{Tabled, Signed}
-use Rattle.loader.proofs.Faults.{same-test, signer-is, signer-given}
+use Rattle.scan.proofs.Faults.{same-test, signer-is, signer-given}
 
 pub signed-none : (signers : List ℕ) (v : Tables) → Signed signers v v 0
 signed-none signers v = record { signer = λ p l. absurd (omega arith); half = refl; entry = refl; words = refl }

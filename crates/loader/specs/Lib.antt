@@ -1,2 +1,1 @@
-pub mod Describes
 pub mod Tabled

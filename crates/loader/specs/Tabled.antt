@@ -11,8 +11,8 @@ use Rattle.rules.specs.Load.{load, loaded, refused}
 use Rattle.tables.specs.Regions.{tableWords, Tables, tablesIn}
 use Rattle.index.specs.Indexed.{passes}
 use Rattle.lookup.specs.Commands.{commandsFrom}
-use Rattle.loader.specs.declared.Scanned.{Scanned}
-use Rattle.loader.specs.Describes.{signerOf, Describes}
+use Rattle.scan.specs.declared.Scanned.{Scanned}
+use Rattle.scan.specs.Describes.{signerOf, Describes}
 
 -- the tables of a file: the parties' signing keys, the private half of each public key, and no certificate in the ledger
 pub record Tabled (f : File) (v : Tables) : Type 0 where

@@ -6,14 +6,14 @@ use mathlib.Core.List.{List, _++_}
 use Prim.Native.Nat.{ℕ, suc, _<_, _≤_}
 use native.Mathlib.Omega.{arith}
 use denote.Ref.{now}
-use lib.ListN.{length, getD, drop, replicate}
+use lib.ListN.{length, getD, drop}
 use lib.Seq.{length-take-le}
 use Rattle.rules.specs.declared.LoadAnswer.the-variants.{Loaded, Refused}
 use Rattle.rules.specs.Limits.{fileLimit, stateBytes}
 use Rattle.rules.specs.Lent.{loadInNumbers, loadAnswer, loadLeaves}
 use Rattle.state.proofs.Exact.{front}
-use Rattle.loader.specs.declared.Scanned.{Scanned}
-use Rattle.loader.specs.Tabled.{Filled, FillResult}
+use Rattle.scan.specs.declared.Scanned.{Scanned}
+use Rattle.loader.specs.Tabled.{FillResult}
 use Rattle.loader.proofs.Bounds.{few-commands, near-refusal}
 use Rattle.loader.proofs.Final.{final-leaves, refused-leaves, short-leaves, long-leaves, final-answer, refused-answer, short-answer, long-answer}
 use Rattle.loader.proofs.load.Statement.{statement}

@@ -1,6 +1,6 @@
 use native.Mathlib.Omega.{arith}
 use mathlib.Core.Path.{_≡_, _∙_}
-use Prim.Native.Nat.{ℕ, _≤_, _-_}
+use Prim.Native.Nat.{_≤_, _-_}
 use Rattle.rules.specs.Limits.{partyLimit}
 use Rattle.tables.specs.Regions.{tablesIn}
 use Rattle.loader.specs.Tabled.{Signed}

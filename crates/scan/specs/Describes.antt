@@ -18,8 +18,8 @@ use Rattle.checks.specs.There.{TermsThere, roleThere, anyAlikeThere}
 use Rattle.setup.specs.Allowed.{noKey, allowedThere, setupLeaves, signersLeave}
 use Rattle.theorems.proofs.Loading.{Good}
 use Rattle.theorems.proofs.Pieces.{from}
-use Rattle.loader.specs.declared.Tally.{Tally}
-use Rattle.loader.specs.declared.Scanned.{Scanned}
+use Rattle.scan.specs.declared.Tally.{Tally}
+use Rattle.scan.specs.declared.Scanned.{Scanned}
 
 -- the signing key of a party, by the set-up records
 unfoldable pub signerOf : List Setup → ℕ → ℕ

@@ -1,9 +1,9 @@
--- `loader::scan` meets its contract. The outer invariant: the file declared by the records before `at` is described, its terms are indexed, feeding it
+-- `scan::scan` meets its contract. The outer invariant: the file declared by the records before `at` is described, its terms are indexed, feeding it
 -- the pieces from `at` on is loading the file, and the first command is the first from `at` on. The inner one: the fields so far are right, and the rest is what is left. Assumes nothing.
 use mathlib.Core.Path.{_≡_, refl, sym, ap, subst⁻¹, _∙_}
 use mathlib.Core.Logic.{⊎-elim}
 use mathlib.Core.List.{List}
-use Prim.Native.Nat.{ℕ, _+_, _-_, _<_, _≤_}
+use Prim.Native.Nat.{ℕ, _-_, _<_, _≤_}
 use native.Mathlib.Omega.{arith}
 use borrow.Author.Needs.{needs}
 use lib.ListN.{length, getD, drop}
@@ -20,13 +20,13 @@ use Rattle.reader.specs.Place.{nextPlace}
 use Rattle.reader.proofs.Places.{place-is, place-later}
 use Rattle.lookup.specs.Commands.{commandsFrom}
 use Rattle.lookup.proofs.Commands.{commands-end, commands-here, commands-later}
-use Rattle.loader.specs.declared.Tally.{Tally}
-use Rattle.loader.specs.Describes.{counted, At}
-use Rattle.loader.proofs.Scanning.{head-is, at-start, at-end, at-head, fits, fields-start, InFields, body-same, field-ready, field-small, field-refused, field-passed, enter-asks, last-refused, record-taken, counts-small}
-use Rattle.loader.proofs.scan.Statement.{statement}
-use Rattle.loader.proofs.scan.Tie as tie
-use Rattle.loader.proofs.scan.Reads as reads
-use Rattle.loader.proofs.scan.Lts as lts
+use Rattle.scan.specs.declared.Tally.{Tally}
+use Rattle.scan.specs.Describes.{counted, At}
+use Rattle.scan.proofs.Scanning.{head-is, at-start, at-end, at-head, fits, fields-start, InFields, body-same, field-ready, field-small, field-refused, field-passed, enter-asks, last-refused, record-taken, counts-small}
+use Rattle.scan.proofs.scan.Statement.{statement}
+use Rattle.scan.proofs.scan.Tie as tie
+use Rattle.scan.proofs.scan.Reads as reads
+use Rattle.scan.proofs.scan.Lts as lts
 
 -- the term of the record at a place is that of its body
 body-stands : (bs : List ℕ) (at : ℕ) (body : List ℕ) → body ≡ bodyAt bs at → termThere bs at ≡ termAt (getD bs at 0) body

@@ -35,8 +35,8 @@ use Rattle.state.proofs.Exact.{view-zero}
 use Rattle.learning.specs.There.{termThere, TermRecord, partsThere, learnThere}
 use Rattle.checks.specs.There.{roleThere, TermsThere}
 use Rattle.setup.specs.Allowed.{noKey, setupLeaves, signersLeave}
-use Rattle.loader.specs.declared.Tally.{Tally}
-use Rattle.loader.specs.Describes.{signerOf, Describes, counted, columnsAfter, signersAfter, EnterReady, ScanReady}
+use Rattle.scan.specs.declared.Tally.{Tally}
+use Rattle.scan.specs.Describes.{signerOf, Describes, counted, columnsAfter, signersAfter, EnterReady, ScanReady}
 
 eqb-swap : (a b : ℕ) → eqb a b ≡ eqb b a
 eqb-swap a b = go (eqb a b) refl

@@ -4,7 +4,7 @@ use mathlib.Core.Path.{_≡_, refl, sym, ap, subst, subst⁻¹, _∙_}
 use mathlib.Core.Logic.{_⊎_, inl, inr}
 use mathlib.Core.Bool.{Bool, true, false, cond}
 use mathlib.Core.List.{List}
-use Prim.Native.Nat.{ℕ, suc, _+_, _<_, _≤_}
+use Prim.Native.Nat.{ℕ, _+_, _<_, _≤_}
 use native.Mathlib.Omega.{arith}
 use lib.Dec.{eqb, ltb}
 use lib.ListN.{length, getD}
@@ -19,10 +19,9 @@ use Rattle.records.proofs.Lengths.{section-most}
 use Rattle.theorems.proofs.Pieces.{bodyAt}
 use Rattle.reader.specs.Place.{nextPlace}
 use Rattle.reader.proofs.Places.{place-is}
-use Rattle.loader.specs.declared.Tally.{Tally}
-use Rattle.loader.specs.declared.Scanned.{Scanned}
-use Rattle.loader.specs.Describes.{counted, At, ScanResult, CommandsReady, CommandsResult}
-use Rattle.loader.proofs.Scanning.{refusal, InFields, at-end, at-head, any-tally, fits, fields-start, field-ready, field-small, field-refused, field-passed, command-taken}
+use Rattle.scan.specs.declared.Tally.{Tally}
+use Rattle.scan.specs.Describes.{counted, At, ScanResult, CommandsReady, CommandsResult}
+use Rattle.scan.proofs.Scanning.{refusal, InFields, at-end, at-head, any-tally, fits, fields-start, field-ready, field-small, field-refused, field-passed, command-taken}
 
 -- a head that is not refused is in order
 pub head-low : (own end size section parties terms : ℕ) → headFault own end size section parties terms ≡ 0 → section ≤ own

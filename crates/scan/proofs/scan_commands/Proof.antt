@@ -1,7 +1,7 @@
--- `loader::scan_commands` meets its contract, whatever the signing keys. Assumes nothing.
-use mathlib.Core.Path.{_≡_, refl, sym, ap, _∙_}
+-- `scan::scan_commands` meets its contract, whatever the signing keys. Assumes nothing.
+use mathlib.Core.Path.{_≡_, refl, _∙_}
 use mathlib.Core.Logic.{⊎-elim}
-use Prim.Native.Nat.{ℕ, _+_, _-_}
+use Prim.Native.Nat.{_-_}
 use native.Mathlib.Omega.{arith}
 use borrow.Author.Needs.{needs}
 use lib.ListN.{length, getD, drop}
@@ -10,12 +10,12 @@ use Rattle.records.specs.Codes.{packed}
 use Rattle.records.proofs.Lengths.{few-fields}
 use Rattle.records.proofs.Packed.{field-left, field-next, none-left}
 use Rattle.reader.proofs.Places.{place-is, place-later}
-use Rattle.loader.proofs.Scanning.{body-same}
-use Rattle.loader.proofs.Commands.{Standing, standing-start, standing-end, standing-head, command-here, AtField, field-first, command-fits, terms-there, field-inside, field-near, field-stops, field-passes, standing-next}
-use Rattle.loader.proofs.scan_commands.Statement.{statement}
-use Rattle.loader.proofs.scan_commands.Tie as tie
-use Rattle.loader.proofs.scan_commands.Reads as reads
-use Rattle.loader.proofs.scan_commands.Lts as lts
+use Rattle.scan.proofs.Scanning.{body-same}
+use Rattle.scan.proofs.Commands.{Standing, standing-start, standing-end, standing-head, command-here, AtField, field-first, command-fits, terms-there, field-inside, field-near, field-stops, field-passes, standing-next}
+use Rattle.scan.proofs.scan_commands.Statement.{statement}
+use Rattle.scan.proofs.scan_commands.Tie as tie
+use Rattle.scan.proofs.scan_commands.Reads as reads
+use Rattle.scan.proofs.scan_commands.Lts as lts
 
 abbrev Inv-loop : tie.InvT-loop
 Inv-loop table file state from n parties terms at commands kind start own end head body fields₀ i₀ offset₀ fields i offset =

@@ -1,8 +1,8 @@
 use borrow.Author.Needs.{needs}
 use Rattle.checks.proofs.Tests.{tests}
-use Rattle.loader.specs.Describes.{counted}
-use Rattle.loader.proofs.count.Statement.{statement}
-use Rattle.loader.proofs.count.Tie as tie
+use Rattle.scan.specs.Describes.{counted}
+use Rattle.scan.proofs.count.Statement.{statement}
+use Rattle.scan.proofs.count.Tie as tie
 
 add-t4 : tie.Need-add-t4
 add-t4 c = search needs

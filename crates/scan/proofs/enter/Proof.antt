@@ -1,4 +1,4 @@
--- `loader::enter` meets its contract: each branch is that of `lastFault`, `columnsAfter` and `signersAfter`. Assumes nothing.
+-- `scan::enter` meets its contract: each branch is that of `lastFault`, `columnsAfter` and `signersAfter`. Assumes nothing.
 use borrow.Author.Needs.{needs}
 use borrow.Author.Tests.{ne-eqb, leb-true}
 use mathlib.Core.Path.{_≡_, refl, sym, _∙_}
@@ -17,11 +17,11 @@ use Rattle.state.specs.View.{Columns, view, withPlace}
 use Rattle.checks.specs.There.{anyAlikeThere}
 use Rattle.index.specs.Indexed.{Indexed}
 use Rattle.setup.specs.Allowed.{allowedThere, setupLeaves, signersLeave}
-use Rattle.loader.specs.declared.Tally.{Tally}
-use Rattle.loader.specs.Describes.{counted, lastFault, columnsAfter, signersAfter}
-use Rattle.loader.proofs.Scanning.{counted-is}
-use Rattle.loader.proofs.enter.Statement.{statement}
-use Rattle.loader.proofs.enter.Tie as tie
+use Rattle.scan.specs.declared.Tally.{Tally}
+use Rattle.scan.specs.Describes.{counted, lastFault, columnsAfter, signersAfter}
+use Rattle.scan.proofs.Scanning.{counted-is}
+use Rattle.scan.proofs.enter.Statement.{statement}
+use Rattle.scan.proofs.enter.Tie as tie
 
 -- the body of a set-up record
 setup-long : (k : ℕ) → cond (eqb (sectionOf k) setupSection) (leb 3 (widths (fieldsOf k))) true ≡ true

@@ -12,10 +12,10 @@ use lib.ListN.{length, getD, take, drop, length-set}
 use borrow.Author.Tests.{eq-eqb, eqb-true}
 use Rattle.rules.specs.declared.Field.{Field}
 use Rattle.rules.specs.declared.Field.the-variants.{AnyTerm}
-use Rattle.rules.specs.Limits.{fileLimit, partyLimit}
+use Rattle.rules.specs.Limits.{fileLimit}
 use Rattle.rules.specs.Record.{sectionOf, bodyLength, fieldsOf, width, widths, partySection, termSection, setupSection, commandSection}
-use Rattle.rules.specs.File.{File, Setup, learns, holds, signsWith}
-use Rattle.rules.specs.Load.{fieldsFault, enter, setupAt, feed, load, loaded, refused, emptyFile}
+use Rattle.rules.specs.File.{Setup, learns, holds, signsWith}
+use Rattle.rules.specs.Load.{fieldsFault, enter, setupAt, feed, loaded, refused, emptyFile}
 use Rattle.state.specs.View.{view}
 use Rattle.checks.specs.There.{headFault, fieldFaultThere}
 use Rattle.setup.specs.Allowed.{signersLeave}
@@ -24,11 +24,11 @@ use Rattle.theorems.proofs.Loading.{entered, empty-good}
 use Rattle.theorems.proofs.Pieces.{from, bodyAt, body-length, load-from, feed-end}
 use Rattle.reader.specs.Place.{nextPlace}
 use Rattle.reader.proofs.Places.{next-record, place-is}
-use Rattle.loader.specs.declared.Tally.{Tally}
-use Rattle.loader.specs.declared.Scanned.{Scanned}
-use Rattle.loader.specs.Describes.{Describes, counted, lastFault, columnsAfter, signersAfter, EnterReady, At, ScanReady, ScanResult}
-use Rattle.loader.proofs.Faults.{field-same, head-zero, refuse-head, fields-next, fields-stop, refuse-fields, refuse-last, taken}
-use Rattle.loader.proofs.Entering.{described-empty, described-next, enter-ready}
+use Rattle.scan.specs.declared.Tally.{Tally}
+use Rattle.scan.specs.declared.Scanned.{Scanned}
+use Rattle.scan.specs.Describes.{Describes, counted, lastFault, columnsAfter, signersAfter, EnterReady, At, ScanReady, ScanResult}
+use Rattle.scan.proofs.Faults.{field-same, head-zero, refuse-head, fields-next, fields-stop, refuse-fields, refuse-last, taken}
+use Rattle.scan.proofs.Entering.{described-empty, described-next, enter-ready}
 
 abbrev pub none : Tally
 none = record { section = 0; parties = 0; terms = 0; commands = 0 }

@@ -34,8 +34,8 @@ use Rattle.theorems.proofs.LoadingFields.{SetupFields, first-zero, Each, each, 
 use Rattle.theorems.proofs.Loading.{Checked, Good, good-checked}
 use Rattle.theorems.proofs.Terms.{parts-signature, private-declared, setup-found, setup-finds, holds-given, given-holds, signs-role-given}
 use Rattle.theorems.proofs.Pieces.{from, bodyAt, feed-unknown, feed-short, feed-refusal, feed-taken}
-use Rattle.loader.specs.declared.Tally.{Tally}
-use Rattle.loader.specs.Describes.{Describes, signerOf, lastFault}
+use Rattle.scan.specs.declared.Tally.{Tally}
+use Rattle.scan.specs.Describes.{Describes, signerOf, lastFault}
 use Rattle.theorems.proofs.Booleans.{and-true, or-true, or-left, or-right}
 
 -- Tests.

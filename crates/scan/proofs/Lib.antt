@@ -1,0 +1,4 @@
+pub mod Faults
+pub mod Entering
+pub mod Scanning
+pub mod Commands
