@@ -40,13 +40,13 @@ unfoldable pub result : List ℕ → Result
 unfolding triples resultOf applies firstOf refusalOf has sameAttributes kindOf subjectFields fieldsIn subjectOf attributesOf sameSubject isDeviceSubject isTpmSubject sameList alike anyAlike keyPair partsOf width widths sectionOf fieldsOf bodyLength word cut pieces roleOf isRole term kind isKind parts field hashedTerm message signingKey attestedKey credentialTerm credentialNumber credentialKey idevidCertificate idevidKey ldevidMessage ldevidCertificate certifiedKey signer leftOf rightOf subject attributes paired someTerm halfIn someSetup isHold isOtherHold isSigningKey isSigner isSigningKeyFor holdsKey signsFor signsForRole signsForSome first refuseUnless subjectAt termAt setupAt familyOf commandAt sectionFault countFault declaredFault fieldFault fieldsFault alikeFault mayLearn mayHold maySign allowedFault setupFault recordFault withParty withTerm withSetup withCommand enter settle step feed emptyFile load commandsOf grant each opened learn nothing taught start put listed depthOf learnt ticketed opening closing entered deviceRole keyHas holdsHalf hashTests hashEffect signTests certifyTests makeCredentialTests activateCredentialTests bothKnownTests mayBeSentByDesk maySend sendTests selfIssueTests checkRole checkTests requestBody requestSignature formTests proofTests knowers numberTests iakOf ekCertificateOf ekOf challengeTests challengeEffect calledFor issueIakTests issueIakEffect attestSignatureOf newKeyOf parentCertificateOf issueTests issueEffect testsOf effectOf outcome after run outcomes firstCommands reached outcomesOf zeros others accepted refusals issued digits decimal numbers line refusalLines entryLines lines listing
 result bytes = resultOf (load bytes)
 
--- what the commands from place n on give where the ledger is emptied before them, a state that no file comes to
+-- what the commands from place n on give where the ledger is another before them, a state that no file comes to
 unfoldable pub withLedger : State → List Entry → State
 withLedger s entries = record { knows = s .knows; table = s .table; mark = s .mark; desk = s .desk; request = s .request; ledger = entries }
 
-unfoldable pub outcomesUnlisted : ℕ → Load → List ℕ
-outcomesUnlisted n (loaded f) = outcomes f (drop n (commandsOf f)) (withLedger (reached f n) [])
-outcomesUnlisted n (refused number place) = number ∷ []
+unfoldable pub outcomesWith : List Entry → ℕ → Load → List ℕ
+outcomesWith entries n (loaded f) = outcomes f (drop n (commandsOf f)) (withLedger (reached f n) entries)
+outcomesWith entries n (refused number place) = number ∷ []
 
 -- what the commands of a file give where every party knows everything before them, a state that no file comes to either
 unfoldable pub outcomesKnowing : Load → List ℕ

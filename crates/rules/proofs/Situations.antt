@@ -2,9 +2,10 @@
 use mathlib.Core.Path.{_≡_, refl}
 use mathlib.Core.List.{List, [], _∷_, _++_}
 use Prim.Native.Nat.{ℕ, zero, suc, _+_, _*_}
+use Rattle.rules.specs.declared.Entry.{Entry}
 use Rattle.rules.specs.Load.{load}
 use Rattle.rules.specs.Listing.{listing}
-use Rattle.rules.proofs.Computed.{Result, ran, notLoaded, result, withLedger, outcomesUnlisted, outcomesKnowing}
+use Rattle.rules.proofs.Computed.{Result, ran, notLoaded, result, withLedger, outcomesWith, outcomesKnowing}
 use Rattle.rules.proofs.Records.{Bytes, written, aDevice, aTpmMaker, anOemDesk, anOwnerDesk, tpm, device, publicKey, privateKey, hash, signature, attest, credential, number, idevidRequest, ldevidRequest, certificate, pair, learns, holds, signsWith, makeHash, sign, certify, makeCredential, activateCredential, makeIdevidRequest, makeLdevidRequest, makePair, send, challenge, issueIak, issue}
 
 -- A file and what it gives.
@@ -357,14 +358,6 @@ laks m more = anLak ∷ laksFrom 0 m more
 abbrev pub eightDeep : List (ℕ × ℕ × ℕ)
 eightDeep = (14, 6, 1) ∷ (24, 14, 2) ∷ (33, 24, 3) ∷ (42, 33, 4) ∷ (51, 42, 5) ∷ (60, 51, 6) ∷ (69, 60, 7) ∷ (78, 69, 8) ∷ []
 
--- Depth 9: an eighth LAK.
-abbrev pub depth9 : Situation
-depth9 = record { file = asking (laks 7 []) [] []; gives = ran (fine 72 (29 ∷ [])) eightDeep 72 1 8 }
-
-pub depth9-holds : Holds depth9
-unfolding result
-depth9-holds = refl
-
 -- The listing of the example: "R 1 15" and "T 1 1 0".
 abbrev space : ℕ
 space = 32
@@ -497,13 +490,25 @@ sameLak-holds : Holds sameLak
 unfolding result
 sameLak-holds = refl
 
--- 40 does not ask, under any number, whether its parent is listed: command 16, the 40 of the honest LAK, with an empty ledger.
-abbrev honestLak : Bytes
-honestLak = asking (anLak ∷ []) [] []
+-- Command 16, the 40 of the honest LAK, with other ledgers. It does not ask, under any number, whether its parent is listed; and under a
+-- parent of depth 7 it issues, under one of depth 8 it does not.
+abbrev lakIssued : List Entry → List ℕ
+lakIssued entries = outcomesWith entries 16 (load (asking (anLak ∷ []) [] []))
 
-parent-unasked : outcomesUnlisted 16 (load honestLak) ≡ 0 ∷ []
-unfolding result outcomesUnlisted withLedger
+abbrev iakAt : ℕ → List Entry
+iakAt depth = record { certificate = iakCertificate; parent = ekCertificate; depth = depth } ∷ []
+
+parent-unasked : lakIssued [] ≡ 0 ∷ []
+unfolding result outcomesWith withLedger
 parent-unasked = refl
+
+depth-8-issued : lakIssued (iakAt 7) ≡ 0 ∷ []
+unfolding result outcomesWith withLedger
+depth-8-issued = refl
+
+depth-9-refused : lakIssued (iakAt 8) ≡ 29 ∷ []
+unfolding result outcomesWith withLedger
+depth-9-refused = refl
 
 -- Slips at 40, 41 and 42, in a state that no file comes to: every party knows everything. An LAK (issued); an IDevID and an LDevID with 0B hex;
 -- an IDevID under the LAK; an IDevID (issued); an LAK under the IDevID; an IDevID by the owner desk.

@@ -1,4 +1,4 @@
--- The large starred situations of document 01 ("Situations"): as many terms as a file may have, and one more; depth 8.
+-- The large starred situations of document 01 ("Situations"): as many terms as a file may have, and one more; depth 8 and 9.
 use mathlib.Core.Path.{refl}
 use mathlib.Core.List.{List, [], _∷_, _++_}
 use Prim.Native.Nat.{ℕ, zero, suc}
@@ -34,3 +34,11 @@ depth8 = record { file = asking (laks 6 []) [] []; gives = ran (fine 65 []) eigh
 pub depth8-holds : Holds depth8
 unfolding result
 depth8-holds = refl
+
+-- Depth 9: an eighth LAK.
+abbrev pub depth9 : Situation
+depth9 = record { file = asking (laks 7 []) [] []; gives = ran (fine 72 (29 ∷ [])) eightDeep 72 1 8 }
+
+pub depth9-holds : Holds depth9
+unfolding result
+depth9-holds = refl

@@ -1,8 +1,8 @@
 -- The starred situations of document 01 ("Situations") as one table, and those of request 1 of document 02, each computed on the rules.
 use mathlib.Core.List.{List, [], _∷_}
-use Rattle.rules.proofs.Situations.{Situation, Holds, empty, empty-holds, example, example-holds, honestIak, honestIak-holds, without34, without34-holds, returnedByDesk, returnedByDesk-holds, ekElsewhere, ekElsewhere-holds, numberTwice, numberTwice-holds, sameCertificate, sameCertificate-holds, depth9, depth9-holds, attestHashed, attestHashed-holds}
+use Rattle.rules.proofs.Situations.{Situation, Holds, empty, empty-holds, example, example-holds, honestIak, honestIak-holds, without34, without34-holds, returnedByDesk, returnedByDesk-holds, ekElsewhere, ekElsewhere-holds, numberTwice, numberTwice-holds, sameCertificate, sameCertificate-holds, attestHashed, attestHashed-holds}
 use Rattle.situations.proofs.OfFamilies.{fourFamilies, fourFamilies-holds, othersAttributes, othersAttributes-holds, ownersParent, ownersParent-holds, idevidParent, idevidParent-holds, otherDesks, otherDesks-holds, ldevidParent, ldevidParent-holds, issuedAlready, issuedAlready-holds, unknownKind, unknownKind-holds, ldevidDepths, ldevidDepths-holds, idevidAt2, idevidAt2-holds}
-use Rattle.situations.proofs.Large.{depth8, depth8-holds, fullFile, fullFile-holds, overfullFile, overfullFile-holds}
+use Rattle.situations.proofs.Large.{depth8, depth8-holds, depth9, depth9-holds, fullFile, fullFile-holds, overfullFile, overfullFile-holds}
 
 -- in the order of the paper
 abbrev pub starred : List Situation
