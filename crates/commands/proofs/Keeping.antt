@@ -25,7 +25,7 @@ use Rattle.theorems.proofs.Running.{after-accepted, after-refused}
 use Rattle.theorems.proofs.DeskSteps.{put-same, put-other}
 use Rattle.theorems.proofs.Reaching.{start-invariant, after-invariant}
 use Rattle.loader.proofs.Final.{never-true, inside-lower, unknown, unheld}
-use Rattle.desk.specs.Formed.{Requested}
+use Rattle.requests.specs.Formed.{Requested}
 use Rattle.commands.specs.Standing.{Blank, Kept}
 
 -- what is kept beside the invariant

@@ -29,7 +29,7 @@ use Rattle.loaded.specs.Entries.{Enters, Entered, Accepts, SameKeys}
 use Rattle.loaded.proofs.Standing.{checked-here, holds-kept}
 use Rattle.loaded.proofs.Ledger.{column-some}
 use Rattle.desk.specs.Dispatch.{OpenRequested, DeskLeaves}
-use Rattle.desk.specs.Issues.{ParentsEntered}
+use Rattle.issuance.specs.Issues.{ParentsEntered}
 use Rattle.commands.specs.Standing.{stateIn, Kept, Stands}
 use Rattle.commands.proofs.Keeping.{kept-after}
 use Rattle.commands.proofs.Room.{ledger-below}

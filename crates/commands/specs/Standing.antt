@@ -12,7 +12,7 @@ use Rattle.state.proofs.Exact.{stateOf}
 use Rattle.entries.specs.Words.{entriesIn}
 use Rattle.loaded.specs.Loaded.{fileIn, Holds, Finds}
 use Rattle.loaded.specs.Entries.{Enters}
-use Rattle.desk.specs.Formed.{Requested}
+use Rattle.requests.specs.Formed.{Requested}
 
 -- the state that bytes and the words of n entries hold
 abbrev pub stateIn : List ℕ → List ℕ → ℕ → State

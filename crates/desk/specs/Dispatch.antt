@@ -16,8 +16,8 @@ use Rattle.lookup.specs.There.{commandThere}
 use Rattle.lookup.specs.Commands.{CommandAt}
 use Rattle.loaded.specs.Loaded.{fileIn, Holds}
 use Rattle.loaded.specs.Entries.{Enters, Accepts, SameKeys}
-use Rattle.desk.specs.Formed.{Requested}
-use Rattle.desk.specs.Issues.{ParentsEntered}
+use Rattle.requests.specs.Formed.{Requested}
+use Rattle.issuance.specs.Issues.{ParentsEntered}
 
 -- each open credential's request has the form that its challenge asked for
 abbrev pub OpenRequested : List ℕ → List ℕ → Type 0

@@ -38,8 +38,8 @@ use Rattle.loader.proofs.Bounds.{near-refusal}
 use Rattle.loaded.specs.Loaded.{fileIn}
 use Rattle.loaded.proofs.Filled.{file-is}
 use Rattle.commands.specs.Standing.{stateIn, Stands}
-use Rattle.engine.specs.declared.Totals.{Totals}
-use Rattle.engine.specs.Turns.{given, Executes}
+use Rattle.turns.specs.declared.Totals.{Totals}
+use Rattle.turns.specs.Turns.{given, Executes}
 use Rattle.engine.specs.Runs.{rowsAfter, outcomesAfter, entriesAfter, part, PartsRan}
 use Rattle.engine.proofs.Started.{state-start}
 

@@ -1,4 +1,3 @@
-pub mod Turns
 pub mod Started
 pub mod Ended
 pub mod Written

@@ -25,7 +25,7 @@ use Rattle.loaded.specs.Entries.{entryFrom, Enters}
 use Rattle.loaded.proofs.Filled.{file-is, filled-holds, filled-finds}
 use Rattle.commands.specs.Standing.{stateIn, Kept, Stands}
 use Rattle.commands.proofs.Keeping.{kept-start}
-use Rattle.engine.specs.Turns.{RunReady}
+use Rattle.turns.specs.Turns.{RunReady}
 
 none-entered : (c : ℕ) → 0 ≡ entryFrom 0 [] c
 unfolding entryFrom

@@ -2,6 +2,7 @@
 --     in-order                                  of a list of tests whose refusals rise
 --     chain-none, chain-passes, chain-fails     no test, one test
 --     chain-first, chain-rest                   a list of tests before others
+--     stops, passed                             a part that refuses; a test of a chain that answers 0
 -- Assumes nothing.
 use mathlib.Core.Path.{_≡_, refl, sym, ap, subst, _∙_}
 use mathlib.Core.Bool.{Bool, true, false, cond, not, _&&_, _||_, false≢true}
@@ -145,3 +146,11 @@ chain-first n (x ∷ xs) ys e = go (x .passes) refl e (λ q. chain-first n xs ys
     go : (b : Bool) → x .passes ≡ b → cond (x .passes) (chain xs) (x .refusal) ≡ suc n → (chain xs ≡ suc n → chain (xs ++ ys) ≡ suc n) → cond (x .passes) (chain (xs ++ ys)) (x .refusal) ≡ suc n
     go true q e more = rw q (more (rw q at e))
     go false q e more = rw q (rw q at e)
+
+pub stops : (xs ys : List Test) (x : ℕ) → x ≡ chain xs → (x ≡ 0 → ⊥) → chain (xs ++ ys) ≡ x
+stops xs ys zero e n = absurd (n refl)
+stops xs ys (suc m) e n = chain-first m xs ys (sym e)
+
+pub passed : (n : ℕ) (b : Bool) (xs : List Test) → 0 < n → chain (need n b ∷ xs) ≡ 0 → (b ≡ true) × (chain xs ≡ 0)
+passed n true xs l e = (refl, sym (chain-passes n true xs refl) ∙ e)
+passed n false xs l e = let w = sym (chain-fails n false xs refl) ∙ e in absurd (omega arith)

@@ -1,3 +1,4 @@
 pub mod Search
 pub mod Names
 pub mod Tests
+pub mod Formed

@@ -390,11 +390,11 @@ pub fn attested_by(file: &[u8], state: &[u8], t: usize) -> Attested
             signer: 0,
         };
     };
-    let lak = key as usize;
+    let new = key as usize;
     let half = signer as usize;
     Attested {
         refusal: 0,
-        key: lak,
+        key: new,
         signer: half,
     }
 }

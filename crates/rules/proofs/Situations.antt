@@ -16,6 +16,11 @@ pub record Situation : Type 0 where
 abbrev pub Holds : Situation → Type 0
 Holds x = result (x .file) ≡ x .gives
 
+-- a table of situations, each of which holds
+abbrev pub AllHold : List Situation → Type 0
+AllHold [] = Unit {0}
+AllHold (x ∷ xs) = Holds x × AllHold xs
+
 -- outcomes: so many commands accepted, then the others
 abbrev pub fine : ℕ → List ℕ → List ℕ
 fine zero more = more

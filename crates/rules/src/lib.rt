@@ -27,6 +27,13 @@ pub const LAST_KIND: usize = 0x42;
 
 pub const KIND_COUNT: usize = LAST_KIND + 1;
 
+// The marks of a used number, and of an open and a closed credential.
+pub const NUMBER_USED: u8 = 1;
+
+pub const CREDENTIAL_OPEN: u8 = 2;
+
+pub const CREDENTIAL_CLOSED: u8 = 3;
+
 // Roles of parties.
 pub const DEVICE: u8 = 0;
 

@@ -1,3 +1,2 @@
 pub mod Large
-pub mod OfFamilies
 pub mod Table

@@ -77,8 +77,8 @@ word-at-requires-4 c κs = let p = c .before .before .before .before .before .be
 cast-r-2 : tie.Need-cast-r-2
 cast-r-2 c = search needs
 
-decide-challenge-requires : tie.Need-decide-challenge-requires
-decide-challenge-requires c κs =
+decide-requires : tie.Need-decide-requires
+decide-requires c κs =
     let p = c .before .before .before .before .before .before .before .before .pre in
     let e = two-read challenge (challenge-there _ _ (c .if2 .taken)) (c .before .before .word-at3 .ensures) (c .before .word-at4 .ensures) in
     (p .0, known-as (p .3) e, p .1, p .2)
@@ -87,7 +87,7 @@ returns-2 : tie.Need-returns-2
 returns-2 c =
     let p = c .before .before .before .before .before .before .before .before .before .pre in
     let e = two-read challenge (challenge-there _ _ (c .before .if2 .taken)) (c .before .before .before .word-at3 .ensures) (c .before .before .word-at4 .ensures) in
-    decided-as _ _ e (now (c .before .before .before .before .before .before .before .before .before .args .state)) _ _ _ (λ n ledger h. c .decide-challenge .ensures ledger)
+    decided-as _ _ e (now (c .before .before .before .before .before .before .before .before .before .args .state)) _ _ _ (λ n ledger h. c .decide .ensures ledger)
 
 family-of-requires : tie.Need-family-of-requires
 family-of-requires c κs = search needs
@@ -129,7 +129,7 @@ decide-spec =
     add-word-at-4
     word-at-requires-4
     cast-r-2
-    decide-challenge-requires
+    decide-requires
     returns-2
     family-of-requires
     decide-issue-requires

@@ -4,7 +4,7 @@ use Prim.Native.Nat.{_+_}
 use native.Mathlib.Omega.{arith}
 use Rattle.rules.specs.File.{challenge}
 use Rattle.lookup.proofs.Fields.{four-bytes, two-read, known-as, challenge-there, issue-iak-there}
-use Rattle.desk.proofs.Issued.{iak-open}
+use Rattle.issuance.proofs.Issued.{iak-open}
 use Rattle.desk.proofs.Places.{issue-as, iak-bytes, two-bytes, issue-read, accepts-as, issues-as, challenge-as}
 use Rattle.desk.proofs.effect.Statement.{statement}
 use Rattle.desk.proofs.effect.Tie as tie
@@ -76,8 +76,8 @@ word-at-requires-4 c κs = let p = c .before .before .before .before .before .be
 cast-r-2 : tie.Need-cast-r-2
 cast-r-2 c = search needs
 
-effect-challenge-requires : tie.Need-effect-challenge-requires
-effect-challenge-requires c κs =
+effect-requires : tie.Need-effect-requires
+effect-requires c κs =
     let p = c .before .before .before .before .before .before .before .before .before .pre in
     let e = two-read challenge (challenge-there _ _ (c .before .if2 .taken)) (c .before .before .before .word-at3 .ensures) (c .before .before .word-at4 .ensures) in
     (p .holds, known-as (p .command) e)
@@ -89,7 +89,7 @@ returns-2 : tie.Need-returns-2
 returns-2 c =
     let p = c .before .before .before .before .before .before .before .before .before .before .before .before .pre in
     let e = two-read challenge (challenge-there _ _ (c .before .before .before .before .if2 .taken)) (c .before .before .before .before .before .before .word-at3 .ensures) (c .before .before .before .before .before .word-at4 .ensures) in
-    challenge-as _ _ e (c .before .before .effect-challenge .ensures)
+    challenge-as _ _ e (c .before .before .effect .ensures)
 
 effect-issue-requires : tie.Need-effect-issue-requires
 effect-issue-requires c κs =
@@ -133,7 +133,7 @@ effect-spec =
     add-word-at-4
     word-at-requires-4
     cast-r-2
-    effect-challenge-requires
+    effect-requires
     same-length-2
     returns-2
     effect-issue-requires

@@ -73,8 +73,8 @@ attest d =
     let p = b .before .before .before .before .before .pre in
     read (term-here (p .0) (over b)) (d .before .before .term-of2 .ensures) (d .attest .given .1)
 
-cast-lak : tie.Need-cast-lak
-cast-lak c = search needs
+cast-new : tie.Need-cast-new
+cast-new c = search needs
 
 cast-half : tie.Need-cast-half
 cast-half c = search needs
@@ -96,6 +96,6 @@ attested-by-spec =
     term-of-requires-2
     enum-known-attest
     returns-2
-    cast-lak
+    cast-new
     cast-half
     returns-3)

@@ -1,0 +1,5 @@
+pub mod Called
+pub mod IssueIak
+pub mod IssueOnRequest
+pub mod Appending
+pub mod Issued

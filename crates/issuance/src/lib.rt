@@ -1,0 +1,222 @@
+// Certificates issued, 3F and 40 to 42: what each command decides and leaves.
+use rules::Family;
+ghost use mathlib.Core.Path.{_≡_};
+ghost use mathlib.Core.List.{List};
+ghost use Prim.Native.Nat.{ℕ, _<_, _≤_};
+ghost use lib.ListN.{length};
+ghost use Rattle.rules.specs.declared.Entry.{Entry};
+ghost use Rattle.rules.specs.declared.Family.{Family};
+ghost use Rattle.rules.specs.Limits.{termLimit};
+ghost use Rattle.rules.specs.File.{issueIak, issue};
+ghost use Rattle.rules.specs.State.{credentialOpen, listed, depthOf};
+ghost use Rattle.theorems.proofs.Loading.{Wellformed};
+ghost use Rattle.state.specs.View.{view};
+ghost use Rattle.tables.specs.Regions.{tableWords, tablesIn};
+ghost use Rattle.entries.specs.Words.{ledgerWords};
+ghost use Rattle.loaded.specs.Chain.{chain};
+ghost use Rattle.loaded.specs.Loaded.{fileIn, Holds, Finds};
+ghost use Rattle.loaded.specs.Entries.{Enters, Entered, DecidesListed, DecidesBy, Issues};
+ghost use Rattle.requests.specs.Formed.{Requested};
+ghost use Rattle.issuance.specs.Tests.{entryTests};
+ghost use Rattle.issuance.specs.Appends.{Appends};
+ghost use Rattle.issuance.specs.Issues.{IssuesIak, ParentsEntered, IssuesOnRequest};
+
+// Whether the ledger lists a certificate, by the tables' column of places.
+fn is_listed(tables: &[u16; tables::WORDS], t: usize) -> bool
+    requires { ⌜ t < termLimit ⌝ }
+    ensures { λ x. ⌜ ((words : List ℕ) (n : ℕ) (ledger : List Entry) → Enters (now (tables .entry)) words n ledger → x ≡ listed ledger t) ⌝ }
+{
+    tables::entry_of(tables, t) != 0
+}
+
+// The depth of a listed certificate, by the ledger's words.
+fn depth_of(tables: &[u16; tables::WORDS], words: &[u16; entries::WORDS], t: usize) -> u16
+    requires { ⌜ (t < termLimit) × (0 < tablesIn (now tables) .entry t) × (tablesIn (now tables) .entry t ≤ termLimit) ⌝ }
+    ensures { λ x. ⌜ ((n : ℕ) (ledger : List Entry) → Enters (now (tables .entry)) (now (words .entry)) n ledger → x ≡ depthOf ledger t) ⌝ }
+{
+    let entry = tables::entry_of(tables, t) as usize;
+    entries::depth_of(words, entry - 1)
+}
+
+// 3F IssueIak.
+pub fn decide_issue_iak(
+    file: &[u8],
+    state: &[u8],
+    tables: &[u16; tables::WORDS],
+    party: usize,
+    other: usize,
+    c: usize,
+    r: usize,
+) -> u8
+    requires { ⌜ Holds (now file) (now state) × Finds (now file) (now tables) × Wellformed (fileIn (now file)) (issueIak party other c r) × (view (now state) .mark c ≡ credentialOpen → Requested (fileIn (now file)) (view (now state) .request c)) ⌝ }
+    ensures { λ x. ⌜ DecidesListed (now (file .entry)) (now (state .entry)) (now (tables .entry)) (issueIak party other c r) x ⌝ }
+{
+    if !loaded::is_role(file, party, rules::OEM_DESK) {
+        return 13;
+    }
+    if state::mark_of(state, c) != rules::CREDENTIAL_OPEN {
+        return 25;
+    }
+    let desk = state::desk_of(state, c) as usize;
+    if desk != party {
+        return 25;
+    }
+    if !loaded::is_role(file, other, rules::DEVICE) {
+        return 26;
+    }
+    let credential = requests::credential_of(file, state, c);
+    if !state::knows(state, other, credential.number) {
+        return 26;
+    }
+    let q = state::request_of(state, c);
+    let request = requests::pair_of(file, state, q);
+    let asked = requests::idevid_request_of(file, state, request.left);
+    let wanted = asked.subject;
+    let called = requests::called_for(file, state, tables, party, r, asked.key, wanted);
+    if called != 0 {
+        return called;
+    }
+    if is_listed(tables, r) {
+        return 28;
+    }
+    0
+}
+
+// The entry of a certificate below its parent's: none so far, and not too deep.
+fn entry_allowed(
+    tables: &[u16; tables::WORDS],
+    words: &[u16; entries::WORDS],
+    r: usize,
+    parent: usize,
+) -> u8
+    requires { ⌜ (r < termLimit) × (parent < termLimit) × (0 < tablesIn (now tables) .entry parent) × (tablesIn (now tables) .entry parent ≤ termLimit) ⌝ }
+    ensures { λ x. ⌜ ((n : ℕ) (ledger : List Entry) → Enters (now (tables .entry)) (now (words .entry)) n ledger → x ≡ chain (entryTests ledger r parent)) ⌝ }
+{
+    if is_listed(tables, r) {
+        return 28;
+    }
+    let depth = depth_of(tables, words, parent);
+    if depth >= rules::DEPTH_LIMIT {
+        return 29;
+    }
+    0
+}
+
+// 40, 41, 42: what differs is the family.
+pub fn decide_issue(
+    file: &[u8],
+    state: &[u8],
+    tables: &[u16; tables::WORDS],
+    words: &[u16; entries::WORDS],
+    parties: usize,
+    family: Family,
+    party: usize,
+    q: usize,
+    r: usize,
+) -> u8
+    requires { ⌜ Holds (now file) (now state) × Finds (now file) (now tables) × (parties ≡ length (fileIn (now file) .roles)) × Wellformed (fileIn (now file)) (issue family party q r) × Entered (now tables) (now words) × ParentsEntered (now file) (now state) (now tables) ⌝ }
+    ensures { λ x. ⌜ DecidesBy (now (file .entry)) (now (state .entry)) (now (tables .entry)) (now (words .entry)) (issue family party q r) x ⌝ }
+{
+    if !loaded::is_role(file, party, family.desk) {
+        return 13;
+    }
+    if !state::knows(state, party, q) {
+        return 14;
+    }
+    let request = requests::form(file, state, q, 0x18);
+    if request.refusal != 0 {
+        return request.refusal;
+    }
+    let asked = requests::ldevid_request_of(file, state, request.body);
+    let attested = requests::attested_by(file, state, asked.message);
+    if attested.refusal != 0 {
+        return attested.refusal;
+    }
+    let new = attested.key;
+    let proved = requests::proof_of_key(tables, request, new);
+    if proved != 0 {
+        return proved;
+    }
+    let parent = asked.certificate;
+    let certificate = requests::certificate_of(file, state, parent);
+    let descends = requests::parentage(
+        file,
+        state,
+        tables,
+        parties,
+        family,
+        attested.signer,
+        new,
+        certificate,
+    );
+    if descends != 0 {
+        return descends;
+    }
+    let wanted = certificate.subject;
+    let called = requests::called_for(file, state, tables, party, r, new, wanted);
+    if called != 0 {
+        return called;
+    }
+    entry_allowed(tables, words, r, parent)
+}
+
+// An entry is written after the others, and its place noted.
+fn append(
+    tables: &mut [u16; tables::WORDS],
+    words: &mut [u16; entries::WORDS],
+    n: usize,
+    certificate: usize,
+    parent: usize,
+    depth: u16,
+)
+    requires { ⌜ (length (now tables) ≡ tableWords) × (length (now words) ≡ ledgerWords) × (n < termLimit) × (certificate < termLimit) × (parent < termLimit) ⌝ }
+    ensures { λ _. ⌜ Appends (now (tables .entry)) (now (words .entry)) n (record { certificate = certificate; parent = parent; depth = depth }) (now (tables .exit)) (now (words .exit)) ⌝ }
+{
+    let place = (n + 1) as u16;
+    tables::note_entry(tables, certificate, place);
+    entries::note_entry(words, n, certificate as u16, parent as u16, depth);
+}
+
+// What 3F leaves: the desk learns the certificate, the credential is closed, and the ledger has the certificate under that of the EK.
+pub fn effect_issue_iak(
+    file: &[u8],
+    state: &mut [u8],
+    tables: &mut [u16; tables::WORDS],
+    words: &mut [u16; entries::WORDS],
+    n: usize,
+    party: usize,
+    c: usize,
+    r: usize,
+)
+    requires { ⌜ Holds (now file) (now state) × IssuesIak (now file) (now state) (now tables) (now words) n party c r ⌝ }
+    ensures { λ _. ⌜ ((other : ℕ) → Issues (now (file .entry)) (now (state .entry)) (now (tables .entry)) (now (words .entry)) n (issueIak party other c r) (now (state .exit)) (now (tables .exit)) (now (words .exit))) ⌝ }
+{
+    let q = state::request_of(state, c);
+    let request = requests::pair_of(file, state, q);
+    let asked = requests::idevid_request_of(file, state, request.left);
+    loaded::learn(file, state, party, r);
+    state::note_mark(state, c, rules::CREDENTIAL_CLOSED);
+    append(tables, words, n, r, asked.certificate, 1);
+}
+
+// What 40, 41 and 42 leave: the desk learns the certificate, and the ledger has it under the request's certificate, one deeper.
+pub fn effect_issue(
+    file: &[u8],
+    state: &mut [u8],
+    tables: &mut [u16; tables::WORDS],
+    words: &mut [u16; entries::WORDS],
+    n: usize,
+    party: usize,
+    q: usize,
+    r: usize,
+)
+    requires { ⌜ Holds (now file) (now state) × IssuesOnRequest (now file) (now state) (now tables) (now words) n party q r ⌝ }
+    ensures { λ _. ⌜ ((family : Family) → Issues (now (file .entry)) (now (state .entry)) (now (tables .entry)) (now (words .entry)) n (issue family party q r) (now (state .exit)) (now (tables .exit)) (now (words .exit))) ⌝ }
+{
+    let request = requests::pair_of(file, state, q);
+    let asked = requests::ldevid_request_of(file, state, request.left);
+    let parent = asked.certificate;
+    let depth = depth_of(tables, words, parent);
+    loaded::learn(file, state, party, r);
+    append(tables, words, n, r, parent, depth + 1);
+}
