@@ -1,9 +1,9 @@
-//! A second reading of "Rehearsing DevID enrolment", with points 1 and 5 of its
-//! change requests, written from those texts alone, to test another
+//! A second reading of "Rehearsing DevID enrolment", with points 1, 2, 3 and 5
+//! of its change requests, written from those texts alone, to test another
 //! implementation against.
 //!
 //! The numbers in the comments are the kinds of records (hexadecimal, as in
-//! the paper) and the refusals 1 to 30 but 22 (decimal).
+//! the paper) and the refusals 1 to 31 but 22 (decimal).
 
 #![forbid(unsafe_code)]
 
@@ -137,15 +137,9 @@ pub fn path(
             place: u32::from(term),
         };
     }
-    let mut steps = 0;
-    let mut certificate = term;
-    list[0] = certificate;
-    while let Some(entry) = world.entry(certificate) {
-        certificate = entry.parent;
-        steps += 1;
-        list[steps] = certificate;
-    }
-    PathAnswer::Steps(steps as u32)
+    let path = world.path(term);
+    list[..path.len()].copy_from_slice(&path);
+    PathAnswer::Steps(path.len() as u32 - 1)
 }
 
 /// What the listing program prints for a file.
@@ -511,17 +505,31 @@ struct CertificateFields {
     signer: u16,
 }
 
-/// The lowest refusal that applies so far; 0 for none.
+/// The refusals of a command, in the order that they are looked for: by
+/// number, but 31 between 28 and 29.
+const ORDER: [u8; 17] = [
+    13, 14, 15, 16, 17, 18, 19, 20, 21, 23, 24, 25, 26, 27, 28, 31, 29,
+];
+
+/// Where a refusal stands in the order.
+fn place_in_order(number: u8) -> usize {
+    ORDER
+        .iter()
+        .position(|other| *other == number)
+        .expect("a refusal of a command")
+}
+
+/// The first refusal, in the order, that applies so far; 0 for none.
 #[derive(Default)]
 struct Verdict {
-    lowest: u8,
+    first: u8,
 }
 
 impl Verdict {
     /// The refusal `number` applies unless `holds`.
     fn demand(&mut self, holds: bool, number: u8) {
-        if !holds && (self.lowest == 0 || number < self.lowest) {
-            self.lowest = number;
+        if !holds && (self.first == 0 || place_in_order(number) < place_in_order(self.first)) {
+            self.first = number;
         }
     }
 }
@@ -627,6 +635,32 @@ impl World {
         self.issued
             .get(&certificate)
             .map(|place| self.ledger[*place])
+    }
+
+    /// A certificate of the ledger, its parents and the EK certificate.
+    fn path(&self, certificate: u16) -> Vec<u16> {
+        let mut path = vec![certificate];
+        let mut last = certificate;
+        while let Some(entry) = self.entry(last) {
+            last = entry.parent;
+            path.push(last);
+        }
+        path
+    }
+
+    /// The EK key, a 10, that the path of a certificate of the ledger ends at.
+    fn end_of_path(&self, certificate: u16) -> u16 {
+        let path = self.path(certificate);
+        self.certificate(path[path.len() - 1]).key
+    }
+
+    /// Whether every ledger entry with this Subject has a path that ends at
+    /// this EK key.
+    fn all_end_at(&self, subject: Subject, ek: u16) -> bool {
+        self.ledger
+            .iter()
+            .filter(|entry| self.certificate(entry.certificate).subject == subject)
+            .all(|entry| self.end_of_path(entry.certificate) == ek)
     }
 
     /// A pair of a 17 with device Subject and a 13 over a 12.
@@ -743,7 +777,7 @@ impl World {
         outcome
     }
 
-    /// The lowest refusal that applies, or 0.
+    /// The first refusal, in the order, that applies, or 0.
     fn judge(&self, command: Command) -> u8 {
         let mut verdict = Verdict::default();
         match command {
@@ -906,6 +940,9 @@ impl World {
                 if open_here && let Some(form) = self.iak_request(state.request) {
                     let called_for = self.is_certificate(r, form.iak, form.subject, desk);
                     verdict.demand(called_for, 27);
+                    // Another EK key may not carry this Subject already.
+                    let ek = self.certificate(form.ek_certificate).key;
+                    verdict.demand(self.all_end_at(self.certificate(r).subject, ek), 31);
                 }
                 verdict.demand(self.entry(r).is_none(), 28);
             }
@@ -938,7 +975,7 @@ impl World {
                 verdict.demand(self.entry(r).is_none(), 28);
             }
         }
-        verdict.lowest
+        verdict.first
     }
 
     /// Checks are for the roles 0, 2 and 3.

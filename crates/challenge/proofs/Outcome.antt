@@ -24,11 +24,11 @@ use Rattle.requests.specs.Tests.{endorsementTests, credentialTests}
 
 module _ (f : File) (ys : List Test) {x : ℕ} (z : x ≡ 0) where
   pub endorsement-goes : (n : Subject) (h i k : ℕ) → x ≡ chain (endorsementTests f n h i k) → chain (endorsementTests f n h i k ++ ys) ≡ chain ys
-  endorsement-goes n h i k e = chain-rest 21 (endorsementTests f n h i k) ys (omega arith) refl (sym e ∙ z)
+  endorsement-goes n h i k e = chain-rest (endorsementTests f n h i k) ys refl (sym e ∙ z)
 
   pub number-goes : (s : State) (p n : ℕ) → x ≡ chain (numberTests s p n) → chain (numberTests s p n ++ ys) ≡ chain ys
   unfolding numberTests
-  number-goes s p n e = chain-rest 24 _ ys (omega arith) refl (sym e ∙ z)
+  number-goes s p n e = chain-rest _ ys refl (sym e ∙ z)
 
 -- 3E, by what was read
 pub challenge-chain :
@@ -37,7 +37,7 @@ pub challenge-chain :
     → outcome f s (challenge p q r)
     ≡ chain (need 13 (isRole f oemDesk p) ∷ need 14 (s .knows p q) ∷ (formTests f idevidRequestKind q ++ (need 19 (isDeviceSubject asked) ∷ (proofTests f q iak ++ (endorsementTests f named half iak ek ++ (numberTests s p number ++ credentialTests f content key iak ek))))))
 unfolding outcome testsOf challengeTests formTests proofTests numberTests requestBody iakOf ekCertificateOf ekOf
-challenge-chain f s p q r b a c i e w h t n k = rw (k, n, t, h, w, e, i, c, a, b) (in-order _ refl refl)
+challenge-chain f s p q r b a c i e w h t n k = rw (k, n, t, h, w, e, i, c, a, b) (in-order _ refl)
 
 -- the columns of an opened credential
 abbrev openedWith : Columns → ℕ → ℕ → ℕ → ℕ → Columns

@@ -25,7 +25,7 @@ use Rattle.index.specs.Indexed.{passes}
 use Rattle.lookup.specs.There.{commandThere}
 use Rattle.lookup.specs.Commands.{CommandAt}
 use Rattle.loaded.specs.Loaded.{fileIn, Finds, Leaves}
-use Rattle.loaded.specs.Entries.{Enters, Entered, Accepts, SameKeys}
+use Rattle.loaded.specs.Entries.{Enters, Entered, Boarded, Accepts, SameKeys}
 use Rattle.loaded.proofs.Standing.{checked-here, holds-kept}
 use Rattle.loaded.proofs.Ledger.{column-some}
 use Rattle.desk.specs.Dispatch.{OpenRequested, DeskLeaves}
@@ -65,11 +65,12 @@ module _ {bs s tables words : List ℕ} {n : ℕ} (st : Stands bs s tables words
     refused-left e r = sym (after-refused (fileIn bs) Before (commandThere bs at) (λ z. r (e ∙ z)))
 
     -- what stands after the command
-    next : {s′ tables′ words′ : List ℕ} {r : ℕ} → length s′ ≡ length s → view s′ .place ≡ view s .place → Finds bs tables′ → Enters tables′ words′ r (entriesIn words′ r) → stateIn s′ words′ r ≡ After → Stands bs s′ tables′ words′ r
-    next l p d e left = record {
+    next : {s′ tables′ words′ : List ℕ} {r : ℕ} → length s′ ≡ length s → view s′ .place ≡ view s .place → Finds bs tables′ → Enters tables′ words′ r (entriesIn words′ r) → Boarded (fileIn bs) (tablesIn tables′ .boards) (entriesIn words′ r) → stateIn s′ words′ r ≡ After → Stands bs s′ tables′ words′ r
+    next l p d e b left = record {
       holds = holds-kept (st .holds) l p;
       finds = d;
       enters = e;
+      boards = b;
       kept = subst⁻¹ (Kept (fileIn bs)) left (kept-after (checked-here (st .holds)) Before (commandThere bs at) (w .known) (st .kept));
     }
 
@@ -93,7 +94,7 @@ module _ {bs s tables words : List ℕ} {n : ℕ} (st : Stands bs s tables words
         device-left = v .columns (entriesIn words n) ∙ sym done
 
         pub device-stands : length s′ ≡ length s → Stands bs s′ tables words n
-        device-stands l = next l (v .places) (st .finds) (st .enters) device-left
+        device-stands l = next l (v .places) (st .finds) (st .enters) (st .boards) device-left
 
       module _ {s′ tables′ words′ : List ℕ} {r : ℕ} (v : DeskLeaves bs s tables words n (commandThere bs at) s′ tables′ words′ r) where
         enters-now : Enters tables′ words′ r (v .ledger (entriesIn words n))
@@ -103,4 +104,4 @@ module _ {bs s tables words : List ℕ} {n : ℕ} (st : Stands bs s tables words
         desk-left = ap (stateOf (view s′)) (sym (enters-now .same)) ∙ v .columns (entriesIn words n) (st .enters) ∙ sym done
 
         pub desk-stands : length s′ ≡ length s → Stands bs s′ tables′ words′ r
-        desk-stands l = next l (v .places) (finds-kept (st .finds) (v .keys)) (subst (Enters tables′ words′ r) (enters-now .same) enters-now) desk-left
+        desk-stands l = next l (v .places) (finds-kept (st .finds) (v .keys)) (subst (Enters tables′ words′ r) (enters-now .same) enters-now) (subst (Boarded (fileIn bs) (tablesIn tables′ .boards)) (enters-now .same) (v .boards (entriesIn words n) (st .enters) (st .kept .sound) (st .boards))) desk-left

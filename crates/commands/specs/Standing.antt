@@ -9,9 +9,10 @@ use Rattle.rules.specs.State.{State, credentialOpen}
 use Rattle.theorems.proofs.Invariant.{Invariant}
 use Rattle.state.specs.View.{view}
 use Rattle.state.proofs.Exact.{stateOf}
+use Rattle.tables.specs.Regions.{tablesIn}
 use Rattle.entries.specs.Words.{entriesIn}
 use Rattle.loaded.specs.Loaded.{fileIn, Holds, Finds}
-use Rattle.loaded.specs.Entries.{Enters}
+use Rattle.loaded.specs.Entries.{Enters, Boarded}
 use Rattle.requests.specs.Formed.{Requested}
 
 -- the state that bytes and the words of n entries hold
@@ -37,4 +38,5 @@ pub record Stands (bs s tables words : List ℕ) (n : ℕ) : Type 0 where
   pub holds : Holds bs s
   pub finds : Finds bs tables
   pub enters : Enters tables words n (entriesIn words n)
+  pub boards : Boarded (fileIn bs) (tablesIn tables .boards) (entriesIn words n)
   pub kept : Kept (fileIn bs) (stateIn s words n)

@@ -63,13 +63,13 @@ module _ (bs : List ℕ) (at : ℕ) {c : Command} (e : commandThere bs at ≡ c)
   pub issues-as : {s tables words : List ℕ} {n : ℕ} {s′ tables′ words′ : List ℕ} → Issues bs s tables words n c s′ tables′ words′ → DeskLeaves bs s tables words n (commandThere bs at) s′ tables′ words′ (n + 1)
   issues-as {s} {tables} {words} {n} {s′} {tables′} {words′} d =
       subst⁻¹ (λ (k : Command). DeskLeaves bs s tables words n k s′ tables′ words′ (n + 1)) e
-      (record { ledger = d .ledger; columns = d .columns; enters = d .enters; places = d .places; keys = d .keys })
+      (record { ledger = d .ledger; columns = d .columns; enters = d .enters; boards = d .boards; places = d .places; keys = d .keys })
 
   -- 3E enters nothing
   pub challenge-as : {s tables words : List ℕ} {n : ℕ} {s′ : List ℕ} → Leaves bs s s′ c → DeskLeaves bs s tables words n (commandThere bs at) s′ tables words n
   challenge-as {s} {tables} {words} {n} {s′} d =
       subst⁻¹ (λ (k : Command). DeskLeaves bs s tables words n k s′ tables words n) e
-      (record { ledger = λ old. old; columns = λ old h. d .columns old; enters = λ old h. h; places = d .places; keys = record { words = refl; signer = refl; half = refl } })
+      (record { ledger = λ old. old; columns = λ old h. d .columns old; enters = λ old h. h; boards = λ old h inv b. b; places = d .places; keys = record { words = refl; signer = refl; half = refl } })
 
   pub accepts-as : {s tables words : List ℕ} {n : ℕ} → Accepts bs s tables words n (commandThere bs at) → Accepts bs s tables words n c
   accepts-as {s} {tables} {words} {n} a = subst (λ (k : Command). Accepts bs s tables words n k) e a

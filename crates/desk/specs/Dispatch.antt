@@ -8,6 +8,7 @@ use Rattle.rules.specs.File.{Command}
 use Rattle.rules.specs.State.{credentialOpen}
 use Rattle.rules.specs.Run.{effectOf}
 use Rattle.theorems.proofs.Loading.{Wellformed}
+use Rattle.theorems.proofs.Invariant.{Invariant}
 use Rattle.state.specs.View.{view}
 use Rattle.state.proofs.Exact.{stateOf}
 use Rattle.tables.specs.Regions.{tableWords, tablesIn}
@@ -15,7 +16,7 @@ use Rattle.learning.specs.There.{kindThere}
 use Rattle.lookup.specs.There.{commandThere}
 use Rattle.lookup.specs.Commands.{CommandAt}
 use Rattle.loaded.specs.Loaded.{fileIn, Holds}
-use Rattle.loaded.specs.Entries.{Enters, Accepts, SameKeys}
+use Rattle.loaded.specs.Entries.{Enters, Boarded, Accepts, SameKeys}
 use Rattle.requests.specs.Formed.{Requested}
 use Rattle.issuance.specs.Issues.{ParentsEntered}
 
@@ -38,5 +39,8 @@ pub record DeskLeaves (bs s tables words : List ℕ) (n : ℕ) (c : Command) (s�
   pub ledger : List Entry → List Entry
   pub columns : (old : List Entry) → Enters tables words n old → stateOf (view s′) (ledger old) ≡ effectOf (fileIn bs) (stateOf (view s) old) c
   pub enters : (old : List Entry) → Enters tables words n old → Enters tables′ words′ r (ledger old)
+  pub boards :
+      (old : List Entry) → Enters tables words n old → Invariant (fileIn bs) (stateOf (view s) old) → Boarded (fileIn bs) (tablesIn tables .boards) old
+      → Boarded (fileIn bs) (tablesIn tables′ .boards) (ledger old)
   pub places : view s′ .place ≡ view s .place
   pub keys : SameKeys (tablesIn tables) (tablesIn tables′)

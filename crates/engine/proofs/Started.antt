@@ -13,7 +13,7 @@ use Rattle.rules.specs.Limits.{fileLimit, commandLimit, stateBytes}
 use Rattle.rules.specs.File.{File}
 use Rattle.rules.specs.State.{start}
 use Rattle.theorems.proofs.Loading.{Wellformed, checked}
-use Rattle.tables.specs.Regions.{tablesIn}
+use Rattle.tables.specs.Regions.{Unlinked, tablesIn}
 use Rattle.entries.specs.Words.{ledgerWords, entriesIn}
 use Rattle.entries.proofs.Words.{zeros-at, entries-none}
 use Rattle.lookup.specs.Commands.{Commands}
@@ -21,7 +21,8 @@ use Rattle.lookup.proofs.Left.{commands-wellformed}
 use Rattle.scan.specs.declared.Scanned.{Scanned}
 use Rattle.loader.specs.Tabled.{Filled, FillResult}
 use Rattle.loaded.specs.Loaded.{fileIn}
-use Rattle.loaded.specs.Entries.{entryFrom, Enters}
+use Rattle.loaded.specs.Entries.{entryFrom, Enters, Boarded}
+use Rattle.loaded.proofs.Boards.{boarded-none}
 use Rattle.loaded.proofs.Filled.{file-is, filled-holds, filled-finds}
 use Rattle.commands.specs.Standing.{stateIn, Kept, Stands}
 use Rattle.commands.proofs.Keeping.{kept-start}
@@ -32,13 +33,14 @@ unfolding entryFrom
 none-entered c = refl
 
 -- no entries in words of zero
-enters-none : (tables words : List ℕ) → words ≡ replicate ledgerWords 0 → ((c : ℕ) → tablesIn tables .entry c ≡ 0) → Enters tables words 0 (entriesIn words 0)
-enters-none tables words z e = record {
+enters-none : (tables words : List ℕ) → words ≡ replicate ledgerWords 0 → ((c : ℕ) → tablesIn tables .entry c ≡ 0) → Unlinked (tablesIn tables .boards) → Enters tables words 0 (entriesIn words 0)
+enters-none tables words z e u = record {
   few = omega arith;
   room = ap length z ∙ length-replicate {A = ℕ} ledgerWords 0;
   same = refl;
   beyond = λ i h. ap (λ (l : List ℕ). getD l i 0) z ∙ zeros-at ledgerWords i;
   place = λ c. e c ∙ none-entered c ∙ ap (λ (es : List Entry). entryFrom 0 es c) (sym (entries-none words));
+  falls = record { newest = λ i. omega (arith, u .newest i); earlier = λ i. omega (arith, u .earlier i) };
 }
 
 module _ {bs s tables : List ℕ} {r : Scanned} (w : Filled bs s tables r) where
@@ -55,7 +57,8 @@ module _ {bs s tables : List ℕ} {r : Scanned} (w : Filled bs s tables r) where
       record {
         holds = h;
         finds = filled-finds w;
-        enters = enters-none tables words z (w .tabled .entry);
+        enters = enters-none tables words z (w .tabled .entry) (w .tabled .unlinked);
+        boards = subst⁻¹ (Boarded (fileIn bs) (tablesIn tables .boards)) (entries-none words) (boarded-none (fileIn bs) (tablesIn tables .boards) (w .tabled .unlinked));
         kept = subst⁻¹ (Kept (fileIn bs)) (state-start words) (kept-start (checked bs (fileIn bs) (h .loads)));
       }
 

@@ -6,7 +6,7 @@ use native.Mathlib.Omega.{arith}
 use lib.ListN.{length, getD, replicate, length-replicate}
 use Rattle.rules.specs.Limits.{termLimit}
 use Rattle.tables.specs.Regions.{tableWords}
-use Rattle.tables.proofs.Regions.{zeros-at, tables-none}
+use Rattle.tables.proofs.Regions.{zeros-at, tables-none, unlinked-none}
 use Rattle.index.specs.declared.Searched.{Searched}
 use Rattle.index.specs.Tree.{linkCount}
 use Rattle.index.specs.Indexed.{keyThere, sameThere, Indexed, SearchResult}
@@ -30,6 +30,7 @@ indexed-none bs place links keys tables el ek et =
       halves = λ t l. absurd (omega arith);
       unpaired = λ t _. tables-none tables et t .0;
       unlisted = λ t. tables-none tables et t .1;
+      unlinked = unlinked-none tables et;
     }
 
 module _ {bs : List ℕ} {place place′ : ℕ → ℕ} {n : ℕ} (h : (t : ℕ) → t < n → place t ≡ place′ t) where
@@ -45,6 +46,7 @@ module _ {bs : List ℕ} {place place′ : ℕ → ℕ} {n : ℕ} (h : (t : ℕ)
     halves = λ t l. found-same (λ u m. rw (h t l, h u m) refl) (i .halves t l);
     unpaired = i .unpaired;
     unlisted = i .unlisted;
+    unlinked = i .unlinked;
   }
 
   pub search-same : {links : List ℕ} {kind second key : ℕ} {r : Searched} → SearchResult bs place links kind second key n r → SearchResult bs place′ links kind second key n r

@@ -1,5 +1,5 @@
 -- The index with one term more, of which no term of the same kind and key was found.
-use mathlib.Core.Path.{_≡_, refl, sym, _∙_, ap, subst}
+use mathlib.Core.Path.{_≡_, refl, sym, _∙_, ap, subst, subst⁻¹}
 use mathlib.Core.Bool.{Bool, true, false, false≢true}
 use mathlib.Core.List.{List}
 use Prim.Native.Nat.{ℕ, _+_, _-_, _<_, _≤_}
@@ -12,7 +12,7 @@ use Rattle.rules.specs.Limits.{termLimit}
 use Rattle.rules.specs.Term.{publicKeyKind, privateKeyKind, alike}
 use Rattle.rules.specs.State.{put}
 use Rattle.records.proofs.Lengths.{term-kinds}
-use Rattle.tables.specs.Regions.{Tables, tablesIn, withHalf}
+use Rattle.tables.specs.Regions.{Unlinked, Tables, tablesIn, withHalf}
 use Rattle.learning.specs.There.{termThere}
 use Rattle.checks.specs.There.{kindOfThere}
 use Rattle.index.specs.declared.Searched.{Searched}
@@ -187,4 +187,5 @@ module _ {bs : List ℕ} (bytes : Bytes bs) {place : ℕ → ℕ} {links keys ta
           halves = rw eh (h .halves);
           unpaired = rw eh (h .unpaired);
           unlisted = λ t. ap (λ (v : Tables). v .entry t) et ∙ i .unlisted t;
+          unlinked = subst⁻¹ Unlinked (ap (λ (v : Tables). v .boards) et) (i .unlinked);
         })

@@ -13,7 +13,7 @@ use Rattle.state.specs.View.{view}
 use Rattle.records.specs.Keys.{keyOf}
 use Rattle.learning.specs.There.{termThere}
 use Rattle.checks.specs.There.{kindOfThere, TermsThere}
-use Rattle.tables.specs.Regions.{tableWords, tablesIn}
+use Rattle.tables.specs.Regions.{tableWords, Unlinked, tablesIn}
 use Rattle.index.specs.declared.Searched.{Searched}
 use Rattle.index.specs.Tree.{bucketOf, Met, Tree, Free, Found}
 
@@ -41,7 +41,7 @@ Halves bs place half n = (t : ℕ) → t < n → Found (pairThere bs place t) n 
 abbrev pub Unlike : List ℕ → (ℕ → ℕ) → ℕ → Type 0
 Unlike bs place n = (t u : ℕ) → t < n → u < n → alike (termThere bs (place t)) (termThere bs (place u)) ≡ true → t ≡ u
 
--- each of the first n terms is met by its key; the halves among them; no certificate has an entry in the ledger
+-- each of the first n terms is met by its key; the halves among them; no certificate has an entry in the ledger, and none is linked
 pub record Indexed (bs : List ℕ) (place : ℕ → ℕ) (links keys tables : List ℕ) (n : ℕ) : Type 0 where
   pub tree : Tree links n
   pub room : length keys ≡ termLimit
@@ -52,6 +52,7 @@ pub record Indexed (bs : List ℕ) (place : ℕ → ℕ) (links keys tables : Li
   pub halves : Halves bs place (tablesIn tables .half) n
   pub unpaired : (t : ℕ) → n ≤ t → tablesIn tables .half t ≡ 0
   pub unlisted : (t : ℕ) → tablesIn tables .entry t ≡ 0
+  pub unlinked : Unlinked (tablesIn tables .boards)
 
 -- what the way of a key found: a term of the kind, else one of another kind, and where a new term enters
 pub record SearchResult (bs : List ℕ) (place : ℕ → ℕ) (links : List ℕ) (kind second key n : ℕ) (r : Searched) : Type 0 where

@@ -1,6 +1,7 @@
 -- The certificate that an issue calls for, by the Subject.
 --     called-tests     the tests of one whose Subject is that of a term
 --     called-goes      a chain goes on where they pass
+--     called-subject   and the certificate has the Subject
 -- Assumes nothing.
 use mathlib.Core.Path.{_≡_, refl, sym, ap, _∙_}
 use mathlib.Core.List.{List, _++_}
@@ -11,7 +12,8 @@ use Rattle.rules.specs.Refusals.{Test}
 use Rattle.rules.specs.File.{File, subject}
 use Rattle.rules.specs.Desk.{calledFor}
 use Rattle.loaded.specs.Chain.{chain}
-use Rattle.loaded.proofs.Chain.{chain-rest}
+use Rattle.theorems.proofs.Terms.{same-subject}
+use Rattle.loaded.proofs.Chain.{chain-rest, passed}
 use Rattle.requests.specs.Tests.{calledTests}
 
 module _ (f : File) (desk r key : ℕ) (wanted : Subject) where
@@ -20,4 +22,9 @@ module _ (f : File) (desk r key : ℕ) (wanted : Subject) where
   called-tests from e = ap (calledTests f desk r key) e
 
   pub called-goes : (ys : List Test) {x : ℕ} → x ≡ chain (calledTests f desk r key wanted) → x ≡ 0 → chain (calledTests f desk r key wanted ++ ys) ≡ chain ys
-  called-goes ys e z = chain-rest 27 (calledTests f desk r key wanted) ys (omega arith) refl (sym e ∙ z)
+  called-goes ys e z = chain-rest (calledTests f desk r key wanted) ys refl (sym e ∙ z)
+
+  pub called-subject : {x : ℕ} → x ≡ chain (calledTests f desk r key wanted) → x ≡ 0 → subject f r ≡ wanted
+  called-subject e z =
+      let a = passed 27 _ _ (omega arith) (sym e ∙ z) in
+      same-subject _ _ (passed 27 _ _ (omega arith) (a .1) .0)

@@ -110,10 +110,10 @@ module _ {bs s : List ℕ} {q : ℕ} (h : Holds bs s) (w : Asked (fileIn bs) q) 
 
 module _ (f : File) (ys : List Test) where
   pub attest-goes : (t : ℕ) → chain (attestTests f t) ≡ 0 → chain (attestTests f t ++ ys) ≡ chain ys
-  attest-goes t e = chain-rest 19 (attestTests f t) ys (omega arith) refl e
+  attest-goes t e = chain-rest (attestTests f t) ys refl e
 
   pub parentage-goes : (family : Family) (t k c d : ℕ) → chain (parentageTests f family t k c d) ≡ 0 → chain (parentageTests f family t k c d ++ ys) ≡ chain ys
-  parentage-goes family t k c d e = chain-rest 20 (parentageTests f family t k c d) ys (omega arith) refl e
+  parentage-goes family t k c d e = chain-rest (parentageTests f family t k c d) ys refl e
 
 -- by the numbers that were read
 module _ (f : File) (q : ℕ) {body signature : ℕ} (b : body ≡ leftOf f q) (s : signature ≡ ldevidMessage f body) where
@@ -147,4 +147,4 @@ pub issue-chain :
     → outcome f s (issue family p q r)
     ≡ chain (need 13 (isRole f (family .desk) p) ∷ need 14 (s .knows p q) ∷ (formTests f ldevidRequestKind q ++ (attestTests f (signatureAt f q) ++ (proofTests f q (newAt f q) ++ (parentageTests f family (halfAt f q) (newAt f q) (keyAt f q) (signerAt f q) ++ (calledTests f p r (newAt f q) (subject f (parentAt f q)) ++ entryTests (s .ledger) r (parentAt f q)))))))
 unfolding outcome testsOf issueTests formTests proofTests calledFor requestBody requestSignature attestSignatureOf newKeyOf parentCertificateOf
-issue-chain f s family p q r = in-order _ refl refl
+issue-chain f s family p q r = in-order _ refl

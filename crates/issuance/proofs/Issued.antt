@@ -4,31 +4,38 @@
 --     same-ledger                 the words hold one ledger
 --     iak-issued, request-issued  3F; 40, 41, 42
 -- Assumes nothing.
-use mathlib.Core.Path.{_≡_, refl, sym, ap, _∙_}
-use mathlib.Core.Bool.{false}
+use mathlib.Core.Path.{_≡_, refl, sym, ap, subst⁻¹, _∙_}
+use mathlib.Core.Bool.{false, false≢true}
 use mathlib.Core.List.{List, [], _∷_, _++_, List·Memᴰ}
-use Prim.Native.Nat.{ℕ, _+_, _<_, _≤_}
+use Prim.Native.Nat.{ℕ, _+_, _-_, _<_, _≤_}
+use native.Mathlib.Omega.{arith}
 use borrow.Author.Tests.{eqb-true, leb-true, not-true}
 use Rattle.rules.specs.declared.Entry.{Entry}
 use Rattle.rules.specs.declared.Family.{Family}
+use Rattle.rules.specs.declared.Subject.{Subject}
 use Rattle.rules.specs.Limits.{termLimit, depthLimit}
 use Rattle.rules.specs.Families.{requestFamilies}
-use Rattle.rules.specs.File.{File, challenge, issueIak, issue, credentialNumber, idevidCertificate, ldevidCertificate, leftOf}
+use Rattle.rules.specs.File.{File, issueIak, issue, subject, certifiedKey, idevidCertificate, ldevidCertificate, leftOf}
 use Rattle.rules.specs.State.{State, numberUsed, credentialOpen, credentialClosed, put, listed, depthOf, learnt, opening, closing, entered}
 use Rattle.rules.specs.Desk.{requestBody, formTests, proofTests, ekCertificateOf, parentCertificateOf, calledFor, challengeEffect, issueIakTests, issueIakEffect, issueTests, issueEffect}
 use Rattle.rules.specs.Run.{testsOf, outcome, effectOf}
 use Rattle.theorems.proofs.Passing.{passed}
+use Rattle.theorems.proofs.Terms.{same-subject, device-subject}
+use Rattle.theorems.proofs.Invariant.{descends}
 use Rattle.theorems.proofs.Requests.{DeskParent}
 use Rattle.state.specs.View.{Columns, view, withMark, withDesk, withRequest}
 use Rattle.state.proofs.Exact.{stateOf}
-use Rattle.tables.specs.Regions.{tablesIn}
+use Rattle.tables.specs.Regions.{Boards, Tables, tablesIn, withEk, linked}
+use Rattle.boards.specs.Linked.{Falls}
 use Rattle.loaded.specs.Loaded.{fileIn, Learns, Leaves}
-use Rattle.loaded.specs.Entries.{Enters, Issues}
-use Rattle.loaded.proofs.Ledger.{entry-most}
-use Rattle.issuance.specs.Appends.{Appends}
+use Rattle.loaded.specs.Entries.{Enters, Boarded, Issues}
+use Rattle.loaded.proofs.Ledger.{ledger-length, entry-most, entry-listed}
+use Rattle.loaded.proofs.Boards.{falls-ek, boarded-linked, boarded-below}
+use Rattle.issuance.specs.Appends.{Appends, linkedBy}
 use Rattle.issuance.specs.Issues.{IssuesIak, IssuesOnRequest}
 use Rattle.requests.proofs.Read.{is-kind-kind}
 use Rattle.issuance.proofs.IssueOnRequest.{parentAt, parent-noted}
+use Rattle.issuance.proofs.Appending.{enters-linked, keys-linked}
 
 -- an accepted 3F is of a certificate that is not listed
 pub iak-new : (f : File) (s : State) (p q c r : ℕ) → outcome f s (issueIak p q c r) ≡ 0 → listed (s .ledger) r ≡ false
@@ -40,9 +47,15 @@ pub iak-open : (f : File) (s : State) (p q c r : ℕ) → outcome f s (issueIak 
 unfolding outcome testsOf issueIakTests calledFor
 iak-open f s p q c r e = eqb-true _ _ (passed (issueIakTests f s p q c r) refl e .1 .0)
 
--- an accepted 40, 41 or 42: a request whose parent a desk signed, a certificate that is not listed, and the depth
+-- whose request's Subject the certificate has
+iak-subject : (f : File) (s : State) (p q c r : ℕ) → outcome f s (issueIak p q c r) ≡ 0 → subject f r ≡ subject f (requestBody f (s .request c))
+unfolding outcome testsOf issueIakTests calledFor
+iak-subject f s p q c r e = same-subject _ _ (passed (issueIakTests f s p q c r) refl e .1 .1 .1 .1 .1 .1 .0)
+
+-- an accepted 40, 41 or 42: a request whose parent a desk signed, a certificate of its Subject that is not listed, and the depth
 pub record RequestPassed (f : File) (s : State) (p q r : ℕ) : Type 0 where
   pub parent : DeskParent f (s .knows) p q
+  pub named : subject f r ≡ subject f (ldevidCertificate f (leftOf f q))
   pub new : listed (s .ledger) r ≡ false
   pub depth : depthOf (s .ledger) (ldevidCertificate f (leftOf f q)) + 1 ≤ depthLimit
 
@@ -54,6 +67,7 @@ request-passed f s family p q r row e =
     let new = signed .1 .1 .1 .1 .1 .1 in
     record {
       parent = record { known = tests .1 .0; pair = is-kind-kind f q (tests .1 .1 .0); body = is-kind-kind f (leftOf f q) (tests .1 .1 .1 .0); family = family; row = row; signed = signed .0 };
+      named = same-subject _ _ (signed .1 .1 .1 .1 .0);
       new = not-true _ (new .0);
       depth = leb-true _ depthLimit (new .1 .0);
     }
@@ -72,11 +86,13 @@ pub same-ledger : {tables words : List ℕ} {n : ℕ} {a b : List Entry} → Ent
 same-ledger x y = x .same ∙ sym (y .same)
 
 pub iak-issued :
-    {bs s s₁ s₂ tables words tables′ words′ : List ℕ} {n p c r request body parent : ℕ} → IssuesIak bs s tables words n p c r → request ≡ view s .request c → body ≡ leftOf (fileIn bs) request → parent ≡ idevidCertificate (fileIn bs) body
-    → Learns bs s s₁ p r → view s₂ ≡ withMark (view s₁) (put (view s₁ .mark) c credentialClosed) → Appends tables words n (record { certificate = r; parent = parent; depth = 1 }) tables′ words′
+    {bs s s₁ s₂ tables words tables₁ tables′ words′ : List ℕ} {n p c r request body parent ek : ℕ} {named : Subject}
+    → IssuesIak bs s tables words n p c r → request ≡ view s .request c → body ≡ leftOf (fileIn bs) request → parent ≡ idevidCertificate (fileIn bs) body → named ≡ subject (fileIn bs) body → ek ≡ certifiedKey (fileIn bs) parent
+    → Learns bs s s₁ p r → view s₂ ≡ withMark (view s₁) (put (view s₁ .mark) c credentialClosed) → Appends tables words n (record { certificate = r; parent = parent; depth = 1 }) ek tables₁ words′
+    → tablesIn tables′ ≡ linkedBy (tablesIn tables₁) n named
     → (other : ℕ) → Issues bs s tables words n (issueIak p other c r) s₂ tables′ words′
 unfolding effectOf issueIakEffect entered closing ekCertificateOf requestBody
-iak-issued {bs} {s} {s₁} {s₂} {n = n} {p} {c} {r} {request} {body} {parent} i q b e w m a other =
+iak-issued {bs} {s} {s₁} {s₂} {tables} {words} {tables₁} {tables′} {n = n} {p} {c} {r} {request} {body} {parent} {ek} {named} i q b e u x w m a k other =
     let f = fileIn bs in
     let above : parent ≡ ekCertificateOf f (view s .request c) = e ∙ ap (idevidCertificate f) (b ∙ ap (leftOf f) q) in
     let next : ℕ → Entry = λ t. record { certificate = r; parent = t; depth = 1 } in
@@ -86,18 +102,35 @@ iak-issued {bs} {s} {s₁} {s₂} {n = n} {p} {c} {r} {request} {body} {parent} 
           ap (λ (v : Columns). stateOf v (old ++ (next parent ∷ []))) m
           ∙ ap (λ (x : State). entered (closing x c) (next parent)) (w .columns old)
           ∙ ap (λ (t : ℕ). entered (closing (learnt f (stateOf (view s) old) p r) c) (next t)) above;
-      enters = λ old h. a .enters old h (ap (λ (es : List Entry). listed es r) (same-ledger h (i .accepts .enters)) ∙ iak-new f (stateOf (view s) (i .accepts .ledger)) p (i .other) c r (i .accepts .accepted));
+      enters = λ old h. enters-linked tables₁ tables′ n named k (subst⁻¹ (λ (v : Boards). Falls v n) (a .boards) (falls-ek _ _ n (h .falls))) (a .enters old h (iak-new f (stateOf (view s) old) p (i .other) c r (accepted old h)));
+      boards = λ old h inv v.
+          let z = inv .opened c (i .wellformed .2) (iak-open f (stateOf (view s) old) p (i .other) c r (accepted old h)) in
+          let d = device-subject _ (z .deviceSubject) in
+          let own : subject f (requestBody f (view s .request c)) ≡ subject f body = ap (subject f) (sym (b ∙ ap (leftOf f) q)) in
+          let now : tablesIn tables′ .boards ≡ linked (withEk (tablesIn tables .boards) (put (tablesIn tables .boards .ek) n (certifiedKey f parent))) n (d .0) =
+          ap (λ (y : Tables). y .boards) (k ∙ ap (linkedBy (tablesIn tables₁) n) (u ∙ sym own ∙ d .1))
+          ∙ ap (λ (y : Boards). linked y n (d .0)) (a .boards)
+          ∙ ap (λ (y : ℕ). linked (withEk (tablesIn tables .boards) (put (tablesIn tables .boards .ek) n y)) n (d .0)) x
+          in
+          subst⁻¹ (λ (y : Boards). Boarded f y (old ++ (next parent ∷ []))) now
+          (boarded-linked f old (inv .once) (descends f (stateOf (view s) old) inv) (tablesIn tables .boards) v (next parent)
+          (λ t. false≢true (sym (iak-new f (stateOf (view s) old) p (i .other) c r (accepted old h)) ∙ t)) n (ledger-length r h) (h .falls) (d .0)
+          (iak-subject f (stateOf (view s) old) p (i .other) c r (accepted old h) ∙ d .1) refl);
       places = ap (λ (v : Columns). v .place) m ∙ w .places;
-      keys = a .keys;
+      keys = keys-linked tables₁ tables′ n named k (a .keys);
     }
+  where
+    accepted : (old : List Entry) → Enters tables words n old → outcome (fileIn bs) (stateOf (view s) old) (issueIak p (i .other) c r) ≡ 0
+    accepted old h = subst⁻¹ (λ (es : List Entry). outcome (fileIn bs) (stateOf (view s) es) (issueIak p (i .other) c r) ≡ 0) (same-ledger h (i .accepts .enters)) (i .accepts .accepted)
 
 pub request-issued :
-    {bs s s₁ tables words tables′ words′ : List ℕ} {n p q r body parent depth : ℕ} → IssuesOnRequest bs s tables words n p q r → body ≡ leftOf (fileIn bs) q → parent ≡ ldevidCertificate (fileIn bs) body
+    {bs s s₁ tables words tables′ words′ : List ℕ} {n p q r body parent depth ek : ℕ} → IssuesOnRequest bs s tables words n p q r → body ≡ leftOf (fileIn bs) q → parent ≡ ldevidCertificate (fileIn bs) body
     → ((m : ℕ) (ledger : List Entry) → Enters tables words m ledger → depth ≡ depthOf ledger parent)
-    → Learns bs s s₁ p r → Appends tables words n (record { certificate = r; parent = parent; depth = depth + 1 }) tables′ words′
+    → ek ≡ tablesIn tables .boards .ek (tablesIn tables .entry parent - 1)
+    → Learns bs s s₁ p r → Appends tables words n (record { certificate = r; parent = parent; depth = depth + 1 }) ek tables′ words′
     → (family : Family) → Issues bs s tables words n (issue family p q r) s₁ tables′ words′
 unfolding effectOf issueEffect entered parentCertificateOf requestBody
-request-issued {bs} {s} {n = n} {p} {q} {r} {body} {parent} {depth} i b e d w a family =
+request-issued {bs} {s} {tables = tables} {n = n} {p} {q} {r} {body} {parent} {depth} {ek} i b e d x w a family =
     let f = fileIn bs in
     let above : parent ≡ parentCertificateOf f q = e ∙ ap (ldevidCertificate f) b in
     let next : ℕ → ℕ → Entry = λ t m. record { certificate = r; parent = t; depth = m + 1 } in
@@ -108,6 +141,15 @@ request-issued {bs} {s} {n = n} {p} {q} {r} {body} {parent} {depth} i b e d w a 
           ∙ ap (λ (m : ℕ). entered (learnt f (stateOf (view s) old) p r) (next parent m)) (d n old h)
           ∙ ap (λ (t : ℕ). entered (learnt f (stateOf (view s) old) p r) (next t (depthOf old t))) above;
       enters = λ old h. a .enters old h (ap (λ (es : List Entry). listed es r) (same-ledger h (i .accepts .enters)) ∙ request-accepted i .new);
+      boards = λ old h inv v.
+          let new = ap (λ (es : List Entry). listed es r) (same-ledger h (i .accepts .enters)) ∙ request-accepted i .new in
+          let g = entry-listed parent h (subst⁻¹ (λ (t : ℕ). 0 < tablesIn tables .entry t) (e ∙ ap (ldevidCertificate f) b) (parent-place i .0)) in
+          subst⁻¹ (λ (y : Boards). Boarded f y (old ++ (next parent depth ∷ [])))
+          (a .boards ∙ ap (λ (y : ℕ). withEk (tablesIn tables .boards) (put (tablesIn tables .boards .ek) n y)) x)
+          (boarded-below f old (inv .once) (descends f (stateOf (view s) old) inv) (tablesIn tables .boards) v (next parent depth) (λ t. false≢true (sym new ∙ t)) n (ledger-length r h)
+          (tablesIn tables .entry parent - 1) (g .0) (g .1) (g .2)
+          (let k = d n old h in let l = g .3 in omega arith)
+          (request-accepted i .named ∙ ap (subject f) (sym (e ∙ ap (ldevidCertificate f) b) ∙ sym (g .2))));
       places = w .places;
       keys = a .keys;
     }

@@ -1,4 +1,4 @@
--- What an issue asks of an entry of a certificate below its parent's.
+-- What an issue asks of an entry of a certificate.
 use mathlib.Core.Bool.{not}
 use mathlib.Core.List.{List, [], _∷_}
 use Prim.Native.Nat.{ℕ, _+_}
@@ -6,8 +6,19 @@ use lib.Dec.{leb}
 use Rattle.rules.specs.declared.Entry.{Entry}
 use Rattle.rules.specs.Limits.{depthLimit}
 use Rattle.rules.specs.Refusals.{Test, need}
+use Rattle.rules.specs.declared.Subject.{Subject}
+use Rattle.rules.specs.File.{File}
 use Rattle.rules.specs.State.{listed, depthOf}
+use Rattle.rules.specs.Desk.{allEndAt}
 
+-- of an IAK certificate, by its Subject and its EK
+abbrev pub iakEntryTests : File → List Entry → ℕ → Subject → ℕ → List Test
+iakEntryTests f ledger r wanted ek =
+    need 28 (not (listed ledger r))
+    ∷ need 31 (allEndAt f ledger wanted ek ledger)
+    ∷ []
+
+-- of one below its parent's
 abbrev pub entryTests : List Entry → ℕ → ℕ → List Test
 entryTests ledger r parent =
     need 28 (not (listed ledger r))

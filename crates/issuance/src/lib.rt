@@ -1,24 +1,28 @@
 // Certificates issued, 3F and 40 to 42: what each command decides and leaves.
 use rules::Family;
+use rules::Subject;
 ghost use mathlib.Core.Path.{_≡_};
 ghost use mathlib.Core.List.{List};
-ghost use Prim.Native.Nat.{ℕ, _<_, _≤_};
+ghost use Prim.Native.Nat.{ℕ, _-_, _<_, _≤_};
 ghost use lib.ListN.{length};
 ghost use Rattle.rules.specs.declared.Entry.{Entry};
 ghost use Rattle.rules.specs.declared.Family.{Family};
 ghost use Rattle.rules.specs.Limits.{termLimit};
-ghost use Rattle.rules.specs.File.{issueIak, issue};
+ghost use Rattle.rules.specs.File.{File, issueIak, issue};
 ghost use Rattle.rules.specs.State.{credentialOpen, listed, depthOf};
+ghost use Rattle.rules.specs.Desk.{allEndAt};
+ghost use Rattle.theorems.proofs.Ends.{OneEk};
 ghost use Rattle.theorems.proofs.Loading.{Wellformed};
 ghost use Rattle.state.specs.View.{view};
 ghost use Rattle.tables.specs.Regions.{tableWords, tablesIn};
+ghost use Rattle.boards.specs.Linked.{Falls};
 ghost use Rattle.entries.specs.Words.{ledgerWords};
 ghost use Rattle.loaded.specs.Chain.{chain};
 ghost use Rattle.loaded.specs.Loaded.{fileIn, Holds, Finds};
-ghost use Rattle.loaded.specs.Entries.{Enters, Entered, DecidesListed, DecidesBy, Issues};
+ghost use Rattle.loaded.specs.Entries.{Enters, Entered, Boarded, DecidesListed, DecidesBy, Issues};
 ghost use Rattle.requests.specs.Formed.{Requested};
-ghost use Rattle.issuance.specs.Tests.{entryTests};
-ghost use Rattle.issuance.specs.Appends.{Appends};
+ghost use Rattle.issuance.specs.Tests.{iakEntryTests, entryTests};
+ghost use Rattle.issuance.specs.Appends.{Appends, linkedBy};
 ghost use Rattle.issuance.specs.Issues.{IssuesIak, ParentsEntered, IssuesOnRequest};
 
 // Whether the ledger lists a certificate, by the tables' column of places.
@@ -38,6 +42,45 @@ fn depth_of(tables: &[u16; tables::WORDS], words: &[u16; entries::WORDS], t: usi
     entries::depth_of(words, entry - 1)
 }
 
+// The EK at the end of a listed certificate's path, by the tables' column of places.
+fn ek_of(tables: &[u16; tables::WORDS], t: usize) -> u16
+    requires { ⌜ (t < termLimit) × (0 < tablesIn (now tables) .entry t) × (tablesIn (now tables) .entry t ≤ termLimit) ⌝ }
+    ensures { λ x. ⌜ x ≡ tablesIn (now (tables .entry)) .boards .ek (tablesIn (now (tables .entry)) .entry t - 1) ⌝ }
+{
+    let entry = tables::entry_of(tables, t) as usize;
+    tables::ek_of(tables, entry - 1)
+}
+
+// Whether every entry with a Subject has a path that ends at an EK: the one that its serial number finds tells, and no entry has a TPM's.
+fn ends_at(tables: &[u16; tables::WORDS], wanted: Subject, ek: usize) -> bool
+    requires { ⌜ Falls (tablesIn (now tables) .boards) termLimit ⌝ }
+    ensures { λ x. ⌜ ((f : File) (ledger : List Entry) → Boarded f (tablesIn (now (tables .entry)) .boards) ledger → OneEk f ledger → x ≡ allEndAt f ledger wanted ek ledger) ⌝ }
+{
+    let Subject::Device(serial) = wanted else {
+        return true;
+    };
+    let entry = boards::entry_of(tables, serial) as usize;
+    if entry == 0 {
+        return true;
+    }
+    let kept = tables::ek_of(tables, entry - 1) as usize;
+    kept == ek
+}
+
+// The entry of an IAK certificate: none so far, and no other EK with its Subject.
+fn iak_allowed(tables: &[u16; tables::WORDS], r: usize, wanted: Subject, ek: usize) -> u8
+    requires { ⌜ (r < termLimit) × Falls (tablesIn (now tables) .boards) termLimit ⌝ }
+    ensures { λ x. ⌜ ((f : File) (words : List ℕ) (n : ℕ) (ledger : List Entry) → Enters (now (tables .entry)) words n ledger → Boarded f (tablesIn (now (tables .entry)) .boards) ledger → OneEk f ledger → x ≡ chain (iakEntryTests f ledger r wanted ek)) ⌝ }
+{
+    if is_listed(tables, r) {
+        return 28;
+    }
+    if !ends_at(tables, wanted, ek) {
+        return 31;
+    }
+    0
+}
+
 // 3F IssueIak.
 pub fn decide_issue_iak(
     file: &[u8],
@@ -48,7 +91,7 @@ pub fn decide_issue_iak(
     c: usize,
     r: usize,
 ) -> u8
-    requires { ⌜ Holds (now file) (now state) × Finds (now file) (now tables) × Wellformed (fileIn (now file)) (issueIak party other c r) × (view (now state) .mark c ≡ credentialOpen → Requested (fileIn (now file)) (view (now state) .request c)) ⌝ }
+    requires { ⌜ Holds (now file) (now state) × Finds (now file) (now tables) × Wellformed (fileIn (now file)) (issueIak party other c r) × (view (now state) .mark c ≡ credentialOpen → Requested (fileIn (now file)) (view (now state) .request c)) × Falls (tablesIn (now tables) .boards) termLimit ⌝ }
     ensures { λ x. ⌜ DecidesListed (now (file .entry)) (now (state .entry)) (now (tables .entry)) (issueIak party other c r) x ⌝ }
 {
     if !loaded::is_role(file, party, rules::OEM_DESK) {
@@ -76,10 +119,8 @@ pub fn decide_issue_iak(
     if called != 0 {
         return called;
     }
-    if is_listed(tables, r) {
-        return 28;
-    }
-    0
+    let ek = loaded::certified_key_of(file, state, asked.certificate);
+    iak_allowed(tables, r, wanted, ek)
 }
 
 // The entry of a certificate below its parent's: none so far, and not too deep.
@@ -160,7 +201,7 @@ pub fn decide_issue(
     entry_allowed(tables, words, r, parent)
 }
 
-// An entry is written after the others, and its place noted.
+// An entry is written after the others, its place noted, and the EK at the end of its path.
 fn append(
     tables: &mut [u16; tables::WORDS],
     words: &mut [u16; entries::WORDS],
@@ -168,16 +209,30 @@ fn append(
     certificate: usize,
     parent: usize,
     depth: u16,
+    ek: u16,
 )
     requires { ⌜ (length (now tables) ≡ tableWords) × (length (now words) ≡ ledgerWords) × (n < termLimit) × (certificate < termLimit) × (parent < termLimit) ⌝ }
-    ensures { λ _. ⌜ Appends (now (tables .entry)) (now (words .entry)) n (record { certificate = certificate; parent = parent; depth = depth }) (now (tables .exit)) (now (words .exit)) ⌝ }
+    ensures { λ _. ⌜ Appends (now (tables .entry)) (now (words .entry)) n (record { certificate = certificate; parent = parent; depth = depth }) ek (now (tables .exit)) (now (words .exit)) ⌝ }
 {
     let place = (n + 1) as u16;
     tables::note_entry(tables, certificate, place);
+    tables::note_ek(tables, n, ek);
     entries::note_entry(words, n, certificate as u16, parent as u16, depth);
 }
 
-// What 3F leaves: the desk learns the certificate, the credential is closed, and the ledger has the certificate under that of the EK.
+// The entry at a place is linked by its Subject.
+fn link(tables: &mut [u16; tables::WORDS], n: usize, subject: Subject)
+    requires { ⌜ (length (now tables) ≡ tableWords) × (n < termLimit) ⌝ }
+    ensures { λ _. ⌜ tablesIn (now (tables .exit)) ≡ linkedBy (tablesIn (now (tables .entry))) n subject ⌝ }
+{
+    let Subject::Device(serial) = subject else {
+        return;
+    };
+    tables::link(tables, n, serial);
+}
+
+// What 3F leaves: the desk learns the certificate, the credential is closed, and the ledger has the certificate under that of the EK, linked by
+// its Subject.
 pub fn effect_issue_iak(
     file: &[u8],
     state: &mut [u8],
@@ -194,9 +249,12 @@ pub fn effect_issue_iak(
     let q = state::request_of(state, c);
     let request = requests::pair_of(file, state, q);
     let asked = requests::idevid_request_of(file, state, request.left);
+    let ek = loaded::certified_key_of(file, state, asked.certificate);
     loaded::learn(file, state, party, r);
     state::note_mark(state, c, rules::CREDENTIAL_CLOSED);
-    append(tables, words, n, r, asked.certificate, 1);
+    append(tables, words, n, r, asked.certificate, 1, ek as u16);
+    let named = asked.subject;
+    link(tables, n, named);
 }
 
 // What 40, 41 and 42 leave: the desk learns the certificate, and the ledger has it under the request's certificate, one deeper.
@@ -217,6 +275,7 @@ pub fn effect_issue(
     let asked = requests::ldevid_request_of(file, state, request.left);
     let parent = asked.certificate;
     let depth = depth_of(tables, words, parent);
+    let ek = ek_of(tables, parent);
     loaded::learn(file, state, party, r);
-    append(tables, words, n, r, parent, depth + 1);
+    append(tables, words, n, r, parent, depth + 1, ek);
 }

@@ -1,5 +1,5 @@
 -- Tests in the order of their refusals: the outcome is the refusal of the first that fails.
---     in-order                                  of a list of tests whose refusals rise
+--     in-order                                  of a list of tests that stand in the order of their refusals
 --     chain-none, chain-passes, chain-fails     no test, one test
 --     chain-first, chain-rest                   a list of tests before others
 --     stops, passed                             a part that refuses; a test of a chain that answers 0
@@ -7,33 +7,29 @@
 use mathlib.Core.Path.{_≡_, refl, sym, ap, subst, _∙_}
 use mathlib.Core.Bool.{Bool, true, false, cond, not, _&&_, _||_, false≢true}
 use mathlib.Core.List.{List, [], _∷_, _++_}
-use Prim.Native.Nat.{ℕ, zero, suc, _<_, _≤_}
+use Prim.Native.Nat.{ℕ, zero, suc, _<_}
 use native.Mathlib.Omega.{arith}
-use lib.Dec.{eqb, leb, ltb}
-use borrow.Author.Tests.{eqb-true, eqb-false, eq-eqb, ne-eqb, leb-true, ltb-true}
+use lib.Dec.{eqb}
+use borrow.Author.Tests.{eqb-true, eq-eqb, not-true}
 use Rattle.rules.specs.Refusals.{Test, need, order, applies, firstOf, refusalOf}
-use Rattle.theorems.proofs.Booleans.{and-true}
-use Rattle.theorems.proofs.Passing.{among, ordered}
+use Rattle.theorems.proofs.Booleans.{and-true, or-right}
+use Rattle.theorems.proofs.Passing.{among, ordered, absent}
 use Rattle.loaded.specs.Chain.{chain}
 
--- the refusals rise from a number on
-abbrev pub rising : ℕ → List Test → Bool
-rising k [] = true
-rising k (x ∷ xs) = leb k (x .refusal) && rising (x .refusal) xs
+-- the numbers of a list from n on
+abbrev from : ℕ → List ℕ → List ℕ
+from n [] = []
+from n (k ∷ ks) = cond (eqb k n) (k ∷ ks) (from n ks)
 
--- and so do numbers
-abbrev climbing : ℕ → List ℕ → Bool
-climbing m [] = true
-climbing m (n ∷ ns) = ltb m n && climbing n ns
+-- the tests stand in the order of their refusals: each one's is of the list, and no later one's stands before it there
+abbrev pub follows : List ℕ → List Test → Bool
+follows ns [] = true
+follows ns (x ∷ xs) = among (x .refusal) ns && follows (from (x .refusal) ns) xs
 
--- a lower refusal applies nowhere
-lower-clear : (m k : ℕ) → m < k → (xs : List Test) → rising k xs ≡ true → applies m xs ≡ false
-unfolding applies
-lower-clear m k h [] e = refl
-lower-clear m k h (x ∷ xs) e =
-    let w = and-true (leb k (x .refusal)) (rising (x .refusal) xs) e in
-    let l = leb-true k (x .refusal) (w .0) in
-    rw (ne-eqb (x .refusal) m (λ q. omega arith), lower-clear m (x .refusal) (omega arith) xs (w .1)) refl
+-- a list with no number twice
+abbrev distinct : List ℕ → Bool
+distinct [] = true
+distinct (n ∷ ns) = not (among n ns) && distinct ns
 
 none-fails : (ns : List ℕ) → firstOf ns [] ≡ 0
 unfolding firstOf applies
@@ -58,56 +54,93 @@ fails-here : (x : Test) (xs : List Test) → x .passes ≡ false → applies (x 
 unfolding applies
 fails-here x xs e = rw (e, eq-eqb (x .refusal) (x .refusal) refl) refl
 
--- what comes later in rising numbers is higher
-later-higher : (m k : ℕ) (ns : List ℕ) → climbing m ns ≡ true → among k ns ≡ true → m < k
-later-higher m k [] c a = absurd (false≢true a)
-later-higher m k (n ∷ ns) c a = go (eqb n k) refl (λ b. later-higher n k ns (w .1) b)
+-- what stands from a number on stands in the list
+from-among : (ns : List ℕ) (n k : ℕ) → among k (from n ns) ≡ true → among k ns ≡ true
+from-among [] n k a = a
+from-among (m ∷ ns) n k a = go (eqb m n) a (from-among ns n k)
   where
-    w : (ltb m n ≡ true) × (climbing n ns ≡ true)
-    w = and-true (ltb m n) (climbing n ns) c
+    go : (b : Bool) → among k (cond b (m ∷ ns) (from n ns)) ≡ true → (among k (from n ns) ≡ true → among k ns ≡ true) → (eqb m k || among k ns) ≡ true
+    go true a more = a
+    go false a more = or-right (eqb m k) (among k ns) (more a)
 
-    go : (b : Bool) → eqb n k ≡ b → (among k ns ≡ true → n < k) → m < k
-    go true e more = omega (arith, ltb-true m n (w .0), eqb-true n k e)
-    go false e more = omega (arith, ltb-true m n (w .0), more (rw e at a))
+from-distinct : (ns : List ℕ) (n : ℕ) → distinct ns ≡ true → distinct (from n ns) ≡ true
+from-distinct [] n d = refl
+from-distinct (m ∷ ns) n d = go (eqb m n) (from-distinct ns n (and-true (not (among m ns)) (distinct ns) d .1))
+  where
+    go : (b : Bool) → distinct (from n ns) ≡ true → distinct (cond b (m ∷ ns) (from n ns)) ≡ true
+    go true more = d
+    go false more = more
 
--- the first test fails, and the others' refusals are no lower
-fails-first : (m : ℕ) (ns : List ℕ) (x : Test) (xs : List Test) → climbing m ns ≡ true → among (x .refusal) ns ≡ true → x .passes ≡ false → rising (x .refusal) xs ≡ true → firstOf ns (x ∷ xs) ≡ x .refusal
+-- the tests' refusals are all in the list
+follows-ordered : (ns ms : List ℕ) (xs : List Test) → ((k : ℕ) → among k ms ≡ true → among k ns ≡ true) → follows ms xs ≡ true → ordered ns xs ≡ true
+follows-ordered ns ms [] i f = refl
+follows-ordered ns ms (x ∷ xs) i f =
+    let w = and-true (among (x .refusal) ms) (follows (from (x .refusal) ms) xs) f in
+    rw (i (x .refusal) (w .0), follows-ordered ns (from (x .refusal) ms) xs (λ k a. i k (from-among ms (x .refusal) k a)) (w .1)) refl
+
+-- numbers before one that all tests stand behind apply nowhere
+skips : (ns : List ℕ) (n : ℕ) (xs : List Test) → distinct ns ≡ true → ordered (from n ns) xs ≡ true → among n ns ≡ true → firstOf ns xs ≡ firstOf (from n ns) xs
 unfolding firstOf
-fails-first m [] x xs c a e r = absurd (false≢true a)
-fails-first m (n ∷ ns) x xs c a e r = go (eqb n (x .refusal)) refl (λ b. fails-first n ns x xs (w .1) b e r)
+skips [] n xs d o a = refl
+skips (m ∷ ns) n xs d o a = go (eqb m n) o a (skips ns n xs (w .1))
   where
-    w : (ltb m n ≡ true) × (climbing n ns ≡ true)
-    w = and-true (ltb m n) (climbing n ns) c
+    w : (not (among m ns) ≡ true) × (distinct ns ≡ true)
+    w = and-true (not (among m ns)) (distinct ns) d
 
-    go : (b : Bool) → eqb n (x .refusal) ≡ b → (among (x .refusal) ns ≡ true → firstOf ns (x ∷ xs) ≡ x .refusal) → cond (applies n (x ∷ xs)) n (firstOf ns (x ∷ xs)) ≡ x .refusal
-    go true q more = let s = eqb-true n (x .refusal) q in rw (s, fails-here x xs e) refl
-    go false q more =
-        let b : among (x .refusal) ns ≡ true = rw q at a in
-        let l = later-higher n (x .refusal) ns (w .1) b in
-        let k : rising (x .refusal) (x ∷ xs) ≡ true = same-on (x .refusal) (rising (x .refusal) xs) r in
-        rw (lower-clear n (x .refusal) l (x ∷ xs) k) (more b)
+    go : (b : Bool) → ordered (cond b (m ∷ ns) (from n ns)) xs ≡ true → (b || among n ns) ≡ true
+        → (ordered (from n ns) xs ≡ true → among n ns ≡ true → firstOf ns xs ≡ firstOf (from n ns) xs)
+        → cond (applies m xs) m (firstOf ns xs) ≡ firstOf (cond b (m ∷ ns) (from n ns)) xs
+    go true o a more = refl
+    go false o a more =
+        rw (absent ns xs m (ordered-more ns (from n ns) xs (λ k. from-among ns n k) o) (not-true (among m ns) (w .0))) (more o a)
       where
-        same-on : (y : ℕ) (t : Bool) → t ≡ true → (leb y y && t) ≡ true
-        same-on y t e = rw (borrow.Author.Tests.le-leb y y (omega arith), e) refl
+        ordered-more : (ns ms : List ℕ) (xs : List Test) → ((k : ℕ) → among k ms ≡ true → among k ns ≡ true) → ordered ms xs ≡ true → ordered ns xs ≡ true
+        ordered-more ns ms [] i o = refl
+        ordered-more ns ms (x ∷ xs) i o =
+            let v = and-true (among (x .refusal) ms) (ordered ms xs) o in
+            rw (i (x .refusal) (v .0), ordered-more ns ms xs i (v .1)) refl
 
-chained : (m : ℕ) (ns : List ℕ) (k : ℕ) (xs : List Test) → climbing m ns ≡ true → ordered ns xs ≡ true → rising k xs ≡ true → firstOf ns xs ≡ chain xs
-unfolding chain
-chained m ns k [] c o r = none-fails ns
-chained m ns k (x ∷ xs) c o r = go (x .passes) refl (chained m ns (x .refusal) xs c (v .1) (w .1))
+-- the first test fails, and the others' refusals do not stand before its own
+fails-first : (ns : List ℕ) (x : Test) (xs : List Test) → distinct ns ≡ true → among (x .refusal) ns ≡ true → x .passes ≡ false → ordered (from (x .refusal) ns) xs ≡ true → firstOf ns (x ∷ xs) ≡ x .refusal
+unfolding firstOf
+fails-first ns x xs d a e o = skips ns (x .refusal) (x ∷ xs) d (rw (from-own ns a, o) refl) a ∙ here ns a
   where
-    w : (leb k (x .refusal) ≡ true) × (rising (x .refusal) xs ≡ true)
-    w = and-true (leb k (x .refusal)) (rising (x .refusal) xs) r
+    from-own : (ns : List ℕ) → among (x .refusal) ns ≡ true → among (x .refusal) (from (x .refusal) ns) ≡ true
+    from-own [] a = a
+    from-own (m ∷ ns) a = go (eqb m (x .refusal)) refl (from-own ns) a
+      where
+        go : (b : Bool) → eqb m (x .refusal) ≡ b → (among (x .refusal) ns ≡ true → among (x .refusal) (from (x .refusal) ns) ≡ true) → (b || among (x .refusal) ns) ≡ true
+            → among (x .refusal) (cond b (m ∷ ns) (from (x .refusal) ns)) ≡ true
+        go true q more a = rw q refl
+        go false q more a = more a
 
-    v : (among (x .refusal) ns ≡ true) × (ordered ns xs ≡ true)
-    v = and-true (among (x .refusal) ns) (ordered ns xs) o
+    here : (ns : List ℕ) → among (x .refusal) ns ≡ true → firstOf (from (x .refusal) ns) (x ∷ xs) ≡ x .refusal
+    here [] a = absurd (false≢true a)
+    here (m ∷ ns) a = go (eqb m (x .refusal)) refl (here ns) a
+      where
+        go : (b : Bool) → eqb m (x .refusal) ≡ b → (among (x .refusal) ns ≡ true → firstOf (from (x .refusal) ns) (x ∷ xs) ≡ x .refusal) → (b || among (x .refusal) ns) ≡ true
+            → firstOf (cond b (m ∷ ns) (from (x .refusal) ns)) (x ∷ xs) ≡ x .refusal
+        go true q more a = let s = eqb-true m (x .refusal) q in rw (s, fails-here x xs e) refl
+        go false q more a = more a
 
-    go : (b : Bool) → x .passes ≡ b → firstOf ns xs ≡ chain xs → firstOf ns (x ∷ xs) ≡ cond (x .passes) (chain xs) (x .refusal)
-    go true e more = passes-first ns x xs e ∙ more ∙ sym (ap (λ (b : Bool). cond b (chain xs) (x .refusal)) e)
-    go false e more = fails-first m ns x xs c (v .0) e (w .1) ∙ sym (ap (λ (b : Bool). cond b (chain xs) (x .refusal)) e)
+chained : (ns : List ℕ) (xs : List Test) → distinct ns ≡ true → follows ns xs ≡ true → firstOf ns xs ≡ chain xs
+unfolding chain
+chained ns [] d f = none-fails ns
+chained ns (x ∷ xs) d f = go (x .passes) refl (chained (from (x .refusal) ns) xs (from-distinct ns (x .refusal) d) (w .1))
+  where
+    w : (among (x .refusal) ns ≡ true) × (follows (from (x .refusal) ns) xs ≡ true)
+    w = and-true (among (x .refusal) ns) (follows (from (x .refusal) ns) xs) f
 
-pub in-order : (xs : List Test) → ordered order xs ≡ true → rising 0 xs ≡ true → refusalOf xs ≡ chain xs
+    behind : ordered (from (x .refusal) ns) xs ≡ true
+    behind = follows-ordered (from (x .refusal) ns) (from (x .refusal) ns) xs (λ k a. a) (w .1)
+
+    go : (b : Bool) → x .passes ≡ b → firstOf (from (x .refusal) ns) xs ≡ chain xs → firstOf ns (x ∷ xs) ≡ cond (x .passes) (chain xs) (x .refusal)
+    go true e more = passes-first ns x xs e ∙ skips ns (x .refusal) xs d behind (w .0) ∙ more ∙ sym (ap (λ (b : Bool). cond b (chain xs) (x .refusal)) e)
+    go false e more = fails-first ns x xs d (w .0) e behind ∙ sym (ap (λ (b : Bool). cond b (chain xs) (x .refusal)) e)
+
+pub in-order : (xs : List Test) → follows order xs ≡ true → refusalOf xs ≡ chain xs
 unfolding refusalOf
-in-order xs o r = chained 0 order 0 xs refl o r
+in-order xs f = chained order xs refl f
 
 pub chain-none : chain [] ≡ 0
 unfolding chain
@@ -123,20 +156,17 @@ module _ (n : ℕ) (b : Bool) (xs : List Test) where
   chain-fails e = rw e refl
 
 -- tests before others, none of which has the refusal 0
-pub chain-rest : (k : ℕ) (xs ys : List Test) → 0 < k → rising k xs ≡ true → chain xs ≡ 0 → chain (xs ++ ys) ≡ chain ys
+pub chain-rest : (xs ys : List Test) → ordered order xs ≡ true → chain xs ≡ 0 → chain (xs ++ ys) ≡ chain ys
 unfolding chain
-chain-rest k [] ys h r e = refl
-chain-rest k (x ∷ xs) ys h r e = go (x .passes) refl e (λ q. chain-rest (x .refusal) xs ys (omega (arith, l)) (w .1) q)
+chain-rest [] ys o e = refl
+chain-rest (x ∷ xs) ys o e = go (x .passes) refl e (chain-rest xs ys (w .1))
   where
-    w : (leb k (x .refusal) ≡ true) × (rising (x .refusal) xs ≡ true)
-    w = and-true (leb k (x .refusal)) (rising (x .refusal) xs) r
-
-    l : k ≤ x .refusal
-    l = leb-true k (x .refusal) (w .0)
+    w : (among (x .refusal) order ≡ true) × (ordered order xs ≡ true)
+    w = and-true (among (x .refusal) order) (ordered order xs) o
 
     go : (b : Bool) → x .passes ≡ b → cond (x .passes) (chain xs) (x .refusal) ≡ 0 → (chain xs ≡ 0 → chain (xs ++ ys) ≡ chain ys) → cond (x .passes) (chain (xs ++ ys)) (x .refusal) ≡ chain ys
     go true q e more = rw q (more (rw q at e))
-    go false q e more = let z : x .refusal ≡ 0 = rw q at e in absurd (omega (arith, l))
+    go false q e more = let z : x .refusal ≡ 0 = rw q at e in absurd (false≢true (ap (λ (n : ℕ). among n order) (sym z) ∙ w .0))
 
 pub chain-first : (n : ℕ) (xs ys : List Test) → chain xs ≡ suc n → chain (xs ++ ys) ≡ suc n
 unfolding chain

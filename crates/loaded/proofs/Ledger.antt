@@ -3,16 +3,18 @@
 --     listed-entry                     a listed certificate has an entry
 --     entry-inside, entry-most         the tables' column of places stays within the ledger
 --     column-none, column-listed, column-some     whether a certificate is listed, by that column
+--     entry-listed                     its entry
 --     depth-read, parent-read, parent-none     its depth and parent
 -- Assumes nothing.
 use mathlib.Core.Path.{_≡_, refl, sym, ap, _∙_}
 use mathlib.Core.Bool.{Bool, true, false, cond, not, _||_}
 use mathlib.Core.Logic.{_⊎_, inl, inr, ⊎-elim}
 use mathlib.Core.List.{List, [], _∷_, _++_}
+use mathlib.Core.Option.{some}
 use Prim.Native.Nat.{ℕ, zero, suc, _+_, _-_, _<_, _≤_}
 use native.Mathlib.Omega.{arith}
 use lib.Dec.{eqb}
-use lib.ListN.{length, getD, List·getD-append}
+use lib.ListN.{length, getD, getElem?, List·getD-append}
 use borrow.Author.Tests.{eqb-true, eqb-false, ne-eqb, not-true}
 use Rattle.rules.specs.declared.Entry.{Entry}
 use Rattle.rules.specs.Limits.{termLimit}
@@ -91,6 +93,23 @@ listed-entry (e ∷ es) i c = go (eqb (e .certificate) c) (listed-entry es (suc 
     go true h = sym (ap not (ne-eqb (suc i) 0 (λ q. omega arith)))
     go false h = h
 
+-- the entry of a listed certificate
+entry-there :
+    (es : List Entry) (i c x : ℕ) → entryFrom i es c ≡ x → 0 < x
+    → (i < x) × (g : Entry) × (getElem? es (x - suc i) ≡ some g) × (g .certificate ≡ c) × (g .depth ≡ depthOf es c)
+unfolding entryFrom depthOf
+entry-there [] i c x e l = absurd (omega arith)
+entry-there (y ∷ es) i c x e l = go (eqb (y .certificate) c) refl e (λ q. entry-there es (suc i) c x q l)
+  where
+    go : (b : Bool) → eqb (y .certificate) c ≡ b → cond b (suc i) (entryFrom (suc i) es c) ≡ x
+        → (entryFrom (suc i) es c ≡ x → (suc i < x) × (g : Entry) × (getElem? es (x - suc (suc i)) ≡ some g) × (g .certificate ≡ c) × (g .depth ≡ depthOf es c))
+        → (i < x) × (g : Entry) × (getElem? (y ∷ es) (x - suc i) ≡ some g) × (g .certificate ≡ c) × (g .depth ≡ cond b (y .depth) (depthOf es c))
+    go true q e more = (omega arith, y, ap (getElem? (y ∷ es)) (let z : x - suc i ≡ 0 = omega arith in z), eqb-true (y .certificate) c q, refl)
+    go false q e more =
+        let w = more e in
+        let l = w .0 in
+        (omega arith, w .1, ap (getElem? (y ∷ es)) (let z : x - suc i ≡ suc (x - suc (suc i)) = omega arith in z) ∙ w .2, w .3, w .4)
+
 -- by the tables' column
 module _ {tables words : List ℕ} {n : ℕ} {ledger : List Entry} (t : ℕ) (e : Enters tables words n ledger) where
   pub ledger-length : length ledger ≡ n
@@ -116,6 +135,9 @@ module _ {tables words : List ℕ} {n : ℕ} {ledger : List Entry} (t : ℕ) (e 
 
   pub column-some : listed ledger t ≡ true → 0 < tablesIn tables .entry t
   column-some l = let m = eqb-false (tablesIn tables .entry t) 0 (not-true _ (sym listed-column ∙ l)) in omega (arith, m)
+
+  pub entry-listed : 0 < tablesIn tables .entry t → (g : Entry) × (getElem? ledger (tablesIn tables .entry t - 1) ≡ some g) × (g .certificate ≡ t) × (g .depth ≡ depthOf ledger t)
+  entry-listed l = let w = entry-there ledger 0 t (tablesIn tables .entry t) (sym (e .place t)) l in (w .1, w .2, w .3, w .4)
 
   entry-read : (x : ℕ) → x ≡ tablesIn tables .entry t → 0 < x → entryIn words (x - 1) ≡ entryOf ledger t
   entry-read x q l =

@@ -6,3 +6,4 @@ pub mod Learning
 pub mod Halves
 pub mod Tested
 pub mod Ledger
+pub mod Boards

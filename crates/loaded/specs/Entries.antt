@@ -1,17 +1,23 @@
--- The ledger while commands run: its entries in words, and the tables' column of their places.
+-- The ledger while commands run: its entries in words, the tables' column of their places, and what finds them by their Subject.
 use mathlib.Core.Path.{_≡_}
 use mathlib.Core.Bool.{cond}
 use mathlib.Core.List.{List, [], _∷_}
-use Prim.Native.Nat.{ℕ, suc, _+_, _*_, _<_, _≤_}
+use mathlib.Core.Option.{some}
+use Prim.Native.Nat.{ℕ, suc, _+_, _-_, _*_, _<_, _≤_}
 use lib.Dec.{eqb}
-use lib.ListN.{length, getD}
+use lib.ListN.{length, getD, getElem?}
 use Rattle.rules.specs.declared.Entry.{Entry}
 use Rattle.rules.specs.Limits.{termLimit}
-use Rattle.rules.specs.File.{Command}
+use Rattle.rules.specs.declared.Subject.the-variants.{Device}
+use Rattle.rules.specs.File.{File, Command, subject}
+use Rattle.rules.specs.Desk.{endEk}
 use Rattle.rules.specs.Run.{outcome, effectOf}
+use Rattle.theorems.proofs.Ends.{OneEk}
+use Rattle.theorems.proofs.Invariant.{Invariant}
 use Rattle.state.specs.View.{view}
 use Rattle.state.proofs.Exact.{stateOf}
-use Rattle.tables.specs.Regions.{Tables, tablesIn}
+use Rattle.tables.specs.Regions.{Boards, Tables, tablesIn}
+use Rattle.boards.specs.Linked.{Falls, entryOf}
 use Rattle.entries.specs.Words.{entryWords, ledgerWords, entriesIn}
 use Rattle.loaded.specs.Loaded.{fileIn}
 
@@ -20,23 +26,35 @@ unfoldable pub entryFrom : ℕ → List Entry → ℕ → ℕ
 entryFrom i [] c = 0
 entryFrom i (e ∷ es) c = cond (eqb (e .certificate) c) (suc i) (entryFrom (suc i) es c)
 
--- the words hold a ledger of n entries and zero beyond them, and the tables the place of each
+-- the words hold a ledger of n entries and zero beyond them, and the tables the place of each; no list of a bucket goes beyond them
 pub record Enters (tables words : List ℕ) (n : ℕ) (ledger : List Entry) : Type 0 where
   pub few : n ≤ termLimit
   pub room : length words ≡ ledgerWords
   pub same : ledger ≡ entriesIn words n
   pub beyond : (i : ℕ) → entryWords * n ≤ i → getD words i 0 ≡ 0
   pub place : (c : ℕ) → tablesIn tables .entry c ≡ entryFrom 0 ledger c
+  pub falls : Falls (tablesIn tables .boards) n
 
 abbrev pub Entered : List ℕ → List ℕ → Type 0
 Entered tables words = (n : ℕ) × (ledger : List Entry) × Enters tables words n ledger
 
--- the outcome of a command that asks whether a certificate is listed, and of one that looks at the ledger
+-- the tables have the EK at the end of each entry's path; each entry's Subject finds an entry, and what a serial number finds is one with
+-- that Subject
+pub record Boarded (f : File) (b : Boards) (ledger : List Entry) : Type 0 where
+  pub ek : (i : ℕ) (e : Entry) → getElem? ledger i ≡ some e → b .ek i ≡ endEk f ledger e
+  pub found : (i : ℕ) (e : Entry) → getElem? ledger i ≡ some e → (m : ℕ) × (subject f (e .certificate) ≡ Device m) × (0 < entryOf b m)
+  pub right : (m : ℕ) → 0 < entryOf b m → (e : Entry) × (getElem? ledger (entryOf b m - 1) ≡ some e) × (subject f (e .certificate) ≡ Device m)
+
+-- the outcome of a command that looks at the tables of the ledger, and of one that looks at its words too; entries of one Subject end at one EK
 abbrev pub DecidesListed : List ℕ → List ℕ → List ℕ → Command → ℕ → Type 0
-DecidesListed bs s tables c x = (words : List ℕ) (n : ℕ) (ledger : List Entry) → Enters tables words n ledger → x ≡ outcome (fileIn bs) (stateOf (view s) ledger) c
+DecidesListed bs s tables c x =
+    (words : List ℕ) (n : ℕ) (ledger : List Entry) → Enters tables words n ledger → Boarded (fileIn bs) (tablesIn tables .boards) ledger → OneEk (fileIn bs) ledger
+    → x ≡ outcome (fileIn bs) (stateOf (view s) ledger) c
 
 abbrev pub DecidesBy : List ℕ → List ℕ → List ℕ → List ℕ → Command → ℕ → Type 0
-DecidesBy bs s tables words c x = (n : ℕ) (ledger : List Entry) → Enters tables words n ledger → x ≡ outcome (fileIn bs) (stateOf (view s) ledger) c
+DecidesBy bs s tables words c x =
+    (n : ℕ) (ledger : List Entry) → Enters tables words n ledger → Boarded (fileIn bs) (tablesIn tables .boards) ledger → OneEk (fileIn bs) ledger
+    → x ≡ outcome (fileIn bs) (stateOf (view s) ledger) c
 
 -- an accepted command that issues, with room for its entry
 pub record Accepts (bs s tables words : List ℕ) (n : ℕ) (c : Command) : Type 0 where
@@ -56,5 +74,8 @@ pub record Issues (bs s tables words : List ℕ) (n : ℕ) (c : Command) (s′ t
   pub ledger : List Entry → List Entry
   pub columns : (old : List Entry) → Enters tables words n old → stateOf (view s′) (ledger old) ≡ effectOf (fileIn bs) (stateOf (view s) old) c
   pub enters : (old : List Entry) → Enters tables words n old → Enters tables′ words′ (n + 1) (ledger old)
+  pub boards :
+      (old : List Entry) → Enters tables words n old → Invariant (fileIn bs) (stateOf (view s) old) → Boarded (fileIn bs) (tablesIn tables .boards) old
+      → Boarded (fileIn bs) (tablesIn tables′ .boards) (ledger old)
   pub places : view s′ .place ≡ view s .place
   pub keys : SameKeys (tablesIn tables) (tablesIn tables′)

@@ -1,6 +1,6 @@
 -- What the scan found, with the signing keys in the tables or the state cleared, is what filling leaves.
 -- Assumes nothing.
-use mathlib.Core.Path.{_≡_, refl, ap, sym, _∙_}
+use mathlib.Core.Path.{_≡_, refl, ap, sym, subst⁻¹, _∙_}
 use mathlib.Core.Logic.{inl, inr}
 use mathlib.Core.Bool.{Bool, true, false}
 use mathlib.Core.List.{List}
@@ -13,7 +13,7 @@ use Rattle.rules.specs.Limits.{partyLimit, stateBytes}
 use Rattle.rules.specs.File.{File}
 use Rattle.setup.specs.Allowed.{noKey}
 use Rattle.state.specs.View.{view}
-use Rattle.tables.specs.Regions.{tablesIn}
+use Rattle.tables.specs.Regions.{Unlinked, tablesIn}
 use Rattle.index.specs.Indexed.{Indexed, passes}
 use Rattle.index.proofs.Halves.{half-follows}
 use Rattle.lookup.specs.Commands.{commandsFrom}
@@ -60,6 +60,7 @@ module _ (bytes s signers : List ℕ) (r : Scanned) (found : ScanResult bytes s 
           ∙ ap (λ (column : ℕ → ℕ). passes test (column k)) (sym (signed .half));
       declared = λ k. let e = ap (λ (column : ℕ → ℕ). column k) (signed .half) in omega (arith, half-most k, d .termsAre, e);
       entry = λ t. ap (λ (column : ℕ → ℕ). column t) (signed .entry) ∙ indexed .unlisted t;
+      unlinked = subst⁻¹ Unlinked (signed .boards) (indexed .unlinked);
       words = signed .words ∙ indexed .words;
     }
 

@@ -8,18 +8,19 @@ use lib.ListN.{length, getD, replicate}
 use Rattle.rules.specs.Limits.{fileLimit, partyLimit, stateBytes}
 use Rattle.rules.specs.File.{File, halfIn}
 use Rattle.rules.specs.Load.{load, loaded, refused}
-use Rattle.tables.specs.Regions.{tableWords, Tables, tablesIn}
+use Rattle.tables.specs.Regions.{tableWords, Unlinked, Tables, tablesIn}
 use Rattle.index.specs.Indexed.{passes}
 use Rattle.lookup.specs.Commands.{commandsFrom}
 use Rattle.scan.specs.declared.Scanned.{Scanned}
 use Rattle.scan.specs.Describes.{signerOf, Describes}
 
--- the tables of a file: the parties' signing keys, the private half of each public key, and no certificate in the ledger
+-- the tables of a file: the parties' signing keys, the private half of each public key, and no certificate in the ledger or linked
 pub record Tabled (f : File) (v : Tables) : Type 0 where
   pub signer : (p : ℕ) → p < partyLimit → v .signer p ≡ signerOf (f .setup) p
   pub half : (test : ℕ → Bool) (k : ℕ) → k < length (f .terms) → halfIn f test k ≡ passes test (v .half k)
   pub declared : (k : ℕ) → v .half k ≤ length (f .terms)
   pub entry : (t : ℕ) → v .entry t ≡ 0
+  pub unlinked : Unlinked (v .boards)
   pub words : v .words ≡ tableWords
 
 -- what filling needs: a file that is not too long, and room for the state
@@ -47,4 +48,5 @@ pub record Signed (signers : List ℕ) (v w : Tables) (n : ℕ) : Type 0 where
   pub signer : (p : ℕ) → p < n → w .signer p ≡ getD signers p 0
   pub half : w .half ≡ v .half
   pub entry : w .entry ≡ v .entry
+  pub boards : w .boards ≡ v .boards
   pub words : w .words ≡ v .words

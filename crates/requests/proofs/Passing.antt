@@ -17,11 +17,11 @@ use Rattle.requests.proofs.Read.{is-kind-kind}
 module _ (f : File) (ys : List Test) {x : ℕ} (z : x ≡ 0) where
   pub form-goes : (k q : ℕ) → x ≡ chain (formTests f k q) → chain (formTests f k q ++ ys) ≡ chain ys
   unfolding formTests
-  form-goes k q e = chain-rest 19 _ ys (omega arith) refl (sym e ∙ z)
+  form-goes k q e = chain-rest _ ys refl (sym e ∙ z)
 
   pub proof-goes : (q key : ℕ) → x ≡ chain (proofTests f q key) → chain (proofTests f q key ++ ys) ≡ chain ys
   unfolding proofTests
-  proof-goes q key e = chain-rest 20 _ ys (omega arith) refl (sym e ∙ z)
+  proof-goes q key e = chain-rest _ ys refl (sym e ∙ z)
 
 pub has-form : (f : File) (k q : ℕ) {x : ℕ} → x ≡ chain (formTests f k q) → x ≡ 0 → Formed f q × (kind f (leftOf f q) ≡ k)
 unfolding formTests requestBody requestSignature

@@ -12,9 +12,9 @@ use Rattle.rules.specs.Record.{width, widths, sectionOf, fieldsOf, bodyL
 use Rattle.rules.specs.File.{roleOf, isRole, term, kind, isKind, parts, field, hashedTerm, message, signingKey, attestedKey, credentialTerm, credentialNumber, credentialKey, idevidCertificate, idevidKey, ldevidMessage, ldevidCertificate, certifiedKey, signer, leftOf, rightOf, subject, attributes, paired, someTerm, halfIn, someSetup, isHold, isOtherHold, isSigningKey, isSigner, isSigningKeyFor, holdsKey, signsFor, signsForRole, signsForSome}
 use Rattle.rules.specs.Load.{Load, loaded, refused, first, refuseUnless, subjectAt, termAt, setupAt, commandAt, sectionFault, countFault, declaredFault, fieldFault, fieldsFault, alikeFault, mayLearn, mayHold, maySign, allowedFault, setupFault, recordFault, withParty, withTerm, withSetup, withCommand, enter, settle, step, feed, emptyFile, load, commandsOf}
 use Rattle.rules.specs.Learning.{grant, each, opened, learn}
-use Rattle.rules.specs.State.{State, nothing, taught, start, put, listed, depthOf, learnt, ticketed, opening, closing, entered}
+use Rattle.rules.specs.State.{State, nothing, taught, start, put, listed, depthOf, parentOf, endOf, learnt, ticketed, opening, closing, entered}
 use Rattle.rules.specs.Device.{deviceRole, keyHas, holdsHalf, hashTests, hashEffect, signTests, certifyTests, makeCredentialTests, activateCredentialTests, bothKnownTests, mayBeSentByDesk, maySend, sendTests, selfIssueTests, checkRole, checkTests}
-use Rattle.rules.specs.Desk.{requestBody, requestSignature, formTests, proofTests, knowers, numberTests, iakOf, ekCertificateOf, ekOf, challengeTests, challengeEffect, calledFor, issueIakTests, issueIakEffect, attestSignatureOf, newKeyOf, parentCertificateOf, issueTests, issueEffect}
+use Rattle.rules.specs.Desk.{requestBody, requestSignature, formTests, proofTests, knowers, numberTests, iakOf, ekCertificateOf, ekOf, challengeTests, challengeEffect, calledFor, endEk, allEndAt, issueIakTests, issueIakEffect, attestSignatureOf, newKeyOf, parentCertificateOf, issueTests, issueEffect}
 use Rattle.rules.specs.Run.{testsOf, effectOf, outcome, after, run, outcomes, firstCommands, reached, outcomesOf, zeros, others, accepted, refusals, issued}
 use Rattle.rules.specs.Listing.{digits, decimal, numbers, line, refusalLines, entryLines, lines, listing}
 
@@ -37,7 +37,7 @@ resultOf (refused number place) = notLoaded number place
 
 -- "unfolding result" opens the rules, loading and the listing with them
 unfoldable pub result : List ℕ → Result
-unfolding triples resultOf applies firstOf refusalOf has sameAttributes kindOf subjectFields fieldsIn subjectOf attributesOf sameSubject isDeviceSubject isTpmSubject sameList alike anyAlike keyPair partsOf width widths sectionOf fieldsOf bodyLength word cut pieces roleOf isRole term kind isKind parts field hashedTerm message signingKey attestedKey credentialTerm credentialNumber credentialKey idevidCertificate idevidKey ldevidMessage ldevidCertificate certifiedKey signer leftOf rightOf subject attributes paired someTerm halfIn someSetup isHold isOtherHold isSigningKey isSigner isSigningKeyFor holdsKey signsFor signsForRole signsForSome first refuseUnless subjectAt termAt setupAt familyOf commandAt sectionFault countFault declaredFault fieldFault fieldsFault alikeFault mayLearn mayHold maySign allowedFault setupFault recordFault withParty withTerm withSetup withCommand enter settle step feed emptyFile load commandsOf grant each opened learn nothing taught start put listed depthOf learnt ticketed opening closing entered deviceRole keyHas holdsHalf hashTests hashEffect signTests certifyTests makeCredentialTests activateCredentialTests bothKnownTests mayBeSentByDesk maySend sendTests selfIssueTests checkRole checkTests requestBody requestSignature formTests proofTests knowers numberTests iakOf ekCertificateOf ekOf challengeTests challengeEffect calledFor issueIakTests issueIakEffect attestSignatureOf newKeyOf parentCertificateOf issueTests issueEffect testsOf effectOf outcome after run outcomes firstCommands reached outcomesOf zeros others accepted refusals issued digits decimal numbers line refusalLines entryLines lines listing
+unfolding triples resultOf applies firstOf refusalOf has sameAttributes kindOf subjectFields fieldsIn subjectOf attributesOf sameSubject isDeviceSubject isTpmSubject sameList alike anyAlike keyPair partsOf width widths sectionOf fieldsOf bodyLength word cut pieces roleOf isRole term kind isKind parts field hashedTerm message signingKey attestedKey credentialTerm credentialNumber credentialKey idevidCertificate idevidKey ldevidMessage ldevidCertificate certifiedKey signer leftOf rightOf subject attributes paired someTerm halfIn someSetup isHold isOtherHold isSigningKey isSigner isSigningKeyFor holdsKey signsFor signsForRole signsForSome first refuseUnless subjectAt termAt setupAt familyOf commandAt sectionFault countFault declaredFault fieldFault fieldsFault alikeFault mayLearn mayHold maySign allowedFault setupFault recordFault withParty withTerm withSetup withCommand enter settle step feed emptyFile load commandsOf grant each opened learn nothing taught start put listed depthOf parentOf endOf learnt ticketed opening closing entered deviceRole keyHas holdsHalf hashTests hashEffect signTests certifyTests makeCredentialTests activateCredentialTests bothKnownTests mayBeSentByDesk maySend sendTests selfIssueTests checkRole checkTests requestBody requestSignature formTests proofTests knowers numberTests iakOf ekCertificateOf ekOf challengeTests challengeEffect calledFor endEk allEndAt issueIakTests issueIakEffect attestSignatureOf newKeyOf parentCertificateOf issueTests issueEffect testsOf effectOf outcome after run outcomes firstCommands reached outcomesOf zeros others accepted refusals issued digits decimal numbers line refusalLines entryLines lines listing
 result bytes = resultOf (load bytes)
 
 -- what the commands from place n on give where the ledger is another before them, a state that no file comes to

@@ -515,6 +515,53 @@ depth-9-refused : lakIssued (iakAt 8) ≡ 29 ∷ []
 unfolding result outcomesWith withLedger
 depth-9-refused = refl
 
+-- Command 8, the 3F of the honest IAK, with other ledgers (request 3 of document 02). Terms: 15 another EK, 16 its certificate; 17 another
+-- certificate of the first EK; 18 and 19 certificates with the IAK's Subject, 20 one with another.
+abbrev iakIssued : List Entry → List ℕ
+iakIssued entries =
+    outcomesWith entries 8
+    (load
+    (written
+    (parties
+    ++ terms
+    ++ (publicKey 5 0x0D
+    ∷ certificate 15 (tpm 7) makerKey
+    ∷ certificate ek (tpm 6) makerKey
+    ∷ certificate 15 (device 8) oemKey
+    ∷ certificate ek (device 8) oemKey
+    ∷ certificate 15 (device 9) oemKey
+    ∷ [])
+    ++ setup
+    ++ enrolled)))
+
+abbrev entryUnder : ℕ → ℕ → ℕ → Entry
+entryUnder parent depth c = record { certificate = c; parent = parent; depth = depth }
+
+-- the Subject under another EK
+other-ek : iakIssued (entryUnder 16 1 18 ∷ []) ≡ 31 ∷ []
+unfolding result outcomesWith withLedger
+other-ek = refl
+
+-- the same, two steps down: the end of the path counts, and each entry
+other-ek-below : iakIssued (entryUnder 17 1 19 ∷ entryUnder 16 1 20 ∷ entryUnder 20 2 18 ∷ []) ≡ 31 ∷ []
+unfolding result outcomesWith withLedger
+other-ek-below = refl
+
+-- under the same EK, by another certificate of it
+same-ek : iakIssued (entryUnder 17 1 18 ∷ entryUnder 18 2 19 ∷ []) ≡ 0 ∷ []
+unfolding result outcomesWith withLedger
+same-ek = refl
+
+-- another Subject under another EK
+other-subject : iakIssued (entryUnder 16 1 20 ∷ []) ≡ 0 ∷ []
+unfolding result outcomesWith withLedger
+other-subject = refl
+
+-- the certificate itself under another EK: 28 comes before 31
+listed-first : iakIssued (entryUnder 16 1 iakCertificate ∷ []) ≡ 28 ∷ []
+unfolding result outcomesWith withLedger
+listed-first = refl
+
 -- Slips at 40, 41 and 42, in a state that no file comes to: every party knows everything. An LAK (issued); an IDevID and an LDevID with 0B hex;
 -- an IDevID under the LAK; an IDevID (issued); an LAK under the IDevID; an IDevID by the owner desk.
 abbrev slips : List Asked

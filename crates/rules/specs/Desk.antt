@@ -1,16 +1,18 @@
 -- Desk commands (document 01, "Desk commands"): what each asks, and what it changes.
-use mathlib.Core.Bool.{true, cond, not, _&&_}
+use mathlib.Core.Bool.{Bool, true, cond, not, _&&_, _||_}
 use mathlib.Core.List.{List, [], _∷_, _++_}
 use Prim.Native.Nat.{ℕ, zero, suc, _+_}
 use lib.Dec.{eqb, leb}
+use Rattle.rules.specs.declared.Entry.{Entry}
 use Rattle.rules.specs.declared.Family.{Family}
+use Rattle.rules.specs.declared.Subject.{Subject}
 use Rattle.rules.specs.Limits.{device, tpmMaker, oemDesk, partyLimit, depthLimit}
 use Rattle.rules.specs.Refusals.{Test, need}
 use Rattle.rules.specs.Attributes.{sameAttributes, iakAttributes, ekAttributes}
 use Rattle.rules.specs.Term.{hashKind, signatureKind, attestKind, idevidRequestKind, ldevidRequestKind, pairKind, sameSubject, isDeviceSubject, isTpmSubject}
 use Rattle.rules.specs.File.{File, isRole, isKind, hashedTerm, message, signingKey, attestedKey, credentialTerm, credentialNumber, credentialKey, idevidCertificate, idevidKey, ldevidMessage, ldevidCertificate, certifiedKey, signer, leftOf, rightOf, subject, attributes, paired, signsFor, signsForRole, signsForSome}
 use Rattle.rules.specs.Learning.{Knowledge}
-use Rattle.rules.specs.State.{State, numberUsed, credentialOpen, listed, depthOf, learnt, opening, closing, entered}
+use Rattle.rules.specs.State.{State, numberUsed, credentialOpen, listed, depthOf, endOf, learnt, opening, closing, entered}
 
 -- A request is a pair of its body, a 17 or an 18, and a signature over the body's hash.
 unfoldable pub requestBody : File → ℕ → ℕ
@@ -86,6 +88,15 @@ calledFor f desk r key subjectFrom =
     ∷ need 27 (signsFor f desk (signer f r))
     ∷ []
 
+-- the EK at the end of an entry's path
+unfoldable pub endEk : File → List Entry → Entry → ℕ
+endEk f ledger e = certifiedKey f (endOf ledger (e .depth) (e .certificate))
+
+-- "every ledger entry with its Subject has a path that ends at the same EK key" (request 3 of document 02): each of some entries of the ledger
+unfoldable pub allEndAt : File → List Entry → Subject → ℕ → List Entry → Bool
+allEndAt f ledger x ek [] = true
+allEndAt f ledger x ek (e ∷ es) = (not (sameSubject (subject f (e .certificate)) x) || eqb (endEk f ledger e) ek) && allEndAt f ledger x ek es
+
 -- 3F (OEM desk p, returning party q, credential c, certificate r)
 unfoldable pub issueIakTests : File → State → ℕ → ℕ → ℕ → ℕ → List Test
 issueIakTests f s p q c r =
@@ -96,7 +107,7 @@ issueIakTests f s p q c r =
     ∷ need 26 (s .knows q (credentialNumber f c))
     ∷ [])
     ++ (calledFor f p r (iakOf f (s .request c)) (requestBody f (s .request c))
-    ++ (need 28 (not (listed (s .ledger) r)) ∷ []))
+    ++ (need 28 (not (listed (s .ledger) r)) ∷ need 31 (allEndAt f (s .ledger) (subject f r) (ekOf f (s .request c)) (s .ledger)) ∷ []))
 
 unfoldable pub issueIakEffect : File → State → ℕ → ℕ → ℕ → ℕ → State
 issueIakEffect f s p q c r = entered (closing (learnt f s p r) c) (record { certificate = r; parent = ekCertificateOf f (s .request c); depth = 1 })

@@ -1,7 +1,7 @@
 -- The state between commands (document 01, "Run and Path"), and what the set-up leaves.
 use mathlib.Core.Bool.{Bool, false, cond, _||_}
 use mathlib.Core.List.{List, [], _∷_, _++_}
-use Prim.Native.Nat.{ℕ}
+use Prim.Native.Nat.{ℕ, zero, suc}
 use lib.Dec.{eqb}
 use Rattle.rules.specs.declared.Entry.{Entry}
 use Rattle.rules.specs.File.{File, Setup, learns, holds, signsWith, holdsKey}
@@ -56,6 +56,11 @@ depthOf (e ∷ es) c = cond (eqb (e .certificate) c) (e .depth) (depthOf es c)
 unfoldable pub parentOf : List Entry → ℕ → ℕ
 parentOf [] c = 0
 parentOf (e ∷ es) c = cond (eqb (e .certificate) c) (e .parent) (parentOf es c)
+
+-- the certificate that so many steps lead to, each of them to the parent
+unfoldable pub endOf : List Entry → ℕ → ℕ → ℕ
+endOf es zero c = c
+endOf es (suc n) c = endOf es n (parentOf es c)
 
 -- What commands do to the state.
 unfoldable pub learnt : File → State → ℕ → ℕ → State

@@ -1,12 +1,14 @@
 -- Numbers that a loaded file's commands look up in one step, in one list of words with a region for each column.
 use mathlib.Core.Bool.{cond}
 use mathlib.Core.List.{List}
-use Prim.Native.Nat.{ℕ, _+_}
+use mathlib.Core.Path.{_≡_}
+use Prim.Native.Nat.{ℕ, _+_, _%_}
 use lib.Dec.{ltb}
 use lib.ListN.{length, getD}
 use Rattle.rules.specs.Limits.{partyLimit, termLimit}
+use Rattle.rules.specs.State.{put}
 
--- where each region starts; its size is a word for each party or term
+-- where each region starts; its size is a word for each party, term, bucket or place of the ledger
 abbrev pub signerStart : ℕ
 signerStart = 0
 
@@ -16,12 +18,45 @@ halfStart = signerStart + partyLimit
 abbrev pub entryStart : ℕ
 entryStart = halfStart + termLimit
 
+abbrev pub newestStart : ℕ
+newestStart = entryStart + termLimit
+
+-- serial numbers of devices with the same rest share a bucket
+abbrev pub bucketCount : ℕ
+bucketCount = 256
+
+abbrev pub bucketOf : ℕ → ℕ
+bucketOf serial = serial % bucketCount
+
+abbrev pub serialStart : ℕ
+serialStart = newestStart + bucketCount
+
+abbrev pub earlierStart : ℕ
+earlierStart = serialStart + termLimit
+
+abbrev pub ekStart : ℕ
+ekStart = earlierStart + termLimit
+
 abbrev pub tableWords : ℕ
-tableWords = entryStart + termLimit
+tableWords = ekStart + termLimit
 
 -- the words of a region, 0 past its end
 unfoldable pub region : List ℕ → ℕ → ℕ → ℕ → ℕ
 region xs start size i = cond (ltb i size) (getD xs (start + i) 0) 0
+
+-- The ledger's entries by their Subject's serial number, and the EK at the end of each one's path. Of each bucket, the entry that was linked
+-- last; of each place of the ledger, the serial number that its entry is linked by, and the entry that was linked before it in its bucket:
+-- entries are one more than their place, 0 where there is none.
+pub record Boards : Type 0 where
+  pub newest : ℕ → ℕ
+  pub serial : ℕ → ℕ
+  pub earlier : ℕ → ℕ
+  pub ek : ℕ → ℕ
+
+-- no entry is linked
+pub record Unlinked (b : Boards) : Type 0 where
+  pub newest : (i : ℕ) → b .newest i ≡ 0
+  pub earlier : (i : ℕ) → b .earlier i ≡ 0
 
 -- How many words there are. Each party's signing key. The private half of each public key, and the place of each certificate's entry in the ledger: one more than the number, 0 where there is none.
 pub record Tables : Type 0 where
@@ -29,16 +64,31 @@ pub record Tables : Type 0 where
   pub signer : ℕ → ℕ
   pub half : ℕ → ℕ
   pub entry : ℕ → ℕ
+  pub boards : Boards
+
+abbrev pub boardsIn : List ℕ → Boards
+boardsIn xs = record { newest = region xs newestStart bucketCount; serial = region xs serialStart termLimit; earlier = region xs earlierStart termLimit; ek = region xs ekStart termLimit }
 
 abbrev pub tablesIn : List ℕ → Tables
-tablesIn xs = record { words = length xs; signer = region xs signerStart partyLimit; half = region xs halfStart termLimit; entry = region xs entryStart termLimit }
+tablesIn xs = record { words = length xs; signer = region xs signerStart partyLimit; half = region xs halfStart termLimit; entry = region xs entryStart termLimit; boards = boardsIn xs }
 
 -- one column replaced
 abbrev pub withSigner : Tables → (ℕ → ℕ) → Tables
-withSigner v c = record { words = v .words; signer = c; half = v .half; entry = v .entry }
+withSigner v c = record { words = v .words; signer = c; half = v .half; entry = v .entry; boards = v .boards }
 
 abbrev pub withHalf : Tables → (ℕ → ℕ) → Tables
-withHalf v c = record { words = v .words; signer = v .signer; half = c; entry = v .entry }
+withHalf v c = record { words = v .words; signer = v .signer; half = c; entry = v .entry; boards = v .boards }
 
 abbrev pub withEntry : Tables → (ℕ → ℕ) → Tables
-withEntry v c = record { words = v .words; signer = v .signer; half = v .half; entry = c }
+withEntry v c = record { words = v .words; signer = v .signer; half = v .half; entry = c; boards = v .boards }
+
+abbrev pub withBoards : Tables → Boards → Tables
+withBoards v b = record { words = v .words; signer = v .signer; half = v .half; entry = v .entry; boards = b }
+
+-- the EK of the entry at a place noted
+abbrev pub withEk : Boards → (ℕ → ℕ) → Boards
+withEk b c = record { newest = b .newest; serial = b .serial; earlier = b .earlier; ek = c }
+
+-- the entry at a place linked by a serial number, before those of its bucket
+abbrev pub linked : Boards → ℕ → ℕ → Boards
+linked b i serial = record { newest = put (b .newest) (bucketOf serial) (i + 1); serial = put (b .serial) i serial; earlier = put (b .earlier) i (b .newest (bucketOf serial)); ek = b .ek }

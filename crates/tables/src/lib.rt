@@ -4,7 +4,7 @@ ghost use Prim.Native.Nat.{_<_};
 ghost use lib.ListN.{length};
 ghost use Rattle.rules.specs.Limits.{partyLimit, termLimit};
 ghost use Rattle.rules.specs.State.{put};
-ghost use Rattle.tables.specs.Regions.{tableWords, tablesIn, withSigner, withHalf, withEntry};
+ghost use Rattle.tables.specs.Regions.{bucketCount, tableWords, tablesIn, withSigner, withHalf, withEntry, withBoards, withEk, linked};
 
 // Where each region starts, and how many words there are in all.
 pub const SIGNERS: usize = 0;
@@ -13,7 +13,18 @@ pub const HALVES: usize = SIGNERS + rules::PARTY_LIMIT;
 
 pub const ENTRIES: usize = HALVES + rules::TERM_LIMIT;
 
-pub const WORDS: usize = ENTRIES + rules::TERM_LIMIT;
+pub const NEWEST: usize = ENTRIES + rules::TERM_LIMIT;
+
+// Serial numbers with the same low byte share a bucket.
+pub const BUCKETS: usize = 256;
+
+pub const SERIALS: usize = NEWEST + BUCKETS;
+
+pub const EARLIER: usize = SERIALS + rules::TERM_LIMIT;
+
+pub const EKS: usize = EARLIER + rules::TERM_LIMIT;
+
+pub const WORDS: usize = EKS + rules::TERM_LIMIT;
 
 // The signing key of a party.
 pub fn signer_of(tables: &[u16; WORDS], party: usize) -> u16
@@ -58,4 +69,55 @@ pub fn note_entry(tables: &mut [u16; WORDS], t: usize, entry: u16)
     ensures { λ _. ⌜ tablesIn (now (tables .exit)) ≡ withEntry (tablesIn (now (tables .entry))) (put (tablesIn (now (tables .entry)) .entry) t entry) ⌝ }
 {
     tables[ENTRIES + t] = entry;
+}
+
+// One more than the place of the entry that was linked last in a bucket, or 0.
+pub fn newest_of(tables: &[u16; WORDS], bucket: usize) -> u16
+    requires { ⌜ bucket < bucketCount ⌝ }
+    ensures { λ r. ⌜ r ≡ tablesIn (now (tables .entry)) .boards .newest bucket ⌝ }
+{
+    tables[NEWEST + bucket]
+}
+
+// The serial number that the entry at a place is linked by.
+pub fn serial_of(tables: &[u16; WORDS], place: usize) -> u16
+    requires { ⌜ place < termLimit ⌝ }
+    ensures { λ r. ⌜ r ≡ tablesIn (now (tables .entry)) .boards .serial place ⌝ }
+{
+    tables[SERIALS + place]
+}
+
+// One more than the place of the entry that was linked before it in its bucket, or 0.
+pub fn earlier_of(tables: &[u16; WORDS], place: usize) -> u16
+    requires { ⌜ place < termLimit ⌝ }
+    ensures { λ r. ⌜ r ≡ tablesIn (now (tables .entry)) .boards .earlier place ⌝ }
+{
+    tables[EARLIER + place]
+}
+
+// The EK at the end of the path of the entry at a place.
+pub fn ek_of(tables: &[u16; WORDS], place: usize) -> u16
+    requires { ⌜ place < termLimit ⌝ }
+    ensures { λ r. ⌜ r ≡ tablesIn (now (tables .entry)) .boards .ek place ⌝ }
+{
+    tables[EKS + place]
+}
+
+pub fn note_ek(tables: &mut [u16; WORDS], place: usize, ek: u16)
+    requires { ⌜ (length (now tables) ≡ tableWords) × (place < termLimit) ⌝ }
+    ensures { λ _. ⌜ tablesIn (now (tables .exit)) ≡ withBoards (tablesIn (now (tables .entry))) (withEk (tablesIn (now (tables .entry)) .boards) (put (tablesIn (now (tables .entry)) .boards .ek) place ek)) ⌝ }
+{
+    tables[EKS + place] = ek;
+}
+
+// The entry at a place is linked by a serial number, before those of its bucket.
+pub fn link(tables: &mut [u16; WORDS], place: usize, serial: u16)
+    requires { ⌜ (length (now tables) ≡ tableWords) × (place < termLimit) ⌝ }
+    ensures { λ _. ⌜ tablesIn (now (tables .exit)) ≡ withBoards (tablesIn (now (tables .entry))) (linked (tablesIn (now (tables .entry)) .boards) place serial) ⌝ }
+{
+    let bucket = serial as usize % BUCKETS;
+    let old = newest_of(tables, bucket);
+    tables[SERIALS + place] = serial;
+    tables[EARLIER + place] = old;
+    tables[NEWEST + bucket] = (place + 1) as u16;
 }

@@ -1,6 +1,6 @@
--- Tests that pass: both, one of two, and not.
+-- Tests that pass: both, one of two, and not; two tests that pass together.
 -- Assumes nothing.
-use mathlib.Core.Path.{_≡_, refl}
+use mathlib.Core.Path.{_≡_, refl, sym}
 use mathlib.Core.Logic.{_⊎_, inl, inr}
 use mathlib.Core.Bool.{Bool, true, false, not, _&&_, _||_, false≢true}
 
@@ -27,3 +27,9 @@ or-step false h e = h e
 pub not-both : (a : Bool) → not a ≡ true → a ≡ true → ⊥
 not-both true h e = false≢true h
 not-both false h e = false≢true e
+
+-- the same truth
+pub both-ways : (a b : Bool) → (a ≡ true → b ≡ true) → (b ≡ true → a ≡ true) → a ≡ b
+both-ways true b h k = sym (h refl)
+both-ways false true h k = k refl
+both-ways false false h k = refl

@@ -15,12 +15,15 @@ use Rattle.rules.specs.declared.Subject.the-variants.{Device}
 use Rattle.rules.specs.Limits.{device}
 use Rattle.rules.specs.Attributes.{has, fixedTpm}
 use Rattle.rules.specs.File.{File, holds, roleOf, subject, attributes, certifiedKey}
+use Rattle.rules.specs.State.{endOf}
+use Rattle.rules.specs.Desk.{endEk}
 use Rattle.rules.specs.Run.{reached}
-use Rattle.theorems.specs.Residency.{Known, Held, DeskSigned, EntryAt, Listed, Endorsement, Path, ends, step, Falls, toLast, toLower, All, AllButLast, Sound, Resident, Demand3}
+use Rattle.theorems.specs.Residency.{Known, Held, DeskSigned, EntryAt, Listed, Endorsement, Path, ends, step, Falls, toLast, toLower, All, AllButLast, Sound, OneTpm, Resident, Demand3}
 use Rattle.theorems.proofs.Loading.{Checked, checked}
 use Rattle.theorems.proofs.Terms.{pair-kinds, pair-attributes, pair-term, private-declared}
 use Rattle.theorems.proofs.FamilyRows.{family-row}
 use Rattle.theorems.proofs.Ledgers.{listed-found}
+use Rattle.theorems.proofs.Ends.{end-one, end-step}
 use Rattle.theorems.proofs.Invariant.{DeviceHolds, EntryGood, Invariant}
 use Rattle.theorems.proofs.Reaching.{reached-invariant}
 use Rattle.theorems.proofs.History.{bits-known, known-bits, entry-issued}
@@ -59,11 +62,17 @@ module _ (f : File) (ck : Checked f) (n : ℕ) where
     serial : ℕ
     subjectIs : subject f (e .certificate) ≡ Device serial
     subjectMore : AllButLast (λ c. subject f c ≡ Device serial) (e .parent ∷ more)
+    endorsed : Endorsement f (endOf (reached f n .ledger) (e .depth) (e .certificate))
+    ekHeld : Held f tpm (endEk f (reached f n .ledger) e)
+    ekFixed : has (attributes f (endEk f (reached f n .ledger) e)) fixedTpm ≡ true
 
   -- one step to an endorsement certificate
   chain-ends : (i : ℕ) (e : Entry) → EntryAt f n i e → e .depth ≡ 1 → Endorsement f (e .parent) → (m : ℕ) → subject f (e .certificate) ≡ Device m → Chain i e
+  unfolding endEk
   chain-ends i e h d x m u =
       let g = good i e h .held in
+      let w = good i e h .ofFamily in
+      let z = end-one (reached f n .ledger) (inv .once) i e h d in
       record {
         more = [];
         isPath = step (is-listed i e h) (entry-issued f ck n i e h .parent) (ends x);
@@ -76,10 +85,16 @@ module _ (f : File) (ck : Checked f) (n : ℕ) where
         serial = m;
         subjectIs = u;
         subjectMore = tt;
+        endorsed = subst⁻¹ (Endorsement f) z x;
+        ekHeld = subst⁻¹ (λ (t : ℕ). Held f (g .tpm) (certifiedKey f t)) z (g .second);
+        ekFixed =
+            subst⁻¹ (λ (t : ℕ). has (attributes f (certifiedKey f t)) fixedTpm ≡ true) z
+            (subst⁻¹ (λ (a : Attributes). has a fixedTpm ≡ true) (w .parentAttributes) (family-row _ (w .row) .parentFixed));
       }
 
   -- one step to a certificate that is listed earlier
   chain-more : (i j : ℕ) (e g : Entry) → EntryAt f n i e → EntryAt f n j g → j < i → g .certificate ≡ e .parent → e .depth ≡ suc (g .depth) → subject f (e .certificate) ≡ subject f (e .parent) → Chain j g → Chain i e
+  unfolding endEk
   chain-more i j e g h k l c d u r = record {
     more = g .parent ∷ r .more;
     isPath = step (is-listed i e h) (entry-issued f ck n i e h .parent) (subst (λ (x : ℕ). Path f n x (x ∷ g .parent ∷ r .more)) c (r .isPath));
@@ -92,8 +107,14 @@ module _ (f : File) (ck : Checked f) (n : ℕ) where
     serial = r .serial;
     subjectIs = u ∙ parentSubject;
     subjectMore = (parentSubject, r .subjectMore);
+    endorsed = subst⁻¹ (Endorsement f) end (r .endorsed);
+    ekHeld = subst⁻¹ (λ (t : ℕ). Held f (r .tpm) (certifiedKey f t)) end (r .ekHeld);
+    ekFixed = subst⁻¹ (λ (t : ℕ). has (attributes f (certifiedKey f t)) fixedTpm ≡ true) end (r .ekFixed);
   }
     where
+      end : endOf (reached f n .ledger) (e .depth) (e .certificate) ≡ endOf (reached f n .ledger) (g .depth) (g .certificate)
+      end = end-step (reached f n .ledger) (inv .once) i e g h c d
+
       x : DeviceHolds f (certifiedKey f (e .certificate)) (certifiedKey f (e .parent))
       x = good i e h .held
 
@@ -120,11 +141,14 @@ module _ (f : File) (ck : Checked f) (n : ℕ) where
           let l′ = w .2 in
           chain-more i (w .0) e (w .1) h (w .3) (w .2) (w .4) (w .5) (w .6) (below (w .0) (omega arith) (w .1) (w .3))
 
+  the-chain : (i : ℕ) (e : Entry) → EntryAt f n i e → Chain i e
+  the-chain i e h = chain (suc i) i (le-refl (suc i)) e h
+
   sound : (i : ℕ) (e : Entry) → EntryAt f n i e → Sound f n i e
   sound i e h =
       let g = good i e h in
       let x = entry-issued f ck n i e h in
-      let c = chain (suc i) i (le-refl (suc i)) e h in
+      let c = the-chain i e h in
       record {
         family = x .family;
         ofFamily = x .ofFamily;
@@ -142,6 +166,40 @@ module _ (f : File) (ck : Checked f) (n : ℕ) where
         serial = c .serial;
         subjects = (c .subjectIs, c .subjectMore);
       }
+
+  -- a path ends at an endorsement certificate
+  pub ends-endorsed : (i : ℕ) (e : Entry) → EntryAt f n i e → Endorsement f (endOf (reached f n .ledger) (e .depth) (e .certificate))
+  ends-endorsed i e h = the-chain i e h .endorsed
+
+  -- a path begins with its certificate
+  begins : (t : ℕ) (path : List ℕ) → Path f n t path → (tpm : ℕ) → All (λ c. Held f tpm (certifiedKey f c)) path → Held f tpm (certifiedKey f t)
+  begins t path (ends x) tpm h = h .0
+  begins t path (step l p x) tpm h = h .0
+
+  -- whatever path is shown for an entry, the TPM that holds its keys holds the EK
+  tpm-one : (i : ℕ) (e : Entry) (h : EntryAt f n i e) (a : Sound f n i e) → a .tpm ≡ the-chain i e h .tpm
+  tpm-one i e h a =
+      held-once (a .tpm) (the-chain i e h .tpm) (certifiedKey f (e .certificate)) (good i e h .fixed) (begins (e .certificate) (a .path) (a .isPath) (a .tpm) (a .held)) (the-chain i e h .held)
+
+  one-board : (i j : ℕ) (e g : Entry) → EntryAt f n i e → EntryAt f n j g → subject f (e .certificate) ≡ subject f (g .certificate) → (a : Sound f n i e) (b : Sound f n j g) → OneTpm f (a .path) (b .path)
+  one-board i j e g h k s a b = record {
+    tpm = a .tpm;
+    isDevice = a .isDevice;
+    held = a .held;
+    otherHeld = subst⁻¹ (λ (t : ℕ). All (λ c. Held f t (certifiedKey f c)) (b .path)) same (b .held);
+  }
+    where
+      c : Chain i e
+      c = the-chain i e h
+
+      d : Chain j g
+      d = the-chain j g k
+
+      same : a .tpm ≡ b .tpm
+      same =
+          tpm-one i e h a
+          ∙ held-once (c .tpm) (d .tpm) (endEk f (reached f n .ledger) e) (c .ekFixed) (c .ekHeld) (subst⁻¹ (Held f (d .tpm)) (inv .oneEk i j e g h k s) (d .ekHeld))
+          ∙ sym (tpm-one j g k b)
 
   listed-known : (t : ℕ) → Listed f n t → DeskSigned f t × ((p : ℕ) × (p < length (f .roles)) × Known f n p t)
   listed-known t l =
@@ -167,6 +225,7 @@ module _ (f : File) (ck : Checked f) (n : ℕ) where
     knownListed = known-listed;
     once = inv .once;
     sound = sound;
+    oneBoard = one-board;
     noPrivateKey = λ p t k. inv .good p t (known-bits f ck n p t k) .notPrivate;
   }
 

@@ -3,12 +3,13 @@
 use mathlib.Core.Path.{_≡_, refl, sym, ap, subst, subst⁻¹, _∙_}
 use mathlib.Core.Logic.{_⊎_, inl, inr, ⊎-elim}
 use mathlib.Core.Bool.{true}
-use mathlib.Core.List.{[], _∷_, List·Memᴰ, List·Memᴰ·head, List·Memᴰ·tail}
+use mathlib.Core.List.{[], _∷_, _++_, List·Memᴰ, List·Memᴰ·head, List·Memᴰ·tail}
+use mathlib.Core.Option.{some}
 use Prim.Native.Nat.{ℕ, _+_, _<_}
 use native.Mathlib.Omega.{arith}
 use native.Mathlib.Decide.{ℕ-discrete}
 use lib.Dec.{eqb}
-use lib.ListN.{length}
+use lib.ListN.{length, getElem?}
 use borrow.Author.Tests.{eq-eqb, ne-eqb, eqb-true, leb-true}
 use Rattle.rules.specs.declared.Attributes.{Attributes}
 use Rattle.rules.specs.declared.Entry.{Entry}
@@ -20,7 +21,7 @@ use Rattle.rules.specs.Families.{iakFamily}
 use Rattle.rules.specs.Term.{signatureKind, attestKind, credentialKind, numberKind, idevidRequestKind, ldevidRequestKind, pairKind}
 use Rattle.rules.specs.File.{File, signsWith, challenge, issueIak, issue, roleOf, kind, attributes, subject, message, signingKey, certifiedKey, signer, credentialNumber, idevidCertificate, idevidKey, ldevidMessage, ldevidCertificate, leftOf, paired, signsForSome}
 use Rattle.rules.specs.State.{State, numberUsed, credentialOpen, credentialClosed, listed, depthOf, put, learnt, opening, closing, entered}
-use Rattle.rules.specs.Desk.{requestBody, formTests, proofTests, numberTests, iakOf, ekCertificateOf, ekOf, challengeTests, challengeEffect, calledFor, issueIakTests, issueIakEffect, attestSignatureOf, newKeyOf, parentCertificateOf, issueTests, issueEffect}
+use Rattle.rules.specs.Desk.{requestBody, formTests, proofTests, numberTests, iakOf, ekCertificateOf, ekOf, challengeTests, challengeEffect, calledFor, endEk, issueIakTests, issueIakEffect, attestSignatureOf, newKeyOf, parentCertificateOf, issueTests, issueEffect}
 use Rattle.rules.specs.Run.{testsOf, effectOf, outcome}
 use Rattle.theorems.specs.Residency.{Inside, Held, Endorsement, OfFamily}
 use Rattle.theorems.proofs.Passing.{Passed, passed}
@@ -30,8 +31,9 @@ use Rattle.theorems.proofs.Loading.{Checked, Wellformed}
 use Rattle.theorems.proofs.Terms.{isKind-kind, isRole-role, same-attributes, same-subject, device-subject, pair-kinds, pair-attributes, parts-credential, parts-idevidRequest, parts-ldevidRequest, signs-given, signs-role-given}
 use Rattle.theorems.proofs.FamilyRows.{RequestRow, request-row}
 use Rattle.theorems.proofs.Ledgers.{Listing, at-kept, at-below, listed-kept, listed-last, listed-found}
+use Rattle.theorems.proofs.Ends.{new-one, new-below, ends-each}
 use Rattle.theorems.proofs.Knowers.{sole}
-use Rattle.theorems.proofs.Invariant.{DeviceHolds, KnownToDevice, Attested, Secret, Open, EntryGood, Invariant, Fresh, Gained, Step}
+use Rattle.theorems.proofs.Invariant.{DeviceHolds, KnownToDevice, Attested, Secret, Open, EntryGood, Invariant, descends, Fresh, Gained, Step}
 use Rattle.theorems.proofs.Requests.{left-known, parent-listed}
 use Rattle.theorems.proofs.DeviceSteps.{differ, credential-good, certificate-fresh, signer-alone}
 use Rattle.theorems.proofs.Booleans.{not-both}
@@ -287,13 +289,25 @@ module _ (f : File) (ck : Checked f) (s : State) (inv : Invariant f s) where
       held = record { tpm = met .tpm; isDevice = met .isDevice; first = subst⁻¹ (Held f (met .tpm)) iakCertified (met .first); second = met .second };
     }
 
+    iakNew : listed (s .ledger) r ≡ true → ⊥
+    unfolding issueIakTests calledFor
+    iakNew h = not-both (listed (s .ledger) r) (iakTests .1 .1 .1 .1 .1 .1 .1 .1 .0) h
+
+    -- the new entry's path ends at the EK, as do those of its Subject
+    iakEk : (i : ℕ) (x : Entry) → getElem? (s .ledger) i ≡ some x → subject f (x .certificate) ≡ subject f r → endEk f (s .ledger) x ≡ endEk f (s .ledger ++ (iakEntry ∷ [])) iakEntry
+    unfolding issueIakTests calledFor endEk ekOf
+    iakEk i x h q =
+        ends-each f (s .ledger) (subject f r) (ekOf f (s .request c)) (s .ledger) (iakTests .1 .1 .1 .1 .1 .1 .1 .1 .1 .0) i x h q
+        ∙ ap (certifiedKey f) (sym (new-one (s .ledger) iakEntry iakNew refl))
+
     iakGained : Gained f s iakState
     unfolding iakState issueIakEffect entered closing learnt issueIakTests calledFor
     iakGained = record {
       entry = iakEntry;
       appended = refl;
-      new = λ h. not-both (listed (s .ledger) r) (iakTests .1 .1 .1 .1 .1 .1 .1 .1 .0) h;
+      new = iakNew;
       entryGood = iakGood;
+      sameEk = iakEk;
     }
 
     iakOpened : (x : ℕ) → kind f x ≡ credentialKind → iakState .mark x ≡ credentialOpen
@@ -452,13 +466,30 @@ module _ (f : File) (ck : Checked f) (s : State) (inv : Invariant f s) where
       held = newHeld;
     }
 
+    newNew : listed (s .ledger) r ≡ true → ⊥
+    unfolding issueTests formTests proofTests calledFor
+    newNew h = not-both (listed (s .ledger) r) (issueTested .1 .1 .1 .1 .1 .1 .1 .1 .1 .1 .1 .1 .1 .1 .1 .1 .1 .0) h
+
+    -- the new entry's path ends where its parent's does
+    newEnd : endEk f (s .ledger) (parentListing .entry) ≡ endEk f (s .ledger ++ (newEntry ∷ [])) newEntry
+    unfolding endEk
+    newEnd =
+        let w = parentListing in
+        ap (certifiedKey f) (sym (new-below (s .ledger) newEntry newNew (inv .once) (descends f s inv) (w .place) (w .entry) (w .here) (w .same) (let d = w .depth in omega arith)))
+
+    newEk : (i : ℕ) (x : Entry) → getElem? (s .ledger) i ≡ some x → subject f (x .certificate) ≡ subject f r → endEk f (s .ledger) x ≡ endEk f (s .ledger ++ (newEntry ∷ [])) newEntry
+    newEk i x h q =
+        inv .oneEk i (parentListing .place) x (parentListing .entry) h (parentListing .here) (q ∙ newSubject ∙ ap (subject f) (sym (parentListing .same)))
+        ∙ newEnd
+
     newGained : Gained f s issuedState
     unfolding issuedState issueEffect entered learnt issueTests formTests proofTests calledFor
     newGained = record {
       entry = newEntry;
       appended = refl;
-      new = λ h. not-both (listed (s .ledger) r) (issueTested .1 .1 .1 .1 .1 .1 .1 .1 .1 .1 .1 .1 .1 .1 .1 .1 .1 .0) h;
+      new = newNew;
       entryGood = newGood;
+      sameEk = newEk;
     }
 
     pub issue-step : Step f s (effectOf f s (issue family p q r))

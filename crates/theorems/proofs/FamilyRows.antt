@@ -55,9 +55,10 @@ pub no-child : (x : Family) → barren x ≡ true → (y : Family) → List·Mem
 unfolding sameAttributes
 no-child x b y m e = not-both _ (every-row (λ y. not (sameAttributes (y .parent) (x .key))) families b y m) (eq-eqb _ _ (ap (λ (a : Attributes). a .bits) e))
 
--- what a family has: FixedTPM keys, and desks that are no TPM makers
+-- what a family has: FixedTPM keys, parents with FixedTPM keys, and desks that are no TPM makers
 pub record FamilyRow (x : Family) : Type 0 where
   pub fixed : has (x .key) fixedTpm ≡ true
+  pub parentFixed : has (x .parent) fixedTpm ≡ true
   pub desk : x .desk ≡ tpmMaker → ⊥
 
 -- and one whose certificates are issued on a request: parents with Restricted keys, which no TPM maker signed
@@ -68,7 +69,7 @@ pub record RequestRow (x : Family) : Type 0 where
   pub noMaker : x .signers .maker ≡ true → ⊥
 
 abbrev familyTest : Family → Bool
-familyTest x = has (x .key) fixedTpm && not (eqb (x .desk) tpmMaker)
+familyTest x = has (x .key) fixedTpm && (has (x .parent) fixedTpm && not (eqb (x .desk) tpmMaker))
 
 abbrev requestTest : Family → Bool
 requestTest x = has (x .parent) restricted && not (x .signers .maker)
@@ -84,7 +85,8 @@ requests-tested = refl
 pub family-row : (x : Family) → List·Memᴰ x families → FamilyRow x
 family-row x m =
     let w = and-true _ _ (every-row familyTest families families-tested x m) in
-    record { fixed = w .0; desk = λ e. not-both _ (w .1) (eq-eqb _ _ e) }
+    let v = and-true _ _ (w .1) in
+    record { fixed = w .0; parentFixed = v .0; desk = λ e. not-both _ (v .1) (eq-eqb _ _ e) }
 
 pub request-row : (x : Family) → List·Memᴰ x requestFamilies → RequestRow x
 request-row x m =

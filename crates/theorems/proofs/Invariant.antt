@@ -17,11 +17,12 @@ use Rattle.rules.specs.Term.{privateKeyKind, hashKind, signatureKind, attestKin
 use Rattle.rules.specs.File.{File, holds, signsWith, roleOf, kind, subject, attributes, message, signingKey, certifiedKey, signer, hashedTerm, attestedKey, credentialTerm, credentialNumber, credentialKey, signsForRole}
 use Rattle.rules.specs.Learning.{Knowledge, learn}
 use Rattle.rules.specs.State.{State, numberUsed, credentialOpen, listed}
-use Rattle.rules.specs.Desk.{requestBody, iakOf, ekOf, ekCertificateOf}
+use Rattle.rules.specs.Desk.{requestBody, iakOf, ekOf, ekCertificateOf, endEk}
 use Rattle.theorems.specs.Residency.{Inside, Held, Endorsement, OfFamily}
 use Rattle.theorems.proofs.Learning.{Closed, learn-only, learn-closed}
 use Rattle.theorems.proofs.Loading.{Checked}
 use Rattle.theorems.proofs.Ledgers.{at-kept, at-appended, at-listed}
+use Rattle.theorems.proofs.Ends.{Descends, OneEk, end-kept}
 
 -- one device's TPM holds the private halves of two keys
 pub record DeviceHolds (f : File) (a b : ℕ) : Type 0 where
@@ -93,6 +94,11 @@ pub record Invariant (f : File) (s : State) : Type 0 where
   pub opened : (c : ℕ) → kind f c ≡ credentialKind → s .mark c ≡ credentialOpen → Open f s c (s .desk c) (s .request c)
   pub entries : (i : ℕ) (e : Entry) → getElem? (s .ledger) i ≡ some e → EntryGood f s i e
   pub once : (i j : ℕ) (e g : Entry) → getElem? (s .ledger) i ≡ some e → getElem? (s .ledger) j ≡ some g → e .certificate ≡ g .certificate → i ≡ j
+  pub oneEk : OneEk f (s .ledger)
+
+-- parents stand earlier
+pub descends : (f : File) (s : State) → Invariant f s → Descends (s .ledger)
+descends f s inv i e h = ⊎-elim (λ w. inl (w .0)) (λ w. inr (w .0, w .1, w .2, w .3, w .4, w .5)) (inv .entries i e h .earlier)
 
 -- a device activated a credential with the number u
 pub record Activated (f : File) (s : State) (u : ℕ) : Type 0 where
@@ -126,6 +132,7 @@ pub record Gained (f : File) (s s′ : State) : Type 0 where
   pub appended : s′ .ledger ≡ s .ledger ++ (entry ∷ [])
   pub new : listed (s .ledger) (entry .certificate) ≡ true → ⊥
   pub entryGood : EntryGood f s′ (length (s .ledger)) entry
+  pub sameEk : (i : ℕ) (e : Entry) → getElem? (s .ledger) i ≡ some e → subject f (e .certificate) ≡ subject f (entry .certificate) → endEk f (s .ledger) e ≡ endEk f (s′ .ledger) entry
 
 -- a step from one state to the next
 pub record Step (f : File) (s s′ : State) : Type 0 where
@@ -279,6 +286,34 @@ module _ (f : File) (ck : Checked f) (s s′ : State) (inv : Invariant f s) (st 
       both g (inr a) (inl b) = absurd (gained-new g j x e b (a .1) (sym c))
       both g (inr a) (inr b) = a .0 ∙ sym (b .0)
 
+  -- an entry's path ends where it did
+  ek-kept : (g : Gained f s s′) (i : ℕ) (e : Entry) → getElem? (s .ledger) i ≡ some e → endEk f (s′ .ledger) e ≡ endEk f (s .ledger) e
+  unfolding endEk
+  ek-kept g i e h =
+      ap (λ (l : List Entry). endEk f l e) (g .appended)
+      ∙ ap (certifiedKey f) (end-kept (s .ledger) (inv .once) (descends f s inv) (g .entry ∷ []) i e h)
+
+  one-ek-next : OneEk f (s′ .ledger)
+  one-ek-next i j e x h k c =
+      ⊎-elim (λ q. subst⁻¹ (OneEk f) q (inv .oneEk) i j e x h k c)
+      (λ g. both g
+      (at-appended (s .ledger) (g .entry) i e (subst (λ (l : List Entry). getElem? l i ≡ some e) (g .appended) h))
+      (at-appended (s .ledger) (g .entry) j x (subst (λ (l : List Entry). getElem? l j ≡ some x) (g .appended) k)))
+      (st .ledger)
+    where
+      -- an earlier entry and the new one
+      new : (g : Gained f s s′) (i : ℕ) (e x : Entry) → getElem? (s .ledger) i ≡ some e → x ≡ g .entry → subject f (e .certificate) ≡ subject f (x .certificate) → endEk f (s′ .ledger) e ≡ endEk f (s′ .ledger) x
+      new g i e x a q c =
+          ek-kept g i e a ∙ g .sameEk i e a (c ∙ ap (λ (y : Entry). subject f (y .certificate)) q) ∙ ap (endEk f (s′ .ledger)) (sym q)
+
+      both : (g : Gained f s s′)
+          → (getElem? (s .ledger) i ≡ some e) ⊎ ((i ≡ length (s .ledger)) × (e ≡ g .entry))
+          → (getElem? (s .ledger) j ≡ some x) ⊎ ((j ≡ length (s .ledger)) × (x ≡ g .entry)) → endEk f (s′ .ledger) e ≡ endEk f (s′ .ledger) x
+      both g (inl a) (inl b) = ek-kept g i e a ∙ inv .oneEk i j e x a b c ∙ sym (ek-kept g j x b)
+      both g (inl a) (inr b) = new g i e x a (b .1) c
+      both g (inr a) (inl b) = sym (new g j x e b (a .1) (sym c))
+      both g (inr a) (inr b) = ap (endEk f (s′ .ledger)) (a .1 ∙ sym (b .1))
+
   pub invariant-next : Invariant f s′
   invariant-next = record {
     closed = subst⁻¹ (Closed f) (st .learnt) (learn-closed f (ck .lower) (st .learner) (st .lesson) (s .knows) (inv .closed));
@@ -288,4 +323,5 @@ module _ (f : File) (ck : Checked f) (s s′ : State) (inv : Invariant f s) (st 
     opened = open-next;
     entries = entries-next;
     once = once-next;
+    oneEk = one-ek-next;
   }

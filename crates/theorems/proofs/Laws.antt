@@ -21,6 +21,7 @@ use Rattle.rules.specs.State.{State, start}
 use Rattle.rules.specs.Run.{testsOf, outcome, after, outcomes, firstCommands, reached, outcomesOf, zeros, others, accepted, refusals, issued}
 use Rattle.theorems.specs.Residency.{Inside}
 use Rattle.theorems.proofs.Learning.{Closed, learn-kept, learn-inside, learn-only}
+use Rattle.theorems.proofs.Booleans.{both-ways}
 use Rattle.theorems.proofs.Passing.{among, found-among}
 use Rattle.theorems.proofs.Loading.{Checked, checked}
 use Rattle.theorems.proofs.Terms.{declared, holds-given}
@@ -74,12 +75,6 @@ outcome-each f (c ∷ cs) s = ap suc (outcome-each f cs (after f s c))
 pub totals : (f : File) (n : ℕ) → (accepted f n + refusals f n ≡ length (outcomesOf f n)) × (length (outcomesOf f n) ≡ length (firstCommands f n))
 unfolding accepted refusals outcomesOf
 totals f n = (counted (outcomesOf f n), outcome-each f (firstCommands f n) (start f))
-
--- the same truth
-both-ways : (a b : Bool) → (a ≡ true → b ≡ true) → (b ≡ true → a ≡ true) → a ≡ b
-both-ways true b h k = sym (h refl)
-both-ways false true h k = k refl
-both-ways false false h k = refl
 
 module _ (bytes : List ℕ) (f : File) (loads : load bytes ≡ loaded f) where
   ck : Checked f

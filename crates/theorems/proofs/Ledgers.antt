@@ -1,8 +1,8 @@
--- Laws of lists of ledger entries: places after an entry is appended, and what listed and depthOf find.
+-- Laws of lists of ledger entries: places after an entry is appended, and what listed, depthOf and parentOf find.
 -- Assumes nothing.
 use mathlib.Core.Path.{_≡_, refl, ap}
 use mathlib.Core.Logic.{_⊎_, inl, inr, ⊎-elim}
-use mathlib.Core.Bool.{Bool, true, false, false≢true, _||_}
+use mathlib.Core.Bool.{Bool, true, false, false≢true, cond, _||_}
 use mathlib.Core.List.{List, [], _∷_, _++_}
 use mathlib.Core.Option.{some}
 use Prim.Native.Nat.{ℕ, zero, suc, _<_}
@@ -11,7 +11,7 @@ use lib.Dec.{eqb}
 use lib.ListN.{length, getD, getElem?}
 use borrow.Author.Tests.{eq-eqb, eqb-true}
 use Rattle.rules.specs.declared.Entry.{Entry}
-use Rattle.rules.specs.State.{listed, depthOf}
+use Rattle.rules.specs.State.{listed, depthOf, parentOf}
 use Rattle.theorems.proofs.Booleans.{or-left, or-right, or-step}
 
 module _ {A : Type 0} where
@@ -67,14 +67,38 @@ pub record Listing (xs : List Entry) (c : ℕ) : Type 0 where
   pub here : getElem? xs place ≡ some entry
   pub same : entry .certificate ≡ c
   pub depth : entry .depth ≡ depthOf xs c
+  pub parent : entry .parent ≡ parentOf xs c
 
 pub listed-found : (xs : List Entry) (c : ℕ) → listed xs c ≡ true → Listing xs c
-unfolding listed depthOf
+unfolding listed depthOf parentOf
 listed-found [] c e = absurd (false≢true e)
 listed-found (x ∷ xs) c e = go (eqb (x .certificate) c) refl e (listed-found xs c)
   where
     go : (b : Bool) → eqb (x .certificate) c ≡ b → (b || listed xs c) ≡ true → (listed xs c ≡ true → Listing xs c) → Listing (x ∷ xs) c
-    go true h e more = record { place = 0; entry = x; here = refl; same = eqb-true (x .certificate) c h; depth = rw h }
+    go true h e more = record { place = 0; entry = x; here = refl; same = eqb-true (x .certificate) c h; depth = rw h; parent = rw h }
     go false h e more =
         let m = more e in
-        record { place = suc (m .place); entry = m .entry; here = m .here; same = m .same; depth = rw h (m .depth) }
+        record { place = suc (m .place); entry = m .entry; here = m .here; same = m .same; depth = rw h (m .depth); parent = rw h (m .parent) }
+
+-- a listed certificate keeps its parent
+pub parent-kept : (xs ys : List Entry) (c : ℕ) → listed xs c ≡ true → parentOf (xs ++ ys) c ≡ parentOf xs c
+unfolding listed parentOf
+parent-kept [] ys c e = absurd (false≢true e)
+parent-kept (x ∷ xs) ys c e = go (eqb (x .certificate) c) e (parent-kept xs ys c)
+  where
+    go : (b : Bool) → (b || listed xs c) ≡ true → (listed xs c ≡ true → parentOf (xs ++ ys) c ≡ parentOf xs c)
+        → cond b (x .parent) (parentOf (xs ++ ys) c) ≡ cond b (x .parent) (parentOf xs c)
+    go true e more = refl
+    go false e more = more e
+
+-- the last entry's, where its certificate was not listed before
+pub parent-last : (xs : List Entry) (e : Entry) → (listed xs (e .certificate) ≡ true → ⊥) → parentOf (xs ++ (e ∷ [])) (e .certificate) ≡ e .parent
+unfolding listed parentOf
+parent-last [] e n = rw (eq-eqb (e .certificate) (e .certificate) refl)
+parent-last (x ∷ xs) e n = go (eqb (x .certificate) (e .certificate)) n (parent-last xs e)
+  where
+    go : (b : Bool) → ((b || listed xs (e .certificate)) ≡ true → ⊥)
+        → ((listed xs (e .certificate) ≡ true → ⊥) → parentOf (xs ++ (e ∷ [])) (e .certificate) ≡ e .parent)
+        → cond b (x .parent) (parentOf (xs ++ (e ∷ [])) (e .certificate)) ≡ e .parent
+    go true n more = absurd (n refl)
+    go false n more = more n

@@ -9,6 +9,7 @@ pub mod Terms
 pub mod Passing
 pub mod Running
 pub mod Ledgers
+pub mod Ends
 pub mod Invariant
 pub mod Inside
 pub mod DeviceSteps
@@ -20,6 +21,7 @@ pub mod Pigeonhole
 pub mod History
 pub mod Demand3
 pub mod FamilyLaws
+pub mod SubjectLaws
 pub mod Laws
 pub mod Refusal22
 pub mod Pieces

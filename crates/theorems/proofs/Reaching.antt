@@ -55,6 +55,7 @@ module _ (f : File) (ck : Checked f) where
     opened = λ c k h. absurd (omega arith);
     entries = λ i e h. absurd (let z : _≡_ {A = ℕ} 0 1 = cc in omega arith);
     once = λ i j e g h. absurd (let z : _≡_ {A = ℕ} 0 1 = cc in omega arith);
+    oneEk = λ i j e g h. absurd (let z : _≡_ {A = ℕ} 0 1 = cc in omega arith);
   }
 
   module _ (s : State) (inv : Invariant f s) where

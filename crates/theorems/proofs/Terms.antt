@@ -127,6 +127,11 @@ same-subject (Tpm m) (Device n) e = absurd (false≢true e)
 same-subject (Device m) (Tpm n) e = absurd (false≢true e)
 same-subject (Device m) (Device n) e = ap Device (eqb-true m n e)
 
+pub subject-same : (a b : Subject) → a ≡ b → sameSubject a b ≡ true
+unfolding sameSubject
+subject-same (Tpm m) b e = rw (← e, eq-eqb m m refl) refl
+subject-same (Device m) b e = rw (← e, eq-eqb m m refl) refl
+
 pub device-subject : (s : Subject) → isDeviceSubject s ≡ true → (n : ℕ) × (s ≡ Device n)
 unfolding isDeviceSubject
 device-subject (Tpm n) e = absurd (false≢true e)

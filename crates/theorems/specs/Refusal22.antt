@@ -19,7 +19,7 @@ use Rattle.rules.specs.Lent.{Answer, success, refusal, Lent, rows, written, lon
 abbrev pub orderWith22 : List ℕ
 orderWith22 =
     13 ∷ 14 ∷ 15 ∷ 16 ∷ 17 ∷ 18 ∷ 19 ∷ 20 ∷ 21 ∷ 22 ∷ 23
-    ∷ 24 ∷ 25 ∷ 26 ∷ 27 ∷ 28 ∷ 29 ∷ []
+    ∷ 24 ∷ 25 ∷ 26 ∷ 27 ∷ 28 ∷ 31 ∷ 29 ∷ []
 
 -- The check, which 40 made: the certificate in the request is in the ledger. Here the commands of its rule, 40, 41 and 42, all make it.
 unfoldable pub check22 : File → State → Command → List Test

@@ -155,6 +155,13 @@ pub record Sound (f : File) (n i : ℕ) (e : Entry) : Type 0 where
   pub serial : ℕ
   pub subjects : AllButLast (λ c. subject f c ≡ Device serial) path
 
+-- One device's TPM holds the keys certified on two paths.
+pub record OneTpm (f : File) (path other : List ℕ) : Type 0 where
+  pub tpm : ℕ
+  pub isDevice : roleOf f tpm ≡ device
+  pub held : All (λ c. Held f tpm (certifiedKey f c)) path
+  pub otherHeld : All (λ c. Held f tpm (certifiedKey f c)) other
+
 -- Demand 3 of a file after its first n commands.
 pub record Resident (f : File) (n : ℕ) : Type 0 where
   -- the state's known-by bits are those of the word
@@ -166,6 +173,10 @@ pub record Resident (f : File) (n : ℕ) : Type 0 where
   pub once : (i j : ℕ) (e g : Entry) → EntryAt f n i e → EntryAt f n j g → e .certificate ≡ g .certificate → i ≡ j
   -- its parents, its path, its TPM, its Subject
   pub sound : (i : ℕ) (e : Entry) → EntryAt f n i e → Sound f n i e
+  -- two entries of equal Subject, of whatever families: one and the same TPM holds all keys of both paths (request 3 of document 02)
+  pub oneBoard :
+      (i j : ℕ) (e g : Entry) → EntryAt f n i e → EntryAt f n j g → subject f (e .certificate) ≡ subject f (g .certificate)
+      → (a : Sound f n i e) (b : Sound f n j g) → OneTpm f (a .path) (b .path)
   -- no party knows a private key
   pub noPrivateKey : (p t : ℕ) → Known f n p t → kind f t ≡ privateKeyKind → ⊥
 

@@ -438,9 +438,9 @@ pub fn finish_iak(b: &mut Build, n: &Names) {
     b.issue_iak(n.oem, n.device, n.credential, n.iak_certificate);
 }
 
-/// One more IAK of the board, with that id, enrolled for a device Subject; its
-/// certificate is sent to the device. The names are those of the new IAK.
-pub fn another_iak(b: &mut Build, n: &Names, id: u16, who: u16) -> Names {
+/// The terms and the set-up of one more IAK of the board, with that id, for a
+/// device Subject. The names are those of the new IAK.
+pub fn another_iak_terms(b: &mut Build, n: &Names, id: u16, who: u16) -> Names {
     let (iak, iak_private) = b.keys(id, AK);
     let csr = b.idevid(DEV, who, n.ek_certificate, iak);
     let csr_hash = b.hash(csr);
@@ -450,7 +450,10 @@ pub fn another_iak(b: &mut Build, n: &Names, id: u16, who: u16) -> Names {
     let number = b.number(id);
     let credential = b.credential(iak_hash, number, n.ek);
     let iak_certificate = b.certificate(iak, DEV, who, n.oem_private);
-    let other = Names {
+    b.hold(n.device, iak_private);
+    b.give(n.device, iak);
+    b.give(n.oem, number);
+    Names {
         iak,
         iak_private,
         csr,
@@ -462,14 +465,45 @@ pub fn another_iak(b: &mut Build, n: &Names, id: u16, who: u16) -> Names {
         credential,
         iak_certificate,
         ..n.clone()
-    };
-    b.hold(n.device, iak_private);
-    b.give(n.device, iak);
-    b.give(n.oem, number);
+    }
+}
+
+/// One more IAK of the board, with that id, enrolled for a device Subject; its
+/// certificate is sent to the device. The names are those of the new IAK.
+pub fn another_iak(b: &mut Build, n: &Names, id: u16, who: u16) -> Names {
+    let other = another_iak_terms(b, n, id, who);
     make_request(b, &other);
     finish_iak(b, &other);
-    b.send(n.oem, n.device, iak_certificate);
+    b.send(n.oem, n.device, other.iak_certificate);
     other
+}
+
+/// Another EK key with that id in the device's TPM, and a certificate of it for
+/// a TPM Subject. The names are those of the new EK.
+pub fn another_ek(b: &mut Build, n: &Names, id: u16, who: u16) -> Names {
+    let (ek, ek_private) = b.keys(id, EK);
+    let ek_certificate = b.certificate(ek, TPM, who, n.maker_private);
+    b.hold(n.device, ek_private);
+    b.give(n.device, ek_certificate);
+    Names {
+        ek,
+        ek_private,
+        ek_certificate,
+        ..n.clone()
+    }
+}
+
+/// Another board with an EK of that id, and its certificate for a TPM Subject.
+/// The names are those of the new board, which has no IAK yet.
+pub fn another_board(b: &mut Build, n: &Names, id: u16, who: u16) -> Names {
+    let mut other = n.clone();
+    other.device = b.party(0);
+    another_ek(b, &other, id, who)
+}
+
+/// The ordinal of the 3F of the last `another_iak`.
+pub fn last_iak(b: &Build) -> usize {
+    b.commands() - 2
 }
 
 /// The terms of one step by 40, 41 or 42.
@@ -564,4 +598,15 @@ pub fn board() -> (Build, Names, [Attested; 3]) {
     let issued =
         [0x40, 0x41, 0x42].map(|kind| enrol(&mut b, &n, kind, 1000 + u16::from(kind), parent).1);
     (b, n, issued)
+}
+
+/// A board with an IAK of Subject 200, and an IAK of another board that asks
+/// for the same Subject. Gives the names of both and the ordinal of the second
+/// 3F.
+pub fn two_boards() -> (Build, Names, Names, usize) {
+    let (mut b, n) = honest();
+    let second = another_board(&mut b, &n, 11, 101);
+    let second = another_iak(&mut b, &second, 500, 200);
+    let at = last_iak(&b);
+    (b, n, second, at)
 }

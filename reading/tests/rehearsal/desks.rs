@@ -1,4 +1,4 @@
-//! Desk commands, 3E to 42: refusals 13 to 29 but 22.
+//! Desk commands, 3E to 42: refusals 13 to 29 but 22, and 31.
 //!
 //! 22 is no refusal any more. A 40, 41 or 42 whose parent is not in the ledger
 //! is 14 or 21 at the latest: a 19 signed by a desk's key first becomes known
@@ -365,6 +365,226 @@ fn issued_certificate_called_for_is_27_before_28() {
     let last = b.issue_iak(n.oem, n.device, credential, second);
     assert_eq!(b.outcome(last), 0);
     assert_eq!(b.run().totals().2, 2);
+}
+
+#[test]
+fn one_subject_two_boards() {
+    let (mut b, n, second, at) = two_boards();
+    refused_cleanly(&b, at, 31);
+    // The certificate is not issued, so the desk cannot send it.
+    assert_eq!(
+        b.text(),
+        format!(
+            "R {at} 31\nR {} 14\nI {} {} 1\nT 17 2 1\n",
+            at + 1,
+            n.iak_certificate,
+            n.ek_certificate
+        )
+    );
+    let ran = b.run();
+    // The credential stays open, and a later 3F gets no further.
+    assert_eq!(ran.term(second.credential)[2], 2);
+    let again = b.issue_iak(
+        n.oem,
+        second.device,
+        second.credential,
+        second.iak_certificate,
+    );
+    refused_cleanly(&b, again, 31);
+    // Nor does it help that the first board returns the number.
+    b.send(second.device, n.device, second.number);
+    let again = b.issue_iak(n.oem, n.device, second.credential, second.iak_certificate);
+    refused_cleanly(&b, again, 31);
+    // The first board keeps the Subject, the second may have another.
+    for (board, id, who, expected) in [
+        (&n, 501, 200, 0),
+        (&second, 502, 201, 0),
+        (&second, 503, 201, 0),
+        (&n, 504, 201, 31),
+        (&second, 505, 200, 31),
+        (&n, 506, 202, 0),
+        (&second, 507, 202, 31),
+    ] {
+        another_iak(&mut b, board, id, who);
+        assert_eq!(b.outcome(last_iak(&b)), expected, "{id}");
+    }
+    assert_eq!(b.run().totals().2, 5);
+}
+
+#[test]
+fn the_first_board_issued_has_the_subject() {
+    // Both boards are challenged before either has its certificate: 3E does
+    // not look at the ledger's Subjects, and an open credential has none.
+    for second_first in [false, true] {
+        let (mut b, n) = asked();
+        let second = another_board(&mut b, &n, 11, 101);
+        let second = another_iak_terms(&mut b, &second, 500, 200);
+        make_request(&mut b, &second);
+        let mut boards = [n, second];
+        for n in &boards {
+            let at = b.challenge(n.oem, n.request, n.credential);
+            assert_eq!(b.outcome(at), 0);
+            b.send(n.oem, n.device, n.credential);
+            b.act(0x34, n.device, n.credential);
+        }
+        if second_first {
+            boards.reverse();
+        }
+        for (n, expected) in boards.iter().zip([0, 31]) {
+            let at = b.issue_iak(n.oem, n.device, n.credential, n.iak_certificate);
+            assert_eq!(b.outcome(at), expected);
+        }
+    }
+}
+
+#[test]
+fn one_ek_key_by_two_certificates() {
+    // Another TPM Subject, or another maker.
+    let (mut b, n) = honest();
+    let maker = b.party(1);
+    let key = b.private(70, CA);
+    b.hold(maker, key);
+    b.desk_key(maker, key);
+    let by_subject = b.certificate(n.ek, TPM, 101, n.maker_private);
+    let by_maker = b.certificate(n.ek, TPM, 100, key);
+    for (id, ek_certificate) in [(500, by_subject), (501, by_maker)] {
+        b.give(n.device, ek_certificate);
+        let n = Names {
+            ek_certificate,
+            ..n.clone()
+        };
+        let issued = b.run().totals().2 as usize;
+        let other = another_iak(&mut b, &n, id, 200);
+        assert_eq!(b.outcome(last_iak(&b)), 0);
+        let entry = b.run().ledger[issued];
+        assert_eq!(entry.certificate, other.iak_certificate);
+        assert_eq!(entry.parent, ek_certificate);
+    }
+}
+
+#[test]
+fn two_ek_keys_in_one_tpm() {
+    // Also with the TPM Subject of the first.
+    for who in [100, 101] {
+        let (mut b, n) = honest();
+        let second = another_ek(&mut b, &n, 11, who);
+        another_iak(&mut b, &second, 500, 200);
+        let at = last_iak(&b);
+        refused_cleanly(&b, at, 31);
+        another_iak(&mut b, &second, 501, 201);
+        assert_eq!(b.outcome(last_iak(&b)), 0);
+    }
+}
+
+#[test]
+fn tpm_subjects_may_repeat() {
+    // Two boards whose EK certificates have one Subject, and a TPM Subject
+    // with the number of a device's.
+    for who in [100, 200] {
+        let (mut b, n) = honest();
+        let second = another_board(&mut b, &n, 11, who);
+        another_iak(&mut b, &second, 500, 201);
+        assert_eq!(b.outcome(last_iak(&b)), 0);
+        another_iak(&mut b, &second, 501, 200);
+        let at = last_iak(&b);
+        refused_cleanly(&b, at, 31);
+        another_iak(&mut b, &n, 502, who);
+        assert_eq!(b.outcome(last_iak(&b)), 0);
+    }
+}
+
+#[test]
+fn one_subject_at_two_oem_desks() {
+    // The ledger is one for all desks.
+    let (mut b, n) = honest();
+    let oem = b.party(2);
+    let oem_private = b.private(70, CA);
+    b.hold(oem, oem_private);
+    b.desk_key(oem, oem_private);
+    let n = Names {
+        oem,
+        oem_private,
+        ..n
+    };
+    let second = another_board(&mut b, &n, 11, 101);
+    another_iak(&mut b, &second, 500, 200);
+    let at = last_iak(&b);
+    refused_cleanly(&b, at, 31);
+    another_iak(&mut b, &n, 501, 200);
+    assert_eq!(b.outcome(last_iak(&b)), 0);
+}
+
+#[test]
+fn one_subject_over_long_paths() {
+    // Entries of every family and depth have the Subject.
+    let (mut b, n, _, laks) = chain(7);
+    let iak = (n.iak_private, n.iak_certificate);
+    let lak = (laks[5].private, laks[5].certificate);
+    for (kind, id, parent) in [(0x41, 2000, iak), (0x42, 2001, iak), (0x42, 2002, lak)] {
+        let (at, _) = enrol(&mut b, &n, kind, id, parent);
+        assert_eq!(b.outcome(at), 0);
+    }
+    let second = another_board(&mut b, &n, 11, 101);
+    another_iak(&mut b, &second, 500, 200);
+    let at = last_iak(&b);
+    refused_cleanly(&b, at, 31);
+    another_iak(&mut b, &n, 501, 200);
+    assert_eq!(b.outcome(last_iak(&b)), 0);
+    assert_eq!(b.run().totals().2, 12);
+}
+
+#[test]
+fn refusals_before_31() {
+    // 13, 25, 26 and 27, at the 3F of the second board.
+    let (mut b, n, second, at) = two_boards();
+    let wrong_number = b.certificate(second.iak, DEV, 201, n.oem_private);
+    let wrong_key = b.certificate(second.ek, DEV, 200, n.oem_private);
+    let unopened = b.credential(second.iak_hash, n.number, second.ek);
+    refused_cleanly(&b, at, 31);
+    let (device, credential, r) = (second.device, second.credential, second.iak_certificate);
+    for (desk, returning, credential, r, expected) in [
+        (n.owner, device, credential, r, 13),
+        (n.oem, device, unopened, r, 25),
+        (n.oem, n.device, credential, r, 26),
+        (n.oem, n.oem, credential, r, 26),
+        (n.oem, device, credential, wrong_number, 27),
+        (n.oem, device, credential, wrong_key, 27),
+        // Issued, of this Subject and of another EK key.
+        (n.oem, device, credential, n.iak_certificate, 27),
+        (n.oem, device, credential, r, 31),
+    ] {
+        let last = b.issue_iak(desk, returning, credential, r);
+        refused_cleanly(&b, last, expected);
+    }
+}
+
+#[test]
+fn issued_already_before_another_ek_key() {
+    // The same IAK and Subject by another EK key of the TPM: the certificate
+    // is in the ledger, and its path ends at the first EK key.
+    let (mut b, n) = honest();
+    let second = another_ek(&mut b, &n, 11, 101);
+    let csr = b.idevid(DEV, 200, second.ek_certificate, n.iak);
+    let csr_hash = b.hash(csr);
+    let csr_signature = b.signature(csr_hash, n.iak_private);
+    let request = b.pair(csr, csr_signature);
+    let number = b.number(78);
+    let credential = b.credential(n.iak_hash, number, second.ek);
+    let second = Names {
+        csr,
+        csr_hash,
+        csr_signature,
+        request,
+        number,
+        credential,
+        ..second
+    };
+    b.give(n.oem, number);
+    make_request(&mut b, &second);
+    finish_iak(&mut b, &second);
+    let last = b.commands() - 1;
+    refused_cleanly(&b, last, 28);
+    assert_eq!(b.run().totals(), (17, 1, 1));
 }
 
 /// An IAK and under it a new key, up to but not with its 40, 41 or 42. Gives

@@ -21,8 +21,16 @@ fn printed(file: &[u8]) -> Vec<u8> {
 fn program_prints_the_listing() {
     let (b, ..) = chain(8);
     let (of_board, ..) = board();
+    let (of_two, ..) = two_boards();
     let long = vec![0x16; FILE_BYTES + 1];
-    for file in [&[][..], &[0xFF], &b.bytes(), &of_board.bytes(), &long] {
+    for file in [
+        &[][..],
+        &[0xFF],
+        &b.bytes(),
+        &of_board.bytes(),
+        &of_two.bytes(),
+        &long,
+    ] {
         assert_eq!(printed(file), listing(file));
     }
     assert_eq!(printed(&[]), b"T 0 0 0\n");

@@ -2,6 +2,7 @@
 
 use crate::builder::*;
 use reading::*;
+use std::collections::HashMap;
 
 /// A small generator (xorshift).
 struct Dice(u64);
@@ -20,12 +21,16 @@ fn two(file: &[u8], place: usize) -> u16 {
     u16::from_be_bytes([file[place], file[place + 1]])
 }
 
+/// Where a term's record starts, read from the state.
+fn place(ran: &Ran, t: u16) -> usize {
+    usize::from(two(&ran.term(t), 6))
+}
+
 /// The attributes of a certificate's key and the role that its signer was
 /// given to, read from the file.
 fn key_and_signer(file: &[u8], ran: &Ran, certificate: u16) -> (u8, u8) {
-    let place = |t| usize::from(two(&ran.term(t), 6));
-    let at = place(certificate);
-    let attributes = file[place(two(file, at + 1)) + 3];
+    let at = place(ran, certificate);
+    let attributes = file[place(ran, two(file, at + 1)) + 3];
     // A desk's key is FixedTPM, so that its one holder is the desk.
     let holder = ran.term(two(file, at + 6))[1].trailing_zeros() as usize;
     (attributes, file[2 * holder + 1])
@@ -43,6 +48,34 @@ fn check_entry(file: &[u8], ran: &Ran, entry: &Entry) {
         ((AK | ID, 3), (AK, 2)) => assert_eq!(entry.depth, 2),
         ((AK | ID, 3), (AK, 3)) => assert!((3..=8).contains(&entry.depth)),
         both => panic!("{both:?}"),
+    }
+}
+
+/// The TPMs that hold the private half of a public key.
+fn holders(file: &[u8], ran: &Ran, public: u16) -> u8 {
+    let at = place(ran, public);
+    let key = &file[at + 1..at + 4];
+    (0..TERMS as u16)
+        .filter(|t| {
+            let at = place(ran, *t);
+            file[at] == 0x11 && file[at + 1..at + 4] == *key
+        })
+        .fold(0, |held, t| held | ran.term(t)[1])
+}
+
+/// Entries of equal Subject have paths that end at one EK key, and their keys
+/// are, with it, in one TPM. The paths are given by certificate and end.
+fn check_subjects(file: &[u8], ran: &Ran, paths: &[(u16, u16)]) {
+    let mut carriers = HashMap::new();
+    for (certificate, end) in paths {
+        let at = place(ran, *certificate);
+        let key = two(file, at + 1);
+        let subject = &file[at + 3..at + 6];
+        let ek = two(file, place(ran, *end) + 1);
+        let tpm = holders(file, ran, ek);
+        assert_eq!(tpm.count_ones(), 1);
+        assert_eq!(holders(file, ran, key), tpm);
+        assert_eq!(*carriers.entry(subject).or_insert(ek), ek);
     }
 }
 
@@ -67,11 +100,12 @@ fn check(file: &[u8], n: usize) {
             assert_eq!((accepted + refused) as usize, count);
             assert_eq!(refusals, refused as usize);
             for outcome in &ran.outcomes {
-                assert!(*outcome == 0 || (13..=29).contains(outcome));
+                assert!(matches!(outcome, 0 | 13..=29 | 31));
                 // No refusal any more, and the number is never used again.
                 assert_ne!(*outcome, 22);
             }
             assert_eq!(run_bytes(file, 0).state, state);
+            let mut paths = Vec::new();
             for entry in &ran.ledger[..issued as usize] {
                 check_entry(file, &ran, entry);
                 let mut list = vec![0; LIST_PLACES];
@@ -87,7 +121,9 @@ fn check(file: &[u8], n: usize) {
                 );
                 assert_eq!(answer, PathAnswer::Steps(u32::from(entry.depth)));
                 assert_eq!(list[1], entry.parent);
+                paths.push((entry.certificate, list[usize::from(entry.depth)]));
             }
+            check_subjects(file, &ran, &paths);
         }
         both => panic!("{both:?}"),
     }
@@ -118,7 +154,8 @@ fn noise() {
 #[test]
 fn honest_files_with_changed_bytes() {
     let mut dice = Dice(0xFEED_F00D_0000_0001);
-    for good in [chain(2).0.bytes(), board().0.bytes()] {
+    for good in [chain(2).0, board().0, two_boards().0] {
+        let good = good.bytes();
         check(&good, usize::MAX);
         for _ in 0..3000 {
             let mut file = good.clone();
@@ -189,7 +226,7 @@ fn requests_at_random_desks() {
         }
     }
     let before = base.commands();
-    let mut seen = [0; 30];
+    let mut seen = [0; 32];
     for _ in 0..200 {
         let mut b = base.clone();
         for _ in 0..40 {
@@ -207,5 +244,71 @@ fn requests_at_random_desks() {
     // These and no others.
     for (outcome, count) in seen.iter().enumerate() {
         assert_eq!(*count > 0, matches!(outcome, 0 | 13 | 21 | 23 | 27 | 28));
+    }
+}
+
+#[test]
+fn iaks_at_random_boards() {
+    // Three EK keys in two TPMs, the first with two certificates; of each, IAKs
+    // that ask for one of three Subjects. All are challenged and activated
+    // before the first 3F.
+    let mut dice = Dice(0x3F31_2803_0405_0607);
+    let mut seen = [0; 32];
+    for _ in 0..200 {
+        let mut b = Build::default();
+        let n = iak_terms(&mut b, AK, EK);
+        let again = b.certificate(n.ek, TPM, 101, n.maker_private);
+        desk_set_up(&mut b, &n);
+        device_set_up(&mut b, &n);
+        b.give(n.device, again);
+        let beside = another_ek(&mut b, &n, 11, 100);
+        let second = another_board(&mut b, &n, 12, 100);
+        let again = Names {
+            ek_certificate: again,
+            ..n.clone()
+        };
+        let mut asked = Vec::new();
+        for id in 500..512 {
+            let board = [&n, &again, &beside, &second][dice.roll(4) as usize];
+            let who = 200 + dice.roll(3) as u16;
+            let iak = another_iak_terms(&mut b, board, id, who);
+            make_request(&mut b, &iak);
+            b.challenge(iak.oem, iak.request, iak.credential);
+            b.send(iak.oem, iak.device, iak.credential);
+            b.act(0x34, iak.device, iak.credential);
+            asked.push((iak, who));
+        }
+        // What should come of it: the EK key that carries each Subject.
+        let mut carriers = HashMap::new();
+        let mut closed = Vec::new();
+        let mut expected = Vec::new();
+        for _ in 0..40 {
+            let (iak, who) = &asked[dice.roll(12) as usize];
+            let right = dice.roll(8) > 0;
+            let r = if right { iak } else { &asked[0].0 }.iak_certificate;
+            let at = b.issue_iak(iak.oem, iak.device, iak.credential, r);
+            let outcome = if closed.contains(&iak.credential) {
+                25
+            } else if r != iak.iak_certificate {
+                27
+            } else if *carriers.entry(*who).or_insert(iak.ek) != iak.ek {
+                31
+            } else {
+                closed.push(iak.credential);
+                0
+            };
+            expected.push((at, outcome));
+        }
+        check(&b.bytes(), usize::MAX);
+        let ran = b.run();
+        for (at, outcome) in expected {
+            assert_eq!(ran.outcomes[at], outcome);
+            seen[usize::from(outcome)] += 1;
+        }
+        assert_eq!(ran.totals().2 as usize, closed.len());
+    }
+    // These and no others.
+    for (outcome, count) in seen.iter().enumerate() {
+        assert_eq!(*count > 0, matches!(outcome, 0 | 25 | 27 | 31));
     }
 }

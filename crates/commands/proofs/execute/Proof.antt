@@ -62,7 +62,7 @@ returns-3 c =
     let o = c .before .before .before .before .before .before .before .before .before in
     let st = o .pre .0 in
     let w = o .pre .1 in
-    let e = c .before .decide2 .ensures (o .args .entries) (entriesIn (now (o .args .words)) (o .args .entries)) (st .enters) in
+    let e = c .before .decide2 .ensures (o .args .entries) (entriesIn (now (o .args .words)) (o .args .entries)) (st .enters) (st .boards) (st .kept .sound .oneEk) in
     (e, (refused-left st w e (c .if3 .taken), (st, refl)))
 
 effect-requires-2 : tie.Need-effect-requires-2
@@ -70,7 +70,7 @@ effect-requires-2 c κs =
     let o = c .before .before .before .before .before .before .before .before .before .before .before .before in
     let st = o .pre .0 in
     let w = o .pre .1 in
-    let e = c .before .before .before .before .decide2 .ensures (o .args .entries) (entriesIn (now (o .args .words)) (o .args .entries)) (st .enters) in
+    let e = c .before .before .before .before .decide2 .ensures (o .args .entries) (entriesIn (now (o .args .words)) (o .args .entries)) (st .enters) (st .boards) (st .kept .sound .oneEk) in
     record { holds = st .holds; keys = st .finds .words; command = w; isDesk = c .before .before .before .before .before .before .before .before .if1 .left; opened = open-requested st; parents = parents-entered st; accepts = accepts st w e (c .before .before .before .if3 .left) }
 
 same-length-4 : tie.Need-same-length-4
@@ -81,7 +81,7 @@ returns-4 c =
     let o = c .before .before .before .before .before .before .before .before .before .before .before .before .before .before .before in
     let st = o .pre .0 in
     let w = o .pre .1 in
-    let e = c .before .before .before .before .before .before .before .decide2 .ensures (o .args .entries) (entriesIn (now (o .args .words)) (o .args .entries)) (st .enters) in
+    let e = c .before .before .before .before .before .before .before .decide2 .ensures (o .args .entries) (entriesIn (now (o .args .words)) (o .args .entries)) (st .enters) (st .boards) (st .kept .sound .oneEk) in
     let z = c .before .before .before .before .before .before .if3 .left in
     let v = c .before .before .effect2 .ensures in
     (zero-decided st w e z, (desk-left st w e z v, (desk-stands st w e z v (same-length-4 c), v .places)))

@@ -4,6 +4,7 @@ use native.Mathlib.Omega.{arith}
 use denote.Ref.{now}
 use Rattle.rules.specs.File.{challenge}
 use Rattle.lookup.proofs.Fields.{four-bytes, two-read, known-as, challenge-there, issue-iak-there}
+use Rattle.loaded.proofs.Boards.{entered-falls}
 use Rattle.desk.proofs.Places.{issue-as, iak-bytes, two-bytes, issue-read, decided-as}
 use Rattle.desk.proofs.decide.Statement.{statement}
 use Rattle.desk.proofs.decide.Tie as tie
@@ -51,7 +52,7 @@ decide-issue-iak-requires : tie.Need-decide-issue-iak-requires
 decide-issue-iak-requires c κs =
     let p = c .before .before .before .before .before .before .before .before .pre in
     let e = issue-read (issue-iak-there _ _ (c .before .before .before .if1 .taken)) (c .before .word-at .ensures) (c .word-at2 .ensures) in
-    (p .0, p .1, known-as (p .3) e, p .6 _)
+    (p .0, p .1, known-as (p .3) e, p .6 _, entered-falls (p .5))
 
 returns : tie.Need-returns
 returns c =
@@ -87,7 +88,7 @@ returns-2 : tie.Need-returns-2
 returns-2 c =
     let p = c .before .before .before .before .before .before .before .before .before .pre in
     let e = two-read challenge (challenge-there _ _ (c .before .if2 .taken)) (c .before .before .before .word-at3 .ensures) (c .before .before .word-at4 .ensures) in
-    decided-as _ _ e (now (c .before .before .before .before .before .before .before .before .before .args .state)) _ _ _ (λ n ledger h. c .decide .ensures ledger)
+    decided-as _ _ e (now (c .before .before .before .before .before .before .before .before .before .args .state)) _ _ _ (λ n ledger h b o. c .decide .ensures ledger)
 
 family-of-requires : tie.Need-family-of-requires
 family-of-requires c κs = search needs

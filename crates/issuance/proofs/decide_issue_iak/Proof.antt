@@ -1,15 +1,18 @@
 use borrow.Author.Needs.{needs}
 use borrow.Author.Tests.{not-true, not-false, eq-eqb, ne-eqb}
 use mathlib.Core.Path.{_≡_, refl, sym, ap, _∙_}
-use mathlib.Core.Bool.{not}
 use native.Mathlib.Omega.{arith}
 use denote.Ref.{now}
+use Rattle.rules.specs.declared.Subject.{Subject}
 use Rattle.state.specs.View.{view}
 use Rattle.state.proofs.Exact.{stateOf}
 use Rattle.loaded.specs.Loaded.{fileIn}
-use Rattle.loaded.proofs.Chain.{chain-none, chain-passes, chain-fails, stops}
+use Rattle.loaded.specs.Chain.{chain}
+use Rattle.loaded.proofs.Chain.{chain-passes, chain-fails, stops}
 use Rattle.loaded.proofs.Standing.{party-here, checked-here, term-here, kind-declared, left-declared, credential-number-declared}
-use Rattle.issuance.proofs.Called.{called-goes}
+use Rattle.issuance.specs.Tests.{iakEntryTests}
+use Rattle.issuance.proofs.Called.{called-goes, called-subject}
+use Rattle.issuance.proofs.Endorsement.{endorsement-here}
 use Rattle.issuance.proofs.IssueIak.{issue-iak-chain}
 use Rattle.issuance.proofs.decide_issue_iak.Statement.{statement}
 use Rattle.issuance.proofs.decide_issue_iak.Tie as tie
@@ -22,9 +25,9 @@ is-role-requires c κs =
     party-here h (w .0)
 
 returns : tie.Need-returns
-returns c words n ledger e =
+returns c words n ledger e b o₀ =
     let o = c .before .before .before .before in
-    sym (issue-iak-chain (fileIn (now (o .args .file))) (stateOf (view (now (o .args .state))) ledger) (o .args .party) (o .args .other) (o .args .c) (o .args .r) refl refl refl refl refl
+    sym (issue-iak-chain (fileIn (now (o .args .file))) (stateOf (view (now (o .args .state))) ledger) (o .args .party) (o .args .other) (o .args .c) (o .args .r) refl refl refl refl refl refl refl
     ∙ chain-fails 13 _ _ (sym (c .before .is-role .ensures) ∙ not-true _ (c .if1 .taken)))
 
 mark-of-requires : tie.Need-mark-of-requires
@@ -36,9 +39,9 @@ mark-of-requires c κs =
     term-here h d .row
 
 returns-2 : tie.Need-returns-2
-returns-2 c words n ledger e =
+returns-2 c words n ledger e b o₀ =
     let o = c .before .before .before .before .before .before in
-    sym (issue-iak-chain (fileIn (now (o .args .file))) (stateOf (view (now (o .args .state))) ledger) (o .args .party) (o .args .other) (o .args .c) (o .args .r) refl refl refl refl refl
+    sym (issue-iak-chain (fileIn (now (o .args .file))) (stateOf (view (now (o .args .state))) ledger) (o .args .party) (o .args .other) (o .args .c) (o .args .r) refl refl refl refl refl refl refl
     ∙ chain-passes 13 _ _ (sym (c .before .before .before .is-role .ensures) ∙ not-false _ (c .before .before .if1 .left))
     ∙ chain-fails 25 _ _ (ne-eqb _ _ (λ e. c .if2 .taken (c .before .mark-of .ensures ∙ e))))
 
@@ -54,9 +57,9 @@ cast-desk : tie.Need-cast-desk
 cast-desk c = search needs
 
 returns-3 : tie.Need-returns-3
-returns-3 c words n ledger e =
+returns-3 c words n ledger e b o₀ =
     let o = c .before .before .before .before .before .before .before .before in
-    sym (issue-iak-chain (fileIn (now (o .args .file))) (stateOf (view (now (o .args .state))) ledger) (o .args .party) (o .args .other) (o .args .c) (o .args .r) refl refl refl refl refl
+    sym (issue-iak-chain (fileIn (now (o .args .file))) (stateOf (view (now (o .args .state))) ledger) (o .args .party) (o .args .other) (o .args .c) (o .args .r) refl refl refl refl refl refl refl
     ∙ chain-passes 13 _ _ (sym (c .before .before .before .before .before .is-role .ensures) ∙ not-false _ (c .before .before .before .before .if1 .left))
     ∙ chain-passes 25 _ _ (eq-eqb _ _ (sym (c .before .before .before .mark-of .ensures) ∙ c .before .before .if2 .left))
     ∙ chain-fails 25 _ _ (ne-eqb _ _ (λ e. c .if3 .taken (c .before .desk-of .ensures ∙ e))))
@@ -69,9 +72,9 @@ is-role-requires-2 c κs =
     party-here h (w .1)
 
 returns-4 : tie.Need-returns-4
-returns-4 c words n ledger e =
+returns-4 c words n ledger e b o₀ =
     let o = c .before .before .before .before .before .before .before .before .before .before in
-    sym (issue-iak-chain (fileIn (now (o .args .file))) (stateOf (view (now (o .args .state))) ledger) (o .args .party) (o .args .other) (o .args .c) (o .args .r) refl refl refl refl refl
+    sym (issue-iak-chain (fileIn (now (o .args .file))) (stateOf (view (now (o .args .state))) ledger) (o .args .party) (o .args .other) (o .args .c) (o .args .r) refl refl refl refl refl refl refl
     ∙ chain-passes 13 _ _ (sym (c .before .before .before .before .before .before .before .is-role .ensures) ∙ not-false _ (c .before .before .before .before .before .before .if1 .left))
     ∙ chain-passes 25 _ _ (eq-eqb _ _ (sym (c .before .before .before .before .before .mark-of .ensures) ∙ c .before .before .before .before .if2 .left))
     ∙ chain-passes 25 _ _ (eq-eqb _ _ (sym (c .before .before .before .desk-of .ensures) ∙ c .before .before .if3 .left))
@@ -94,9 +97,9 @@ knows-requires c κs =
     (omega (arith, h .parties, w .1), rw (c .credential-of .ensures .1) (term-here h (credential-number-declared h d (w .2)) .row))
 
 returns-5 : tie.Need-returns-5
-returns-5 c words n ledger e =
+returns-5 c words n ledger e b o₀ =
     let o = c .before .before .before .before .before .before .before .before .before .before .before .before .before in
-    sym (issue-iak-chain (fileIn (now (o .args .file))) (stateOf (view (now (o .args .state))) ledger) (o .args .party) (o .args .other) (o .args .c) (o .args .r) (c .before .before .credential-of .ensures .1) refl refl refl refl
+    sym (issue-iak-chain (fileIn (now (o .args .file))) (stateOf (view (now (o .args .state))) ledger) (o .args .party) (o .args .other) (o .args .c) (o .args .r) (c .before .before .credential-of .ensures .1) refl refl refl refl refl refl
     ∙ chain-passes 13 _ _ (sym (c .before .before .before .before .before .before .before .before .before .before .is-role .ensures) ∙ not-false _ (c .before .before .before .before .before .before .before .before .before .if1 .left))
     ∙ chain-passes 25 _ _ (eq-eqb _ _ (sym (c .before .before .before .before .before .before .before .before .mark-of .ensures) ∙ c .before .before .before .before .before .before .before .if2 .left))
     ∙ chain-passes 25 _ _ (eq-eqb _ _ (sym (c .before .before .before .before .before .before .desk-of .ensures) ∙ c .before .before .before .before .before .if3 .left))
@@ -136,9 +139,9 @@ called-for-requires c κs =
     (h, o .pre .1, omega (arith, h .parties, w .0), w .3)
 
 returns-6 : tie.Need-returns-6
-returns-6 c words n ledger e =
+returns-6 c words n ledger e b o₀ =
     let o = c .before .before .before .before .before .before .before .before .before .before .before .before .before .before .before .before .before .before in
-    sym (issue-iak-chain (fileIn (now (o .args .file))) (stateOf (view (now (o .args .state))) ledger) (o .args .party) (o .args .other) (o .args .c) (o .args .r) (c .before .before .before .before .before .before .before .credential-of .ensures .1) (c .before .before .before .before .request-of .ensures) (c .before .before .before .pair-of .ensures .0) (c .before .before .idevid-request-of .ensures .2) (c .before .before .idevid-request-of .ensures .0)
+    sym (issue-iak-chain (fileIn (now (o .args .file))) (stateOf (view (now (o .args .state))) ledger) (o .args .party) (o .args .other) (o .args .c) (o .args .r) (c .before .before .before .before .before .before .before .credential-of .ensures .1) (c .before .before .before .before .request-of .ensures) (c .before .before .before .pair-of .ensures .0) refl (c .before .before .idevid-request-of .ensures .2) (c .before .before .idevid-request-of .ensures .0) refl
     ∙ chain-passes 13 _ _ (sym (c .before .before .before .before .before .before .before .before .before .before .before .before .before .before .before .is-role .ensures) ∙ not-false _ (c .before .before .before .before .before .before .before .before .before .before .before .before .before .before .if1 .left))
     ∙ chain-passes 25 _ _ (eq-eqb _ _ (sym (c .before .before .before .before .before .before .before .before .before .before .before .before .before .mark-of .ensures) ∙ c .before .before .before .before .before .before .before .before .before .before .before .before .if2 .left))
     ∙ chain-passes 25 _ _ (eq-eqb _ _ (sym (c .before .before .before .before .before .before .before .before .before .before .before .desk-of .ensures) ∙ c .before .before .before .before .before .before .before .before .before .before .if3 .left))
@@ -146,38 +149,32 @@ returns-6 c words n ledger e =
     ∙ chain-passes 26 _ _ (sym (c .before .before .before .before .before .before .knows .ensures) ∙ not-false _ (c .before .before .before .before .before .if5 .left))
     ∙ stops _ _ _ (c .before .called-for .ensures) (c .if6 .taken))
 
-is-listed-requires : tie.Need-is-listed-requires
-is-listed-requires c κs =
+certified-key-of-requires : tie.Need-certified-key-of-requires
+certified-key-of-requires c κs =
     let o = c .before .before .before .before .before .before .before .before .before .before .before .before .before .before .before .before .before .before in
+    let m = o .pre .3 (sym (c .before .before .before .before .before .before .before .before .before .before .before .before .before .mark-of .ensures) ∙ c .before .before .before .before .before .before .before .before .before .before .before .before .if2 .left) in
+    rw (c .before .before .idevid-request-of .ensures .1, c .before .before .before .pair-of .ensures .0, c .before .before .before .before .request-of .ensures) (endorsement-here (o .pre .0) m)
+
+iak-allowed-requires : tie.Need-iak-allowed-requires
+iak-allowed-requires c κs =
+    let o = c .before .before .before .before .before .before .before .before .before .before .before .before .before .before .before .before .before .before .before in
     let h = o .pre .0 in
-    let w = o .pre .2 in
-    let d = kind-declared _ (w .3) (λ q. omega arith) in
-    omega (arith, checked-here h .fewTerms, d)
+    let d = kind-declared _ (o .pre .2 .3) (λ q. omega arith) in
+    (omega (arith, checked-here h .fewTerms, d), o .pre .4)
 
 returns-7 : tie.Need-returns-7
-returns-7 c words n ledger e =
+returns-7 c words n ledger e b o₀ =
     let o = c .before .before .before .before .before .before .before .before .before .before .before .before .before .before .before .before .before .before .before .before in
-    sym (issue-iak-chain (fileIn (now (o .args .file))) (stateOf (view (now (o .args .state))) ledger) (o .args .party) (o .args .other) (o .args .c) (o .args .r) (c .before .before .before .before .before .before .before .before .before .credential-of .ensures .1) (c .before .before .before .before .before .before .request-of .ensures) (c .before .before .before .before .before .pair-of .ensures .0) (c .before .before .before .before .idevid-request-of .ensures .2) (c .before .before .before .before .idevid-request-of .ensures .0)
+    let f = fileIn (now (o .args .file)) in
+    c .iak-allowed .ensures f words n ledger e b o₀
+    ∙ sym (issue-iak-chain f (stateOf (view (now (o .args .state))) ledger) (o .args .party) (o .args .other) (o .args .c) (o .args .r) (c .before .before .before .before .before .before .before .before .before .credential-of .ensures .1) (c .before .before .before .before .before .before .request-of .ensures) (c .before .before .before .before .before .pair-of .ensures .0) (c .before .before .before .before .idevid-request-of .ensures .1) (c .before .before .before .before .idevid-request-of .ensures .2) (c .before .before .before .before .idevid-request-of .ensures .0) (c .before .certified-key-of .ensures)
     ∙ chain-passes 13 _ _ (sym (c .before .before .before .before .before .before .before .before .before .before .before .before .before .before .before .before .before .is-role .ensures) ∙ not-false _ (c .before .before .before .before .before .before .before .before .before .before .before .before .before .before .before .before .if1 .left))
     ∙ chain-passes 25 _ _ (eq-eqb _ _ (sym (c .before .before .before .before .before .before .before .before .before .before .before .before .before .before .before .mark-of .ensures) ∙ c .before .before .before .before .before .before .before .before .before .before .before .before .before .before .if2 .left))
     ∙ chain-passes 25 _ _ (eq-eqb _ _ (sym (c .before .before .before .before .before .before .before .before .before .before .before .before .before .desk-of .ensures) ∙ c .before .before .before .before .before .before .before .before .before .before .before .before .if3 .left))
     ∙ chain-passes 26 _ _ (sym (c .before .before .before .before .before .before .before .before .before .before .before .is-role2 .ensures) ∙ not-false _ (c .before .before .before .before .before .before .before .before .before .before .if4 .left))
     ∙ chain-passes 26 _ _ (sym (c .before .before .before .before .before .before .before .before .knows .ensures) ∙ not-false _ (c .before .before .before .before .before .before .before .if5 .left))
     ∙ called-goes _ _ _ _ _ _ (c .before .before .before .called-for .ensures) (c .before .before .if6 .left)
-    ∙ chain-fails 28 _ _ (ap not (sym (c .before .is-listed .ensures words n ledger e) ∙ c .if7 .taken)))
-
-returns-8 : tie.Need-returns-8
-returns-8 c words n ledger e =
-    let o = c .before .before .before .before .before .before .before .before .before .before .before .before .before .before .before .before .before .before .before .before in
-    sym (issue-iak-chain (fileIn (now (o .args .file))) (stateOf (view (now (o .args .state))) ledger) (o .args .party) (o .args .other) (o .args .c) (o .args .r) (c .before .before .before .before .before .before .before .before .before .credential-of .ensures .1) (c .before .before .before .before .before .before .request-of .ensures) (c .before .before .before .before .before .pair-of .ensures .0) (c .before .before .before .before .idevid-request-of .ensures .2) (c .before .before .before .before .idevid-request-of .ensures .0)
-    ∙ chain-passes 13 _ _ (sym (c .before .before .before .before .before .before .before .before .before .before .before .before .before .before .before .before .before .is-role .ensures) ∙ not-false _ (c .before .before .before .before .before .before .before .before .before .before .before .before .before .before .before .before .if1 .left))
-    ∙ chain-passes 25 _ _ (eq-eqb _ _ (sym (c .before .before .before .before .before .before .before .before .before .before .before .before .before .before .before .mark-of .ensures) ∙ c .before .before .before .before .before .before .before .before .before .before .before .before .before .before .if2 .left))
-    ∙ chain-passes 25 _ _ (eq-eqb _ _ (sym (c .before .before .before .before .before .before .before .before .before .before .before .before .before .desk-of .ensures) ∙ c .before .before .before .before .before .before .before .before .before .before .before .before .if3 .left))
-    ∙ chain-passes 26 _ _ (sym (c .before .before .before .before .before .before .before .before .before .before .before .is-role2 .ensures) ∙ not-false _ (c .before .before .before .before .before .before .before .before .before .before .if4 .left))
-    ∙ chain-passes 26 _ _ (sym (c .before .before .before .before .before .before .before .before .knows .ensures) ∙ not-false _ (c .before .before .before .before .before .before .before .if5 .left))
-    ∙ called-goes _ _ _ _ _ _ (c .before .before .before .called-for .ensures) (c .before .before .if6 .left)
-    ∙ chain-passes 28 _ _ (ap not (sym (c .before .is-listed .ensures words n ledger e) ∙ c .if7 .left))
-    ∙ chain-none)
+    ∙ ap (λ (x : Subject). chain (iakEntryTests f ledger (o .args .r) x (c .before .certified-key-of .result))) (called-subject _ _ _ _ _ (c .before .before .before .called-for .ensures) (c .before .before .if6 .left)))
 
 pub decide-issue-iak-spec : {M : Type 1} → statement M
-decide-issue-iak-spec = tie.close (tie.spec is-role-requires returns mark-of-requires returns-2 desk-of-requires cast-desk returns-3 is-role-requires-2 returns-4 credential-of-requires knows-requires returns-5 request-of-requires pair-of-requires idevid-request-of-requires called-for-requires returns-6 is-listed-requires returns-7 returns-8)
+decide-issue-iak-spec = tie.close (tie.spec is-role-requires returns mark-of-requires returns-2 desk-of-requires cast-desk returns-3 is-role-requires-2 returns-4 credential-of-requires knows-requires returns-5 request-of-requires pair-of-requires idevid-request-of-requires called-for-requires returns-6 certified-key-of-requires iak-allowed-requires returns-7)

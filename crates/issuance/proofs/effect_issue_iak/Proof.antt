@@ -1,6 +1,8 @@
+use mathlib.Core.Path.{_∙_}
 use native.Mathlib.Omega.{arith}
 use borrow.Author.Needs.{needs}
 use Rattle.loaded.proofs.Standing.{checked-here, kind-declared, term-here, left-declared, idevid-certificate-declared}
+use Rattle.issuance.proofs.Endorsement.{endorsement-here, ek-few}
 use Rattle.issuance.proofs.Issued.{iak-issued}
 use Rattle.issuance.proofs.effect_issue_iak.Statement.{statement}
 use Rattle.issuance.proofs.effect_issue_iak.Tie as tie
@@ -23,32 +25,48 @@ idevid-request-of-requires c κs =
     let i = p .1 in
     rw (c .before .pair-of .ensures .0, c .before .before .before .request-of .ensures) (term-here (p .0) (left-declared (p .0) (i .requested .declared) (i .requested .formed .pair)), i .requested .body)
 
+certified-key-of-requires : tie.Need-certified-key-of-requires
+certified-key-of-requires c κs =
+    let p = c .before .before .before .before .before .before .before .before .before .pre in
+    let i = p .1 in
+    rw (c .before .idevid-request-of .ensures .1, c .before .before .before .pair-of .ensures .0, c .before .before .before .before .before .request-of .ensures) (endorsement-here (p .0) (i .requested))
+
 learn-requires : tie.Need-learn-requires
 learn-requires c κs =
-    let p = c .before .before .before .before .before .before .before .before .before .pre in
+    let p = c .before .before .before .before .before .before .before .before .before .before .before .pre in
     let i = p .1 in
     (p .0, i .wellformed .0, kind-declared _ (i .wellformed .3) (λ x. omega arith))
 
 note-mark-requires : tie.Need-note-mark-requires
 note-mark-requires c κs =
-    let p = c .before .before .before .before .before .before .before .before .before .before .before .before .before .pre in
+    let p = c .before .before .before .before .before .before .before .before .before .before .before .before .before .before .before .pre in
     let i = p .1 in
     omega (arith, term-here (p .0) (kind-declared _ (i .wellformed .2) (λ x. omega arith)) .row)
 
+cast-append : tie.Need-cast-append
+cast-append c =
+    let p = c .before .before .before .before .before .before .before .before .before .before .before .before .before .before .before .before .before .before .before .before .pre in
+    let k = ek-few (p .0) (p .1 .requested) in
+    let z = rw (c .before .before .before .before .before .before .before .before .before .before .before .before .idevid-request-of .ensures .1, c .before .before .before .before .before .before .before .before .before .before .before .before .before .before .pair-of .ensures .0, c .before .before .before .before .before .before .before .before .before .before .before .before .before .before .before .before .request-of .ensures) at (c .before .before .before .before .before .before .before .before .before .before .certified-key-of .ensures) in
+    omega arith
+
 append-requires : tie.Need-append-requires
 append-requires c κs =
-    let p = c .before .before .before .before .before .before .before .before .before .before .before .before .before .before .before .before .before .before .pre in
+    let p = c .before .before .before .before .before .before .before .before .before .before .before .before .before .before .before .before .before .before .before .before .pre in
     let i = p .1 in
     let few = checked-here (p .0) .fewTerms in
     let l = kind-declared _ (i .wellformed .3) (λ x. omega arith) in
     let m = idevid-certificate-declared (p .0) (left-declared (p .0) (i .requested .declared) (i .requested .formed .pair)) (i .requested .body) in
-    (i .words, i .accepts .enters .room, i .accepts .more, omega (arith, few, l), rw (c .before .before .before .before .before .before .before .before .before .before .idevid-request-of .ensures .1, c .before .before .before .before .before .before .before .before .before .before .before .before .pair-of .ensures .0, c .before .before .before .before .before .before .before .before .before .before .before .before .before .before .request-of .ensures) (omega (arith, few, m)))
+    (i .words, i .accepts .enters .room, i .accepts .more, omega (arith, few, l), rw (c .before .before .before .before .before .before .before .before .before .before .before .before .idevid-request-of .ensures .1, c .before .before .before .before .before .before .before .before .before .before .before .before .before .before .pair-of .ensures .0, c .before .before .before .before .before .before .before .before .before .before .before .before .before .before .before .before .request-of .ensures) (omega (arith, few, m)))
+
+link-requires : tie.Need-link-requires
+link-requires c κs = let i = c .before .before .before .before .before .before .before .before .before .before .before .before .before .before .before .before .before .before .before .before .before .before .pre .1 in (c .before .append .ensures .keys .words ∙ i .words, i .accepts .more)
 
 same-length : tie.Need-same-length
 same-length c = search needs
 
 returns : tie.Need-returns
-returns c = iak-issued (c .before .before .before .before .before .before .before .before .before .before .before .before .before .before .before .before .before .before .before .pre .1) (c .before .before .before .before .before .before .before .before .before .before .before .before .before .before .before .request-of .ensures) (c .before .before .before .before .before .before .before .before .before .before .before .before .before .pair-of .ensures .0) (c .before .before .before .before .before .before .before .before .before .before .before .idevid-request-of .ensures .1) (c .before .before .before .before .before .before .before .before .before .learn .ensures) (c .before .before .before .before .before .note-mark .ensures) (c .append .ensures)
+returns c = iak-issued (c .before .before .before .before .before .before .before .before .before .before .before .before .before .before .before .before .before .before .before .before .before .before .before .pre .1) (c .before .before .before .before .before .before .before .before .before .before .before .before .before .before .before .before .before .before .before .request-of .ensures) (c .before .before .before .before .before .before .before .before .before .before .before .before .before .before .before .before .before .pair-of .ensures .0) (c .before .before .before .before .before .before .before .before .before .before .before .before .before .before .before .idevid-request-of .ensures .1) (c .before .before .before .before .before .before .before .before .before .before .before .before .before .before .before .idevid-request-of .ensures .0) (c .before .before .before .before .before .before .before .before .before .before .before .before .before .certified-key-of .ensures) (c .before .before .before .before .before .before .before .before .before .before .before .learn .ensures) (c .before .before .before .before .before .before .before .note-mark .ensures) (c .before .before .append .ensures) (c .link .ensures)
 
 pub effect-issue-iak-spec : {M : Type 1} → statement M
-effect-issue-iak-spec = tie.close (tie.spec request-of-requires pair-of-requires idevid-request-of-requires learn-requires note-mark-requires append-requires same-length returns)
+effect-issue-iak-spec = tie.close (tie.spec request-of-requires pair-of-requires idevid-request-of-requires certified-key-of-requires learn-requires note-mark-requires cast-append append-requires link-requires same-length returns)

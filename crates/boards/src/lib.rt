@@ -1,0 +1,21 @@
+// The ledger's entries by their Subject's serial number.
+ghost use mathlib.Core.Path.{_≡_};
+ghost use Rattle.rules.specs.Limits.{termLimit};
+ghost use Rattle.tables.specs.Regions.{tablesIn};
+ghost use Rattle.boards.specs.Linked.{Falls, entryOf};
+
+// One more than the place of an entry with a serial number, or 0: the one that was linked last. The walk passes entries of its bucket alone.
+pub fn entry_of(tables: &[u16; tables::WORDS], serial: u16) -> u16
+    requires { ⌜ Falls (tablesIn (now tables) .boards) termLimit ⌝ }
+    ensures { λ r. ⌜ r ≡ entryOf (tablesIn (now (tables .entry)) .boards) serial ⌝ }
+{
+    let mut e = tables::newest_of(tables, serial as usize % tables::BUCKETS);
+    while e != 0 {
+        let place = e as usize - 1;
+        if tables::serial_of(tables, place) == serial {
+            return e;
+        }
+        e = tables::earlier_of(tables, place);
+    }
+    0
+}
