@@ -71,6 +71,14 @@ impl Draft {
         t
     }
 
+    /// A 17 with a device Subject.
+    fn idevid(&mut self, serial: u16, certificate: u16, key: u16) -> u16 {
+        self.word(u16::from_be_bytes([0x17, BOARD]));
+        [serial, certificate, key].into_iter().for_each(|word| self.word(word));
+        self.terms += 1;
+        self.terms - 1
+    }
+
     fn pair(&mut self, t: u16, u: u16) -> u16 {
         self.term(0x1A, &[t, u])
     }
@@ -303,10 +311,7 @@ fn maker(accepted: bool, shuffled: bool) -> Draft {
     let certified = f.term(0x13, &[attest, key_]);
     let credential = f.term(0x15, &[hash, number, ek]);
     let certificate = f.certificate(key, BOARD, 1, free);
-    f.word(u16::from_be_bytes([0x17, BOARD]));
-    [1, certificate, key].into_iter().for_each(|word| f.word(word));
-    let request = f.terms;
-    f.terms += 1;
+    let request = f.idevid(1, certificate, key);
     let next = f.term(0x18, &[certified, certificate]);
     let pair = f.pair(request, signature);
     let made = [hash, signature, certified, credential, credential, request, next, pair];
@@ -330,6 +335,84 @@ fn issuing() -> Draft {
     let last = f.bytes[f.bytes.len() - 7..].to_vec();
     while f.bytes.len() + 7 <= FILE_LIMIT {
         f.bytes.extend(&last);
+    }
+    f
+}
+
+/// A request of a device: its 17, the hash, the hash signed, the pair.
+fn requested(f: &mut Draft, serial: u16, certificate: u16, key: u16, key_: u16) -> [u16; 4] {
+    let body = f.idevid(serial, certificate, key);
+    let hash = f.hash(body);
+    let signature = f.term(0x13, &[hash, key_]);
+    [body, hash, signature, f.pair(body, signature)]
+}
+
+/// As many IAK certificates as a file has terms for: Subjects whose serial numbers are so far apart, each by so many OEM desks, all on one
+/// EK. Then the first Subject is asked for on another EK, again and again (31).
+fn subjects(apart: u16, desks: u8) -> Draft {
+    const OEM: u8 = 2;
+    let (maker, device, first) = (0, 1, 2);
+    let mut f = Draft::default();
+    f.party(MAKER);
+    f.party(DEVICE);
+    (0..desks).for_each(|_| f.party(OEM));
+    let maker_ = f.private(1, DESK_KEY);
+    let keys: Vec<u16> = (0..desks).map(|d| f.private(10 + d as u16, DESK_KEY)).collect();
+    // Two EKs and two IAKs, each pair of one id, with certificates and names.
+    let eks: Vec<[u16; 2]> = (2..4).map(|id| [f.public(id, EK), f.private(id, EK)]).collect();
+    let iaks: Vec<[u16; 2]> = (4..6).map(|id| [f.public(id, AK), f.private(id, AK)]).collect();
+    let certificates: Vec<u16> = eks.iter().map(|ek| f.certificate(ek[0], TPM, 1, maker_)).collect();
+    let names: Vec<u16> = iaks.iter().map(|iak| f.hash(iak[0])).collect();
+    // Of each enrolment the request, and of each desk the number, the credential and the certificate.
+    let mut enrolments = Vec::new();
+    let mut serial = 100;
+    let enrol = |f: &mut Draft, serial: u16, which: usize, desks: u8| {
+        let request = requested(f, serial, certificates[which], iaks[which][0], iaks[which][1]);
+        let asked: Vec<[u16; 3]> = (0..desks as usize)
+            .map(|d| {
+                let number = f.number(f.terms);
+                let credential = f.term(0x15, &[names[which], number, eks[which][0]]);
+                [number, credential, f.certificate(iaks[which][0], BOARD, serial, keys[d])]
+            })
+            .collect();
+        (request, asked)
+    };
+    while f.terms + 4 + 3 * desks as u16 + 7 <= TERM_LIMIT {
+        let made = enrol(&mut f, serial, 0, desks);
+        enrolments.push(made);
+        serial += apart;
+    }
+    let last = enrol(&mut f, 100, 1, 1);
+    enrolments.push(last);
+    f.act(0x21, maker, maker_);
+    f.act(0x22, maker, maker_);
+    for (d, &key) in keys.iter().enumerate() {
+        f.act(0x21, first + d as u8, key);
+        f.act(0x22, first + d as u8, key);
+    }
+    eks.iter().chain(&iaks).for_each(|key| f.act(0x21, device, key[1]));
+    certificates.iter().chain(iaks.iter().map(|iak| &iak[0])).for_each(|&t| f.act(0x20, device, t));
+    for (_, asked) in &enrolments {
+        asked.iter().enumerate().for_each(|(d, a)| f.act(0x20, first + d as u8, a[0]));
+    }
+    let mut issue = Vec::new();
+    for (request, asked) in &enrolments {
+        [0x35, 0x30, 0x31, 0x37].into_iter().zip(request).for_each(|(kind, &t)| f.act(kind, device, t));
+        for (d, a) in asked.iter().enumerate() {
+            let desk = first + d as u8;
+            f.bytes.extend([0x3C, device, desk]);
+            f.word(request[3]);
+            f.act(0x3E, desk, request[3]);
+            f.word(a[1]);
+            f.bytes.extend([0x3C, desk, device]);
+            f.word(a[1]);
+            f.act(0x34, device, a[1]);
+            issue = [&[0x3F, desk, device][..], &a[1].to_be_bytes(), &a[2].to_be_bytes()].concat();
+            f.bytes.extend(&issue);
+        }
+    }
+    while f.bytes.len() + issue.len() <= FILE_LIMIT {
+        f.bytes.extend(&issue);
     }
     f
 }
@@ -392,6 +475,9 @@ pub fn run() -> Vec<File> {
         ("refused: commands 30", maker(false, false)),
         ("refused: commands 30 to 37, shuffled", maker(false, true)),
         ("commands 3F", issuing()),
+        ("commands 3F, Subjects in a row", subjects(1, 1)),
+        ("commands 3F, made against the lists of serial numbers", subjects(256, 1)),
+        ("commands 3F, the same by six desks", subjects(256, 6)),
         ("1,023 pairs inside each other, sent to seven parties", nested_and_sent()),
         ("set-up 20, of 1,022 certificates in turn to 8 parties", learning_in_turn()),
     ])

@@ -1,5 +1,5 @@
 #!/usr/bin/env python3
-"""Writes the stored scenario files of commands into data/: the situations of document 01 and of change request 1, and for each command each refusal
+"""Writes the stored scenario files of commands into data/: the situations of document 01 and of change requests 1 and 3, and for each command each refusal
 alone and beside the next one of its order. A name says what is expected: c31_15_16 is a 31 to which 15 and 16 apply, and 15 is its outcome.
 Usage: make.py [DIRECTORY]"""
 import os
@@ -97,18 +97,18 @@ def shop(family=LAK):
     return w
 
 
-def request(w, subject=None, certificate=None, key=None, key_=None, over=None, to=D, turned=False, sent=True):
-    """The board makes a request for an IAK certificate and sends it."""
+def request(w, subject=None, certificate=None, key=None, key_=None, over=None, to=D, turned=False, sent=True, by=B):
+    """A board makes a request for an IAK certificate and sends it."""
     w.body = w.idevid(subject or w.subject, w.ek_certificate if certificate is None else certificate, w.iak if key is None else key)
-    w.do(0x35, B, w.body)
+    w.do(0x35, by, w.body)
     digest = w.hash(w.body if over is None else over)
-    w.do(0x30, B, digest)
+    w.do(0x30, by, digest)
     proof = w.signature(digest, w.iak_ if key_ is None else key_)
-    w.do(0x31, B, proof)
+    w.do(0x31, by, proof)
     w.request = w.pair(proof, w.body) if turned else w.pair(w.body, proof)
-    w.do(0x37, B, w.request)
+    w.do(0x37, by, w.request)
     if sent:
-        w.send(B, to, w.request)
+        w.send(by, to, w.request)
 
 
 def challenge(w, number=9, desk=D, learners=None, name=None, ek=None, gives=0, request=None):
@@ -120,9 +120,9 @@ def challenge(w, number=9, desk=D, learners=None, name=None, ek=None, gives=0, r
     w.do(0x3E, desk, w.request if request is None else request, w.open, gives=gives)
 
 
-def give_back(w, desk=D):
-    w.send(desk, B, w.open)
-    w.do(0x34, B, w.open)
+def give_back(w, desk=D, by=B):
+    w.send(desk, by, w.open)
+    w.do(0x34, by, w.open)
 
 
 def iak_certificate(w, key=None, subject=None, signer=None):
@@ -419,6 +419,133 @@ def s_ldevid_depth_8(): return chain(8, LDEVID)
 
 @case
 def s_ldevid_depth_9(): return chain(9, LDEVID)
+
+
+# ---- situations of change request 3: one Subject, one EK
+
+Endorsed = namedtuple("Endorsed", "board ek certificate")
+
+
+def endorsed(w, id, board, subject=TPM(1)):
+    """Another EK, in a board's TPM, with a certificate. TPM Subjects may repeat."""
+    ek, ek_ = w.public(id, EK), w.private(id, EK)
+    w.holds(board, ek_)
+    return certified(w, board, ek, subject)
+
+
+def certified(w, board, ek, subject):
+    """A certificate of an EK, which a board knows."""
+    c = w.certificate(ek, subject, w.maker_)
+    w.learns(board, c)
+    return Endorsed(board, ek, c)
+
+
+def first(w): return Endorsed(B, w.ek, w.ek_certificate)
+
+
+def second(w, under, id=30, number=10, subject=None, desk=D, signer=None, key=None, gives=0):
+    """Another IAK of a board is enrolled under an endorsement certificate; its certificate may name another key than the IAK."""
+    iak, iak_ = w.public(id, IAK), w.private(id, IAK)
+    w.holds(under.board, iak_)
+    w.learns(under.board, iak)
+    request(w, subject=subject, certificate=under.certificate, key=iak, key_=iak_, to=desk, by=under.board)
+    challenge(w, number=number, desk=desk, name=w.hash(iak), ek=under.ek)
+    give_back(w, desk=desk, by=under.board)
+    c = iak_certificate(w, key=iak if key is None else key, subject=subject, signer=signer)
+    w.issue_iak(desk, under.board, w.open, c, gives=gives)
+    return c, iak_
+
+
+@case
+def s_two_boards_one_subject():
+    w = enrolled()
+    c, _ = second(w, endorsed(w, 31, B2), gives=31)
+    w.issue_iak(D, B2, w.open, c, gives=31)
+    return w
+
+
+@case
+def s_two_eks_of_a_tpm_one_subject():
+    w = enrolled()
+    second(w, endorsed(w, 31, B), gives=31)
+    return w
+
+
+@case
+def s_two_boards_one_subject_two_desks():
+    w = enrolled()
+    oem2_ = w.private(14, DESK)
+    w.signs(D2, oem2_)
+    second(w, endorsed(w, 31, B2), desk=D2, signer=oem2_, gives=31)
+    return w
+
+
+@case
+def s_second_iak_by_the_same_ek_certificate():
+    w = enrolled()
+    second(w, first(w))
+    return w
+
+
+@case
+def s_second_iak_by_another_ek_certificate():
+    w = enrolled()
+    second(w, certified(w, B, w.ek, TPM(2)))
+    return w
+
+
+@case
+def s_second_board_another_subject():
+    w = enrolled()
+    second(w, endorsed(w, 31, B2), subject=BOARD(101))
+    return w
+
+
+@case
+def s_one_ek_two_subjects():
+    w = enrolled()
+    second(w, first(w), subject=BOARD(101))
+    return w
+
+
+@case
+def s_subject_refused_then_another():
+    """A refused certificate carries no Subject: the second board gets its own, and then the first board may not have that."""
+    w = enrolled()
+    other = endorsed(w, 31, B2)
+    second(w, other, gives=31)
+    second(w, other, id=32, number=11, subject=BOARD(101))
+    second(w, first(w), id=33, number=12, subject=BOARD(101), gives=31)
+    return w
+
+
+@case
+def s_subject_of_all_families():
+    """The first board's Subject stands on certificates of all families, two steps down and more."""
+    w = enrolled()
+    lak = grow(w, LAK, 22, (w.issued, w.iak_))
+    grow(w, IDEVID, 23, (w.issued, w.iak_))
+    grow(w, LDEVID, 24, lak)
+    second(w, endorsed(w, 31, B2), gives=31)
+    second(w, certified(w, B, w.ek, TPM(2)), id=32, number=11)
+    return w
+
+
+@case
+def s_subjects_with_one_low_byte():
+    """Serial numbers that differ in their high byte alone, each on its own EK: each is found among the others."""
+    w = enrolled()
+    eks = [first(w)] + [endorsed(w, 40 + i, B2) for i in range(3)]
+    serials = [100 + 256 * i for i in range(4)]
+    number = 10
+    for i in range(1, 4):
+        second(w, eks[i], id=50 + i, number=number, subject=BOARD(serials[i]))
+        number += 1
+    for i in range(4):
+        for j in range(4):
+            second(w, eks[j], id=60 + 4 * i + j, number=number, subject=BOARD(serials[i]), gives=0 if i == j else 31)
+            number += 1
+    return w
 
 
 # ---- slips that document 01 excludes
@@ -1124,6 +1251,33 @@ def c3F_27_28():
     challenge(w, number=10)
     give_back(w)
     w.issue_iak(D, B, w.open, w.issued, gives=27)
+    return w
+
+
+@case
+def c3F_27_31():
+    w = enrolled()
+    second(w, endorsed(w, 31, B2), key=w.new, gives=27)
+    return w
+
+
+@case
+def c3F_26_31():
+    w = enrolled()
+    c, _ = second(w, endorsed(w, 31, B2), gives=31)
+    w.issue_iak(D, B, w.open, c, gives=26)
+    return w
+
+
+@case
+def c3F_28_31():
+    """The certificate that was issued, asked for again with another EK of the TPM."""
+    w = enrolled()
+    other = endorsed(w, 31, B)
+    request(w, certificate=other.certificate)
+    challenge(w, number=10, ek=other.ek)
+    give_back(w)
+    w.issue_iak(D, B, w.open, w.issued, gives=28)
     return w
 
 

@@ -520,7 +520,10 @@ enum Slip {
     OtherDesk,
     WrongRole,
     ForeignEndorsement,
+    OtherEk,
+    SharedSubject,
     Twice,
+    AgainByOtherEk,
     // Under an issued certificate only.
     PlainAttest,
     NotAttest,
@@ -533,7 +536,7 @@ enum Slip {
     HashedAttest,
 }
 
-const IAK_SLIPS: [Slip; 31] = [
+const IAK_SLIPS: [Slip; 38] = [
     Slip::SwappedPair,
     Slip::BareBody,
     Slip::OtherHash,
@@ -563,7 +566,14 @@ const IAK_SLIPS: [Slip; 31] = [
     Slip::OtherDesk,
     Slip::WrongRole,
     Slip::ForeignEndorsement,
+    Slip::OtherEk,
+    Slip::OtherEk,
+    Slip::SharedSubject,
+    Slip::SharedSubject,
+    Slip::SharedSubject,
     Slip::Twice,
+    Slip::AgainByOtherEk,
+    Slip::AgainByOtherEk,
     Slip::HashedAttest,
 ];
 
@@ -614,7 +624,8 @@ struct Key {
 struct Device {
     party: u8,
     subject: u16,
-    /// Endorsement keys with their certificates.
+    /// Endorsement keys with a certificate each; the first key's certificates
+    /// come first, and there may be several.
     endorsements: Vec<(Key, u16)>,
     /// A signing key that is not Restricted.
     plain: Key,
@@ -778,15 +789,25 @@ impl Town {
     }
 
     fn device(&mut self, party: u8) {
-        let subject = self.id();
+        let subject = match self.devices.first() {
+            // Serial numbers that differ in their high byte alone.
+            Some(first) if self.rng.chance(30) => {
+                first.subject.wrapping_add(256 * self.devices.len() as u16)
+            }
+            _ => self.id(),
+        };
         let attributes = self.rng.pick(&[0x0A, 0x02, 0x0A, 0x06, 0x0E]);
         let plain = self.key(attributes);
         self.holds(party, plain.private);
         self.learns(party, plain.public);
         let mut endorsements = Vec::new();
-        for _ in 0..1 + self.rng.below(2) {
-            let ek = self.key(EK);
-            self.holds(party, ek.private);
+        let mut ek = self.key(EK);
+        self.holds(party, ek.private);
+        for i in 0..1 + self.rng.below(3) {
+            if i > 0 && self.rng.chance(60) {
+                ek = self.key(EK);
+                self.holds(party, ek.private);
+            }
             let maker = self.rng.below(self.makers.len());
             let signer = self.makers[maker].key.map_or(plain.private, |k| k.private);
             let tpm = self.id();
@@ -925,11 +946,24 @@ impl Town {
         number
     }
 
+    /// A certificate of a device's first endorsement key, or of any other.
+    fn endorsement(&mut self, d: usize, other: bool) -> (Key, u16) {
+        let all = &self.devices[d].endorsements;
+        let first = all[0].0.public;
+        let some: Vec<_> = all.iter().filter(|e| (e.0.public == first) != other).copied().collect();
+        self.rng.try_pick(&some).unwrap_or(self.devices[d].endorsements[0])
+    }
+
     /// Enrolment of an IAK on an endorsement certificate.
     fn enrol_iak(&mut self, d: usize, slip: Slip) {
         let mut commands = Vec::new();
         let p = self.devices[d].party;
-        let subject = self.devices[d].subject;
+        let subject = if slip == Slip::SharedSubject {
+            let other = self.other_device(d);
+            self.devices[other].subject
+        } else {
+            self.devices[d].subject
+        };
         let desk = self.rng.below(self.oems.len());
         let (oem, desk_key) = (self.oems[desk].party, self.oems[desk].key);
         let key = self.new_key(d, AK, slip);
@@ -939,8 +973,8 @@ impl Town {
         } else {
             d
         };
-        let chosen = self.rng.below(self.devices[source].endorsements.len());
-        let (mut ek, mut endorsement) = self.devices[source].endorsements[chosen];
+        let chosen = self.endorsement(source, slip == Slip::OtherEk);
+        let (mut ek, mut endorsement) = chosen;
         let plain = self.devices[d].plain;
         match slip {
             Slip::SelfIssuedEndorsement | Slip::DeviceEndorsement => {
@@ -1045,9 +1079,24 @@ impl Town {
                 issue_iak(oem, p, credential, certificate),
             ]);
         }
+        if slip == Slip::AgainByOtherEk {
+            let (ek, endorsement) = self.endorsement(d, true);
+            let body = self.draft.idevid(named, endorsement, key.public);
+            commands.push(act(0x35, p, body));
+            let request = self.request(d, key, body, Slip::None, &mut commands);
+            let number = self.nonce(oem, Slip::None);
+            let credential = self.draft.credential(first, number, ek.public);
+            commands.extend([
+                send(p, oem, request),
+                challenge(oem, request, credential),
+                send(oem, p, credential),
+                act(0x34, p, credential),
+                issue_iak(oem, p, credential, certificate),
+            ]);
+        }
         let issued = matches!(
             slip,
-            Slip::None | Slip::Twice | Slip::Again | Slip::HashedAttest
+            Slip::None | Slip::Twice | Slip::Again | Slip::AgainByOtherEk | Slip::HashedAttest
         );
         let node = Node {
             device: d,

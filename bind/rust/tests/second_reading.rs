@@ -94,17 +94,19 @@ struct Seen {
     issued: u64,
     depth_8: u64,
     paths: u64,
-    refusals: [u64; 31],
-    outcomes: [u64; 31],
-    /// Outcomes of 40, of 41 and of 42.
-    issuing: [[u64; 31]; 3],
+    refusals: [u64; 32],
+    outcomes: [u64; 32],
+    /// Outcomes of 3F, of 40, of 41 and of 42.
+    issuing: [[u64; 32]; 4],
 }
 
-/// Whether the rules have this outcome for a command 40 to 42. An IDevID is at depth 2, so 41 has no 29.
+/// Whether the rules have this outcome for a command 3F to 42. An IDevID is at depth 2, so 41 has no 29.
 fn possible(kind: u8, outcome: usize) -> bool {
     match outcome {
-        0 | 13 | 14 | 19 | 20 | 21 | 23 | 27 | 28 => true,
-        29 => kind != 0x41,
+        0 | 13 | 27 | 28 => true,
+        25 | 26 | 31 => kind == 0x3F,
+        14 | 19 | 20 | 21 | 23 => kind != 0x3F,
+        29 => kind == 0x40 || kind == 0x42,
         _ => false,
     }
 }
@@ -133,8 +135,8 @@ fn compare(name: &str, seed: u64, file: &[u8], rng: &mut Rng, seen: &mut Seen) {
             let outcomes = &lent.outcomes[..(accepted + refused) as usize];
             for (kind, &o) in worlds::command_kinds(file).into_iter().zip(outcomes) {
                 seen.outcomes[o as usize] += 1;
-                if let 0x40..=0x42 = kind {
-                    seen.issuing[kind as usize - 0x40][o as usize] += 1;
+                if let 0x3F..=0x42 = kind {
+                    seen.issuing[kind as usize - 0x3F][o as usize] += 1;
                 }
             }
             format!("ran {accepted} {refused} {issued}")
@@ -195,7 +197,7 @@ fn every_call_agrees() {
         }
     }
     println!(
-        "{} files; {} runs, {} issued, {} at depth 8, {} paths; refusals {:?}; outcomes {:?}; of 40, 41 and 42 {:?}",
+        "{} files; {} runs, {} issued, {} at depth 8, {} paths; refusals {:?}; outcomes {:?}; of 3F, 40, 41 and 42 {:?}",
         seeds * GENERATORS.len() as u64,
         seen.runs,
         seen.issued,
@@ -209,7 +211,7 @@ fn every_call_agrees() {
     assert_eq!(seen.outcomes[22], 0);
     // The comparison is worth something: each refusal and each outcome occurred.
     let enough = seeds >= SEEDS && first == 0;
-    for (kind, counts) in (0x40..).zip(seen.issuing) {
+    for (kind, counts) in (0x3F..).zip(seen.issuing) {
         for (outcome, count) in counts.into_iter().enumerate() {
             if !possible(kind, outcome) {
                 assert_eq!(count, 0, "{kind:X} with outcome {outcome}");
@@ -222,7 +224,7 @@ fn every_call_agrees() {
         for number in (1..=12).chain([30]) {
             assert!(seen.refusals[number] > 0, "no refusal {number}");
         }
-        for number in (13..=29).filter(|&number| number != 22) {
+        for number in (13..=29).chain([31]).filter(|&number| number != 22) {
             assert!(seen.outcomes[number] > 0, "no outcome {number}");
         }
         assert!(seen.issued > 1_000 && seen.depth_8 > 10 && seen.paths > 100);

@@ -1,1 +1,2 @@
 pub mod OfFamilies
+pub mod OfSubjects

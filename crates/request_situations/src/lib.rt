@@ -2,3 +2,7 @@
 pub fn of_families() -> u64 {
     10
 }
+
+pub fn of_subjects() -> u64 {
+    7
+}

@@ -37,23 +37,23 @@ maker = 1
 abbrev pub dev : ℕ
 dev = 2
 
-abbrev parties : List Bytes
+abbrev pub parties : List Bytes
 parties = anOemDesk ∷ aTpmMaker ∷ aDevice ∷ []
 
 -- terms, by their numbers
 abbrev pub oemKey : ℕ
 oemKey = 0
 
-abbrev makerKey : ℕ
+abbrev pub makerKey : ℕ
 makerKey = 1
 
-abbrev ek : ℕ
+abbrev pub ek : ℕ
 ek = 2
 
 abbrev ekPrivate : ℕ
 ekPrivate = 3
 
-abbrev iak : ℕ
+abbrev pub iak : ℕ
 iak = 4
 
 abbrev pub iakPrivate : ℕ
@@ -77,7 +77,7 @@ bodySignature = 10
 abbrev request : ℕ
 request = 11
 
-abbrev iakHash : ℕ
+abbrev pub iakHash : ℕ
 iakHash = 12
 
 abbrev theCredential : ℕ
@@ -88,7 +88,7 @@ iakCertificate = 14
 
 -- The id of the first key is the number of the request's body: the request of a credential that was never opened, 0, then reads as one.
 -- So an engine that does not ask for an open credential issues.
-abbrev terms : List Bytes
+abbrev pub terms : List Bytes
 terms =
     privateKey body 0x0A
     ∷ privateKey 1 0x0A
@@ -115,7 +115,7 @@ signingKeys = holds oem oemKey ∷ signsWith oem oemKey ∷ holds maker makerKey
 abbrev given : List Bytes
 given = holds dev iakPrivate ∷ learns dev ekCertificate ∷ learns dev iak ∷ learns oem theNumber ∷ []
 
-abbrev setup : List Bytes
+abbrev pub setup : List Bytes
 setup = signingKeys ++ (holds dev ekPrivate ∷ given)
 
 -- The commands. 35, 30, 31, 37, 3C: the request goes to the desk.
@@ -130,7 +130,7 @@ challenged = challenge oem request theCredential ∷ send oem dev theCredential 
 abbrev returned : List Bytes
 returned = activateCredential dev theCredential ∷ issueIak oem dev theCredential iakCertificate ∷ []
 
-abbrev enrolled : List Bytes
+abbrev pub enrolled : List Bytes
 enrolled = ask ++ challenged ++ returned
 
 -- Empty file.
