@@ -1,7 +1,7 @@
 -- The ledger with an entry more.
 --     entry-appended              the places of a ledger with an entry more
 --     appended                    what writing the entry, its place and its EK leaves
---     enters-linked, keys-linked  what linking it leaves
+--     linked-known, linked-new, enters-linked, keys-linked  what linking it leaves
 -- Assumes nothing.
 use mathlib.Core.Path.{_≡_, refl, sym, ap, subst⁻¹, _∙_}
 use mathlib.Core.Bool.{Bool, true, false, cond, _||_, false≢true}
@@ -17,8 +17,8 @@ use Rattle.rules.specs.declared.Subject.the-variants.{Tpm, Device}
 use Rattle.rules.specs.Limits.{termLimit}
 use Rattle.rules.specs.State.{put, listed}
 use Rattle.tables.specs.Regions as regions
-use Rattle.tables.specs.Regions.{Boards, Tables, tablesIn, withBoards, withEk}
-use Rattle.boards.specs.Linked.{Falls}
+use Rattle.tables.specs.Regions.{Boards, Tables, tablesIn, withBoards, withEk, linked}
+use Rattle.boards.specs.Linked.{Falls, entryOf}
 use Rattle.boards.proofs.Walk.{falls-linked, falls-more}
 use Rattle.entries.specs.Words.{ledgerWords, entriesIn, withEntry}
 use Rattle.entries.proofs.Words.{words-length, entries-length, entries-next, beyond-next}
@@ -81,7 +81,14 @@ module _ (tables tables₁ tables′ : List ℕ) (n ek : ℕ) (e : Entry)
     boards = ap (λ (v : Tables). v .boards) written;
   }
 
--- linked by its Subject
+-- linked by its Subject, by what that finds
+module _ (v : Tables) (n : ℕ) {x : Subject} {m e : ℕ} (q : x ≡ Device m) (k : e ≡ entryOf (v .boards) m) where
+  pub linked-known : (e ≡ 0 → ⊥) → v ≡ linkedBy v n x
+  linked-known z = sym (ap (linkedBy v n) q ∙ ap (λ (b : Bool). cond b (withBoards v (linked (v .boards) n m)) v) (ne-eqb (entryOf (v .boards) m) 0 (λ w. z (k ∙ w))))
+
+  pub linked-new : e ≡ 0 → withBoards v (linked (v .boards) n m) ≡ linkedBy v n x
+  linked-new z = sym (ap (linkedBy v n) q ∙ ap (λ (b : Bool). cond b (withBoards v (linked (v .boards) n m)) v) (eq-eqb (entryOf (v .boards) m) 0 (sym k ∙ z)))
+
 module _ (tables tables′ : List ℕ) (n : ℕ) where
   pub enters-linked :
       {words : List ℕ} {ledger : List Entry} (x : Subject) → tablesIn tables′ ≡ linkedBy (tablesIn tables) n x → Falls (tablesIn tables .boards) n → Enters tables words (n + 1) ledger
@@ -97,15 +104,27 @@ module _ (tables tables′ : List ℕ) (n : ℕ) where
     where
       place : (x : Subject) (c : ℕ) → linkedBy (tablesIn tables) n x .entry c ≡ tablesIn tables .entry c
       place (Tpm m) c = refl
-      place (Device m) c = refl
+      place (Device m) c = go (eqb (entryOf (tablesIn tables .boards) m) 0)
+        where
+          go : (b : Bool) → cond b (withBoards (tablesIn tables) (linked (tablesIn tables .boards) n m)) (tablesIn tables) .entry c ≡ tablesIn tables .entry c
+          go true = refl
+          go false = refl
 
       falls : (x : Subject) → Falls (linkedBy (tablesIn tables) n x .boards) (n + 1)
       falls (Tpm m) = falls-more _ n f
-      falls (Device m) = falls-linked _ n m f
+      falls (Device m) = go (eqb (entryOf (tablesIn tables .boards) m) 0)
+        where
+          go : (b : Bool) → Falls (cond b (withBoards (tablesIn tables) (linked (tablesIn tables .boards) n m)) (tablesIn tables) .boards) (n + 1)
+          go true = falls-linked _ n m f
+          go false = falls-more _ n f
 
   pub keys-linked : {v : Tables} (x : Subject) → tablesIn tables′ ≡ linkedBy (tablesIn tables) n x → SameKeys v (tablesIn tables) → SameKeys v (tablesIn tables′)
   keys-linked {v} x k h = subst⁻¹ (SameKeys v) k (keys x)
     where
       keys : (x : Subject) → SameKeys v (linkedBy (tablesIn tables) n x)
       keys (Tpm m) = h
-      keys (Device m) = record { words = h .words; signer = h .signer; half = h .half }
+      keys (Device m) = go (eqb (entryOf (tablesIn tables .boards) m) 0)
+        where
+          go : (b : Bool) → SameKeys v (cond b (withBoards (tablesIn tables) (linked (tablesIn tables .boards) n m)) (tablesIn tables))
+          go true = record { words = h .words; signer = h .signer; half = h .half }
+          go false = h

@@ -5,32 +5,35 @@
 --     iak-issued, request-issued  3F; 40, 41, 42
 -- Assumes nothing.
 use mathlib.Core.Path.{_≡_, refl, sym, ap, subst⁻¹, _∙_}
-use mathlib.Core.Bool.{false, false≢true}
+use mathlib.Core.Bool.{Bool, true, false, false≢true, cond}
 use mathlib.Core.List.{List, [], _∷_, _++_, List·Memᴰ}
 use Prim.Native.Nat.{ℕ, _+_, _-_, _<_, _≤_}
 use native.Mathlib.Omega.{arith}
-use borrow.Author.Tests.{eqb-true, leb-true, not-true}
+use lib.Dec.{eqb}
+use borrow.Author.Tests.{eqb-true, eqb-false, leb-true, not-true}
 use Rattle.rules.specs.declared.Entry.{Entry}
 use Rattle.rules.specs.declared.Family.{Family}
 use Rattle.rules.specs.declared.Subject.{Subject}
+use Rattle.rules.specs.declared.Subject.the-variants.{Device}
 use Rattle.rules.specs.Limits.{termLimit, depthLimit}
 use Rattle.rules.specs.Families.{requestFamilies}
 use Rattle.rules.specs.File.{File, issueIak, issue, subject, certifiedKey, idevidCertificate, ldevidCertificate, leftOf}
 use Rattle.rules.specs.State.{State, numberUsed, credentialOpen, credentialClosed, put, listed, depthOf, learnt, opening, closing, entered}
-use Rattle.rules.specs.Desk.{requestBody, formTests, proofTests, ekCertificateOf, parentCertificateOf, calledFor, challengeEffect, issueIakTests, issueIakEffect, issueTests, issueEffect}
+use Rattle.rules.specs.Desk.{requestBody, formTests, proofTests, ekCertificateOf, parentCertificateOf, calledFor, endEk, issueIakTests, issueIakEffect, issueTests, issueEffect}
 use Rattle.rules.specs.Run.{testsOf, outcome, effectOf}
 use Rattle.theorems.proofs.Passing.{passed}
 use Rattle.theorems.proofs.Terms.{same-subject, device-subject}
+use Rattle.theorems.proofs.Ends.{new-one}
 use Rattle.theorems.proofs.Invariant.{descends}
 use Rattle.theorems.proofs.Requests.{DeskParent}
 use Rattle.state.specs.View.{Columns, view, withMark, withDesk, withRequest}
 use Rattle.state.proofs.Exact.{stateOf}
-use Rattle.tables.specs.Regions.{Boards, Tables, tablesIn, withEk, linked}
-use Rattle.boards.specs.Linked.{Falls}
+use Rattle.tables.specs.Regions.{Boards, Tables, tablesIn, withBoards, withEk, linked}
+use Rattle.boards.specs.Linked.{Falls, entryOf}
 use Rattle.loaded.specs.Loaded.{fileIn, Learns, Leaves}
 use Rattle.loaded.specs.Entries.{Enters, Boarded, Issues}
 use Rattle.loaded.proofs.Ledger.{ledger-length, entry-most, entry-listed}
-use Rattle.loaded.proofs.Boards.{falls-ek, boarded-linked, boarded-below}
+use Rattle.loaded.proofs.Boards.{found-ek, falls-ek, boarded-linked, boarded-known, boarded-below}
 use Rattle.issuance.specs.Appends.{Appends, linkedBy}
 use Rattle.issuance.specs.Issues.{IssuesIak, IssuesOnRequest}
 use Rattle.requests.proofs.Read.{is-kind-kind}
@@ -85,13 +88,37 @@ parent-place {bs} {s} {tables} {p = p} {q} i = (parent-noted bs s tables p q (i 
 pub same-ledger : {tables words : List ℕ} {n : ℕ} {a b : List Entry} → Enters tables words n a → Enters tables words n b → a ≡ b
 same-ledger x y = x .same ∙ sym (y .same)
 
+-- an IAK certificate's entry, linked where its Subject finds none
+iak-boarded :
+    (f : File) (tables tables₁ tables′ : List ℕ) {l : List Entry} {ek : ℕ} (e : Entry) (n m : ℕ) → ek ≡ certifiedKey f (e .parent)
+    → tablesIn tables₁ .boards ≡ withEk (tablesIn tables .boards) (put (tablesIn tables .boards .ek) n ek) → tablesIn tables′ ≡ linkedBy (tablesIn tables₁) n (Device m)
+    → Boarded f (tablesIn tables .boards) l
+    → Boarded f (linked (withEk (tablesIn tables .boards) (put (tablesIn tables .boards .ek) n (certifiedKey f (e .parent)))) n m) (l ++ (e ∷ []))
+    → (0 < entryOf (tablesIn tables .boards) m → Boarded f (withEk (tablesIn tables .boards) (put (tablesIn tables .boards .ek) n (certifiedKey f (e .parent)))) (l ++ (e ∷ [])))
+    → Boarded f (tablesIn tables′ .boards) (l ++ (e ∷ []))
+iak-boarded f tables tables₁ tables′ {l} {ek} e n m x a k v new known = go (eqb (entryOf (tablesIn tables₁ .boards) m) 0) refl k
+  where
+    before : Boards
+    before = withEk (tablesIn tables .boards) (put (tablesIn tables .boards .ek) n (certifiedKey f (e .parent)))
+
+    noted : tablesIn tables₁ .boards ≡ before
+    noted = a ∙ ap (λ (y : ℕ). withEk (tablesIn tables .boards) (put (tablesIn tables .boards .ek) n y)) x
+
+    go : (b : Bool) → eqb (entryOf (tablesIn tables₁ .boards) m) 0 ≡ b → tablesIn tables′ ≡ cond b (withBoards (tablesIn tables₁) (linked (tablesIn tables₁ .boards) n m)) (tablesIn tables₁)
+        → Boarded f (tablesIn tables′ .boards) (l ++ (e ∷ []))
+    go true q k = subst⁻¹ (λ (y : Boards). Boarded f y (l ++ (e ∷ []))) (ap (λ (y : Tables). y .boards) k ∙ ap (λ (y : Boards). linked y n m) noted) new
+    go false q k =
+        let z = eqb-false (entryOf (tablesIn tables₁ .boards) m) 0 q in
+        let t : entryOf (tablesIn tables₁ .boards) m ≡ entryOf (tablesIn tables .boards) m = ap (λ (y : Boards). entryOf y m) noted ∙ found-ek (tablesIn tables .boards) _ m in
+        subst⁻¹ (λ (y : Boards). Boarded f y (l ++ (e ∷ []))) (ap (λ (y : Tables). y .boards) k ∙ noted) (known (omega (arith, t)))
+
 pub iak-issued :
     {bs s s₁ s₂ tables words tables₁ tables′ words′ : List ℕ} {n p c r request body parent ek : ℕ} {named : Subject}
     → IssuesIak bs s tables words n p c r → request ≡ view s .request c → body ≡ leftOf (fileIn bs) request → parent ≡ idevidCertificate (fileIn bs) body → named ≡ subject (fileIn bs) body → ek ≡ certifiedKey (fileIn bs) parent
     → Learns bs s s₁ p r → view s₂ ≡ withMark (view s₁) (put (view s₁ .mark) c credentialClosed) → Appends tables words n (record { certificate = r; parent = parent; depth = 1 }) ek tables₁ words′
     → tablesIn tables′ ≡ linkedBy (tablesIn tables₁) n named
     → (other : ℕ) → Issues bs s tables words n (issueIak p other c r) s₂ tables′ words′
-unfolding effectOf issueIakEffect entered closing ekCertificateOf requestBody
+unfolding effectOf issueIakEffect entered closing ekCertificateOf requestBody endEk
 iak-issued {bs} {s} {s₁} {s₂} {tables} {words} {tables₁} {tables′} {n = n} {p} {c} {r} {request} {body} {parent} {ek} {named} i q b e u x w m a k other =
     let f = fileIn bs in
     let above : parent ≡ ekCertificateOf f (view s .request c) = e ∙ ap (idevidCertificate f) (b ∙ ap (leftOf f) q) in
@@ -107,15 +134,11 @@ iak-issued {bs} {s} {s₁} {s₂} {tables} {words} {tables₁} {tables′} {n = 
           let z = inv .opened c (i .wellformed .2) (iak-open f (stateOf (view s) old) p (i .other) c r (accepted old h)) in
           let d = device-subject _ (z .deviceSubject) in
           let own : subject f (requestBody f (view s .request c)) ≡ subject f body = ap (subject f) (sym (b ∙ ap (leftOf f) q)) in
-          let now : tablesIn tables′ .boards ≡ linked (withEk (tablesIn tables .boards) (put (tablesIn tables .boards .ek) n (certifiedKey f parent))) n (d .0) =
-          ap (λ (y : Tables). y .boards) (k ∙ ap (linkedBy (tablesIn tables₁) n) (u ∙ sym own ∙ d .1))
-          ∙ ap (λ (y : Boards). linked y n (d .0)) (a .boards)
-          ∙ ap (λ (y : ℕ). linked (withEk (tablesIn tables .boards) (put (tablesIn tables .boards .ek) n y)) n (d .0)) x
-          in
-          subst⁻¹ (λ (y : Boards). Boarded f y (old ++ (next parent ∷ []))) now
-          (boarded-linked f old (inv .once) (descends f (stateOf (view s) old) inv) (tablesIn tables .boards) v (next parent)
-          (λ t. false≢true (sym (iak-new f (stateOf (view s) old) p (i .other) c r (accepted old h)) ∙ t)) n (ledger-length r h) (h .falls) (d .0)
-          (iak-subject f (stateOf (view s) old) p (i .other) c r (accepted old h) ∙ d .1) refl);
+          let new : listed old r ≡ true → ⊥ = λ t. false≢true (sym (iak-new f (stateOf (view s) old) p (i .other) c r (accepted old h)) ∙ t) in
+          let known = iak-subject f (stateOf (view s) old) p (i .other) c r (accepted old h) ∙ d .1 in
+          iak-boarded f tables tables₁ tables′ {l = old} (next parent) n (d .0) x (a .boards) (k ∙ ap (linkedBy (tablesIn tables₁) n) (u ∙ sym own ∙ d .1)) v
+          (boarded-linked f old (inv .once) (descends f (stateOf (view s) old) inv) (tablesIn tables .boards) v (next parent) new n (ledger-length r h) (h .falls) (d .0) known refl)
+          (λ q. boarded-known f old (inv .once) (descends f (stateOf (view s) old) inv) (tablesIn tables .boards) v (next parent) new n (ledger-length r h) (certifiedKey f parent) (d .0) (ap (certifiedKey f) (sym (new-one old (next parent) new refl))) known q);
       places = ap (λ (v : Columns). v .place) m ∙ w .places;
       keys = keys-linked tables₁ tables′ n named k (a .keys);
     }

@@ -220,14 +220,18 @@ fn append(
     entries::note_entry(words, n, certificate as u16, parent as u16, depth);
 }
 
-// The entry at a place is linked by its Subject.
+// The entry at a place is linked by its Subject, where that finds none.
 fn link(tables: &mut [u16; tables::WORDS], n: usize, subject: Subject)
-    requires { ⌜ (length (now tables) ≡ tableWords) × (n < termLimit) ⌝ }
+    requires { ⌜ (length (now tables) ≡ tableWords) × (n < termLimit) × Falls (tablesIn (now tables) .boards) termLimit ⌝ }
     ensures { λ _. ⌜ tablesIn (now (tables .exit)) ≡ linkedBy (tablesIn (now (tables .entry))) n subject ⌝ }
 {
     let Subject::Device(serial) = subject else {
         return;
     };
+    let entry = boards::entry_of(tables, serial);
+    if entry != 0 {
+        return;
+    }
     tables::link(tables, n, serial);
 }
 

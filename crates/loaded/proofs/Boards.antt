@@ -3,6 +3,7 @@
 --     entered-falls                no list goes beyond the ledger
 --     boarded-none                 no entries
 --     boarded-linked               an entry more, whose parent ends its path, linked by its Subject
+--     boarded-known                one whose Subject finds an entry already
 --     boarded-below                one below another
 -- Assumes nothing.
 use mathlib.Core.Path.{_≡_, refl, sym, ap, subst, subst⁻¹, _∙_}
@@ -86,7 +87,7 @@ boarded-none f b u = record {
 }
 
 -- what a serial number finds, and the lists, by columns other than the EKs
-found-ek : (b : Boards) (c : ℕ → ℕ) (s : ℕ) → entryOf (withEk b c) s ≡ entryOf b s
+pub found-ek : (b : Boards) (c : ℕ → ℕ) (s : ℕ) → entryOf (withEk b c) s ≡ entryOf b s
 unfolding entryOf
 found-ek b c s = refl
 
@@ -105,6 +106,7 @@ module _
       (at-appended l e i x h)
 
   module _ (falls : Falls b n) (m : ℕ) (named : subject f (e .certificate) ≡ Device m) (d : e .depth ≡ 1) where
+    -- where it finds none, it is linked
     pub boarded-linked : Boarded f (linked (withEk b (put (b .ek) n (certifiedKey f (e .parent)))) n m) (l ++ (e ∷ []))
     unfolding endEk
     boarded-linked = record {
@@ -136,21 +138,26 @@ module _
             let v = w .right s (subst (λ (u : ℕ). 0 < u) q p) in
             (v .0, ap (λ (u : ℕ). getElem? (l ++ (e ∷ [])) (u - 1)) q ∙ at-kept l (e ∷ []) (entryOf b s - 1) (v .0) (v .1), v .2)
 
+  -- a serial number that finds an entry already
+  pub boarded-known : (k m : ℕ) → k ≡ endEk f (l ++ (e ∷ [])) e → subject f (e .certificate) ≡ Device m → 0 < entryOf b m → Boarded f (withEk b (put (b .ek) n k)) (l ++ (e ∷ []))
+  boarded-known k m q named known = record {
+    ek = ek-next k q;
+    found =
+        λ i x h.
+        ⊎-elim (λ a. let v = w .found i x a in (v .0, v .1, some-found (v .0) (v .2))) (λ a. (m, ap (λ (y : Entry). subject f (y .certificate)) (a .1) ∙ named, some-found m known))
+        (at-appended l e i x h);
+    right =
+        λ s p.
+        let v = w .right s (subst (λ (t : ℕ). 0 < t) (found-ek b (put (b .ek) n k) s) p) in
+        (v .0, ap (λ (u : ℕ). getElem? (l ++ (e ∷ [])) (u - 1)) (found-ek b (put (b .ek) n k) s) ∙ at-kept l (e ∷ []) (entryOf b s - 1) (v .0) (v .1), v .2);
+  }
+    where
+      some-found : (s : ℕ) → 0 < entryOf b s → 0 < entryOf (withEk b (put (b .ek) n k)) s
+      some-found s p = subst⁻¹ (λ (t : ℕ). 0 < t) (found-ek b (put (b .ek) n k) s) p
+
   module _ (j : ℕ) (g : Entry) (here : getElem? l j ≡ some g) (above : g .certificate ≡ e .parent) (d : e .depth ≡ suc (g .depth)) (named : subject f (e .certificate) ≡ subject f (g .certificate)) where
     pub boarded-below : Boarded f (withEk b (put (b .ek) n (b .ek j))) (l ++ (e ∷ []))
     unfolding endEk
-    boarded-below = record {
-      ek = ek-next (b .ek j) (w .ek j g here ∙ ap (certifiedKey f) (sym (new-below l e new once descends j g here above d)));
-      found =
-          λ i x h.
-          ⊎-elim (λ a. let v = w .found i x a in (v .0, v .1, some-found (v .0) (v .2)))
-          (λ a. let v = w .found j g here in (v .0, ap (λ (y : Entry). subject f (y .certificate)) (a .1) ∙ named ∙ v .1, some-found (v .0) (v .2)))
-          (at-appended l e i x h);
-      right =
-          λ s p.
-          let v = w .right s (subst (λ (t : ℕ). 0 < t) (found-ek b (put (b .ek) n (b .ek j)) s) p) in
-          (v .0, ap (λ (u : ℕ). getElem? (l ++ (e ∷ [])) (u - 1)) (found-ek b (put (b .ek) n (b .ek j)) s) ∙ at-kept l (e ∷ []) (entryOf b s - 1) (v .0) (v .1), v .2);
-    }
-      where
-        some-found : (s : ℕ) → 0 < entryOf b s → 0 < entryOf (withEk b (put (b .ek) n (b .ek j))) s
-        some-found s p = subst⁻¹ (λ (t : ℕ). 0 < t) (found-ek b (put (b .ek) n (b .ek j)) s) p
+    boarded-below =
+        let v = w .found j g here in
+        boarded-known (b .ek j) (v .0) (w .ek j g here ∙ ap (certifiedKey f) (sym (new-below l e new once descends j g here above d))) (named ∙ v .1) (v .2)

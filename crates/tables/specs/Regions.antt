@@ -23,7 +23,7 @@ newestStart = entryStart + termLimit
 
 -- serial numbers of devices with the same rest share a bucket
 abbrev pub bucketCount : ℕ
-bucketCount = 256
+bucketCount = 1024
 
 abbrev pub bucketOf : ℕ → ℕ
 bucketOf serial = serial % bucketCount

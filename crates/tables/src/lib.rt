@@ -15,8 +15,8 @@ pub const ENTRIES: usize = HALVES + rules::TERM_LIMIT;
 
 pub const NEWEST: usize = ENTRIES + rules::TERM_LIMIT;
 
-// Serial numbers with the same low byte share a bucket.
-pub const BUCKETS: usize = 256;
+// Serial numbers with the same low ten bits share a bucket.
+pub const BUCKETS: usize = 1024;
 
 pub const SERIALS: usize = NEWEST + BUCKETS;
 

@@ -1,6 +1,10 @@
-use mathlib.Core.Path.{_∙_}
+use mathlib.Core.Path.{subst⁻¹, _∙_}
 use native.Mathlib.Omega.{arith}
 use borrow.Author.Needs.{needs}
+use Rattle.rules.specs.Limits.{termLimit}
+use Rattle.tables.specs.Regions.{Boards}
+use Rattle.boards.specs.Linked.{Falls}
+use Rattle.loaded.proofs.Boards.{falls-ek, entered-falls}
 use Rattle.loaded.proofs.Standing.{checked-here, kind-declared, term-here, left-declared, idevid-certificate-declared}
 use Rattle.issuance.proofs.Endorsement.{endorsement-here, ek-few}
 use Rattle.issuance.proofs.Issued.{iak-issued}
@@ -60,7 +64,10 @@ append-requires c κs =
     (i .words, i .accepts .enters .room, i .accepts .more, omega (arith, few, l), rw (c .before .before .before .before .before .before .before .before .before .before .before .before .idevid-request-of .ensures .1, c .before .before .before .before .before .before .before .before .before .before .before .before .before .before .pair-of .ensures .0, c .before .before .before .before .before .before .before .before .before .before .before .before .before .before .before .before .request-of .ensures) (omega (arith, few, m)))
 
 link-requires : tie.Need-link-requires
-link-requires c κs = let i = c .before .before .before .before .before .before .before .before .before .before .before .before .before .before .before .before .before .before .before .before .before .before .pre .1 in (c .before .append .ensures .keys .words ∙ i .words, i .accepts .more)
+link-requires c κs =
+    let i = c .before .before .before .before .before .before .before .before .before .before .before .before .before .before .before .before .before .before .before .before .before .before .pre .1 in
+    let a = c .before .append .ensures in
+    (a .keys .words ∙ i .words, i .accepts .more, subst⁻¹ (λ (b : Boards). Falls b termLimit) (a .boards) (falls-ek _ _ termLimit (entered-falls (_, _, i .accepts .enters))))
 
 same-length : tie.Need-same-length
 same-length c = search needs
