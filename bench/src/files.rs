@@ -347,9 +347,19 @@ fn requested(f: &mut Draft, serial: u16, certificate: u16, key: u16, key_: u16) 
     [body, hash, signature, f.pair(body, signature)]
 }
 
-/// As many IAK certificates as a file has terms for: Subjects whose serial numbers are so far apart, each by so many OEM desks, all on one
-/// EK. Then the first Subject is asked for on another EK, again and again (31).
-fn subjects(apart: u16, desks: u8) -> Draft {
+/// Serial numbers in a row.
+fn in_a_row(i: u16) -> u16 {
+    100 + i
+}
+
+/// Serial numbers of which 64 after the other share their low ten bits.
+fn in_one_bucket(i: u16) -> u16 {
+    100 + 1_024 * (i % 64) + i / 64
+}
+
+/// As many IAK certificates as a file has terms for: of Subjects with these serial numbers, each by so many OEM desks, all on one EK. Then
+/// the first Subject is asked for on another EK, again and again (31).
+fn subjects(serial: fn(u16) -> u16, desks: u8) -> Draft {
     const OEM: u8 = 2;
     let (maker, device, first) = (0, 1, 2);
     let mut f = Draft::default();
@@ -365,7 +375,6 @@ fn subjects(apart: u16, desks: u8) -> Draft {
     let names: Vec<u16> = iaks.iter().map(|iak| f.hash(iak[0])).collect();
     // Of each enrolment the request, and of each desk the number, the credential and the certificate.
     let mut enrolments = Vec::new();
-    let mut serial = 100;
     let enrol = |f: &mut Draft, serial: u16, which: usize, desks: u8| {
         let request = requested(f, serial, certificates[which], iaks[which][0], iaks[which][1]);
         let asked: Vec<[u16; 3]> = (0..desks as usize)
@@ -378,11 +387,10 @@ fn subjects(apart: u16, desks: u8) -> Draft {
         (request, asked)
     };
     while f.terms + 4 + 3 * desks as u16 + 7 <= TERM_LIMIT {
-        let made = enrol(&mut f, serial, 0, desks);
+        let made = enrol(&mut f, serial(enrolments.len() as u16), 0, desks);
         enrolments.push(made);
-        serial += apart;
     }
-    let last = enrol(&mut f, 100, 1, 1);
+    let last = enrol(&mut f, serial(0), 1, 1);
     enrolments.push(last);
     f.act(0x21, maker, maker_);
     f.act(0x22, maker, maker_);
@@ -475,9 +483,9 @@ pub fn run() -> Vec<File> {
         ("refused: commands 30", maker(false, false)),
         ("refused: commands 30 to 37, shuffled", maker(false, true)),
         ("commands 3F", issuing()),
-        ("commands 3F, Subjects in a row", subjects(1, 1)),
-        ("commands 3F, made against the lists of serial numbers", subjects(256, 1)),
-        ("commands 3F, the same by six desks", subjects(256, 6)),
+        ("commands 3F, Subjects in a row", subjects(in_a_row, 1)),
+        ("commands 3F, made against the lists of serial numbers", subjects(in_one_bucket, 1)),
+        ("commands 3F, the same by six desks", subjects(in_one_bucket, 6)),
         ("1,023 pairs inside each other, sent to seven parties", nested_and_sent()),
         ("set-up 20, of 1,022 certificates in turn to 8 parties", learning_in_turn()),
     ])

@@ -532,11 +532,11 @@ def s_subject_of_all_families():
 
 
 @case
-def s_subjects_with_one_low_byte():
-    """Serial numbers that differ in their high byte alone, each on its own EK: each is found among the others."""
+def s_subjects_alike_in_ten_bits():
+    """Serial numbers with the same low ten bits, each on its own EK: each is found among the others."""
     w = enrolled()
     eks = [first(w)] + [endorsed(w, 40 + i, B2) for i in range(3)]
-    serials = [100 + 256 * i for i in range(4)]
+    serials = [100 + 1024 * i for i in range(4)]
     number = 10
     for i in range(1, 4):
         second(w, eks[i], id=50 + i, number=number, subject=BOARD(serials[i]))

@@ -790,9 +790,9 @@ impl Town {
 
     fn device(&mut self, party: u8) {
         let subject = match self.devices.first() {
-            // Serial numbers that differ in their high byte alone.
+            // Serial numbers with the same low ten bits.
             Some(first) if self.rng.chance(30) => {
-                first.subject.wrapping_add(256 * self.devices.len() as u16)
+                first.subject.wrapping_add(1_024 * self.devices.len() as u16)
             }
             _ => self.id(),
         };

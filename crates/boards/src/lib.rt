@@ -4,8 +4,8 @@ ghost use Rattle.rules.specs.Limits.{termLimit};
 ghost use Rattle.tables.specs.Regions.{tablesIn};
 ghost use Rattle.boards.specs.Linked.{Falls, entryOf};
 
-// One more than the place of an entry with a serial number, or 0. The walk passes entries of its bucket alone: at most 64, where each serial
-// number is linked once.
+// One more than the place of an entry with a serial number, or 0. The walk passes entries of its bucket alone, at most 64 where each serial
+// number is linked once: law lists-short of proofs/Bound.antt.
 pub fn entry_of(tables: &[u16; tables::WORDS], serial: u16) -> u16
     requires { ⌜ Falls (tablesIn (now tables) .boards) termLimit ⌝ }
     ensures { λ r. ⌜ r ≡ entryOf (tablesIn (now (tables .entry)) .boards) serial ⌝ }

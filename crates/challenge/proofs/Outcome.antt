@@ -6,7 +6,6 @@
 use mathlib.Core.Path.{_≡_, refl, sym, ap, _∙_}
 use mathlib.Core.List.{List, _∷_, _++_}
 use Prim.Native.Nat.{ℕ}
-use native.Mathlib.Omega.{arith}
 use Rattle.rules.specs.declared.Subject.{Subject}
 use Rattle.rules.specs.Limits.{oemDesk}
 use Rattle.rules.specs.Refusals.{Test, need}

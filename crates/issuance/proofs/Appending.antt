@@ -6,11 +6,11 @@
 use mathlib.Core.Path.{_≡_, refl, sym, ap, subst⁻¹, _∙_}
 use mathlib.Core.Bool.{Bool, true, false, cond, _||_, false≢true}
 use mathlib.Core.List.{List, [], _∷_, _++_}
-use Prim.Native.Nat.{ℕ, suc, _+_, _<_, _≤_}
+use Prim.Native.Nat.{ℕ, suc, _+_, _<_}
 use native.Mathlib.Omega.{arith}
 use lib.Dec.{eqb}
 use lib.ListN.{length, getD}
-use borrow.Author.Tests.{eqb-true, eqb-false, eq-eqb, ne-eqb, not-true}
+use borrow.Author.Tests.{eqb-true, eqb-false, eq-eqb, ne-eqb}
 use Rattle.rules.specs.declared.Entry.{Entry}
 use Rattle.rules.specs.declared.Subject.{Subject}
 use Rattle.rules.specs.declared.Subject.the-variants.{Tpm, Device}
@@ -21,7 +21,7 @@ use Rattle.tables.specs.Regions.{Boards, Tables, tablesIn, withBoards, withEk, 
 use Rattle.boards.specs.Linked.{Falls, entryOf}
 use Rattle.boards.proofs.Walk.{falls-linked, falls-more}
 use Rattle.entries.specs.Words.{ledgerWords, entriesIn, withEntry}
-use Rattle.entries.proofs.Words.{words-length, entries-length, entries-next, beyond-next}
+use Rattle.entries.proofs.Words.{words-length, entries-next, beyond-next}
 use Rattle.loaded.specs.Entries.{entryFrom, Enters, SameKeys}
 use Rattle.loaded.proofs.Boards.{falls-ek}
 use Rattle.issuance.specs.Appends.{Appends, linkedBy}

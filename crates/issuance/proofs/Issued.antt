@@ -18,7 +18,7 @@ use Rattle.rules.specs.declared.Subject.the-variants.{Device}
 use Rattle.rules.specs.Limits.{termLimit, depthLimit}
 use Rattle.rules.specs.Families.{requestFamilies}
 use Rattle.rules.specs.File.{File, issueIak, issue, subject, certifiedKey, idevidCertificate, ldevidCertificate, leftOf}
-use Rattle.rules.specs.State.{State, numberUsed, credentialOpen, credentialClosed, put, listed, depthOf, learnt, opening, closing, entered}
+use Rattle.rules.specs.State.{State, credentialOpen, credentialClosed, put, listed, depthOf, learnt, closing, entered}
 use Rattle.rules.specs.Desk.{requestBody, formTests, proofTests, ekCertificateOf, parentCertificateOf, calledFor, endEk, issueIakTests, issueIakEffect, issueTests, issueEffect}
 use Rattle.rules.specs.Run.{testsOf, outcome, effectOf}
 use Rattle.theorems.proofs.Passing.{passed}
@@ -26,11 +26,11 @@ use Rattle.theorems.proofs.Terms.{same-subject, device-subject}
 use Rattle.theorems.proofs.Ends.{new-one}
 use Rattle.theorems.proofs.Invariant.{descends}
 use Rattle.theorems.proofs.Requests.{DeskParent}
-use Rattle.state.specs.View.{Columns, view, withMark, withDesk, withRequest}
+use Rattle.state.specs.View.{Columns, view, withMark}
 use Rattle.state.proofs.Exact.{stateOf}
 use Rattle.tables.specs.Regions.{Boards, Tables, tablesIn, withBoards, withEk, linked}
 use Rattle.boards.specs.Linked.{Falls, entryOf}
-use Rattle.loaded.specs.Loaded.{fileIn, Learns, Leaves}
+use Rattle.loaded.specs.Loaded.{fileIn, Learns}
 use Rattle.loaded.specs.Entries.{Enters, Boarded, Issues}
 use Rattle.loaded.proofs.Ledger.{ledger-length, entry-most, entry-listed}
 use Rattle.loaded.proofs.Boards.{found-ek, falls-ek, boarded-linked, boarded-known, boarded-below}

@@ -5,10 +5,7 @@ use mathlib.Core.Bool.{true, false, false≢true}
 use mathlib.Core.List.{List, [], _∷_}
 use Prim.Native.Nat.{ℕ, zero, suc}
 use native.Mathlib.Omega.{arith}
-use lib.ListN.{getD}
-use Rattle.rules.specs.declared.Entry.{Entry}
 use Rattle.rules.specs.declared.Family.{Family}
-use Rattle.rules.specs.Refusals.{applies}
 use Rattle.rules.specs.File.{File, issue, subject}
 use Rattle.rules.specs.State.{State, parentOf, endOf}
 use Rattle.rules.specs.Desk.{formTests, proofTests, calledFor, issueTests}

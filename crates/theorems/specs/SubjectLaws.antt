@@ -8,7 +8,7 @@ use lib.ListN.{getD}
 use Rattle.rules.specs.declared.Entry.{Entry}
 use Rattle.rules.specs.declared.Family.{Family}
 use Rattle.rules.specs.declared.Subject.{Subject}
-use Rattle.rules.specs.File.{File, Command, issue, subject}
+use Rattle.rules.specs.File.{File, issue, subject}
 use Rattle.rules.specs.Load.{loaded, load}
 use Rattle.rules.specs.State.{State, endOf}
 use Rattle.rules.specs.Desk.{endEk, allEndAt}

@@ -4,7 +4,7 @@ use Prim.Native.Nat.{_-_, _≤_}
 use native.Mathlib.Omega.{arith}
 use Rattle.rules.specs.Limits.{termLimit}
 use Rattle.tables.specs.Regions.{tablesIn}
-use Rattle.boards.specs.Linked.{Falls, walk, entryOf}
+use Rattle.boards.specs.Linked.{walk, entryOf}
 use Rattle.boards.proofs.Walk.{walk-none, walk-here, walk-next}
 use Rattle.boards.proofs.entry_of.Statement.{statement}
 use Rattle.boards.proofs.entry_of.Tie as tie
