@@ -13,7 +13,7 @@ use borrow.Author.Tests.{eqb-true, eqb-false, eq-eqb, ne-eqb}
 use Rattle.rules.specs.State.{put}
 use Rattle.theorems.specs.Residency.{All}
 use Rattle.theorems.proofs.Pigeonhole.{pigeonhole}
-use Rattle.tables.specs.Regions.{bucketCount, bucketOf, Boards, Unlinked, withEk, linked}
+use Rattle.tables.specs.Regions.{serialBuckets, serialBucket, Boards, Unlinked, withEk, linked}
 use Rattle.boards.specs.Linked.{Falls, walk, entryOf}
 use Rattle.boards.proofs.Walk.{falls-linked, falls-more}
 
@@ -22,7 +22,7 @@ abbrev pub serialLimit : ℕ
 serialLimit = 65536
 
 abbrev pub listLimit : ℕ
-listLimit = serialLimit / bucketCount
+listLimit = serialLimit / serialBuckets
 
 -- the places of at most k entries, from the entry e on
 pub listFrom : (ℕ → ℕ) → ℕ → ℕ → List ℕ
@@ -52,9 +52,9 @@ walk-list serials earlier s (suc k) e = go (eqb e 0) refl (walk-list serials ear
         let d : e ≡ e - 1 + 1 = omega arith in
         ap (cond (eqb (serials (e - 1)) s) e) more ∙ ap (λ (t : ℕ). cond (eqb (serials (e - 1)) s) t (firstWith serials s (listFrom earlier k (earlier (e - 1))))) d
 
-pub walk-listed : (b : Boards) (s : ℕ) → entryOf b s ≡ firstWith (b .serial) s (listOf b (bucketOf s))
+pub walk-listed : (b : Boards) (s : ℕ) → entryOf b s ≡ firstWith (b .serial) s (listOf b (serialBucket s))
 unfolding entryOf
-walk-listed b s = walk-list (b .serial) (b .earlier) s (b .newest (bucketOf s)) (b .newest (bucketOf s))
+walk-listed b s = walk-list (b .serial) (b .earlier) s (b .newest (serialBucket s)) (b .newest (serialBucket s))
 
 -- a serial number that finds nothing is no entry's
 none-with : (serials : ℕ → ℕ) (s : ℕ) (ps : List ℕ) → firstWith serials s ps ≡ 0 → All (λ p. serials p ≡ s → ⊥) ps
@@ -96,7 +96,7 @@ apart-at serials (p ∷ ps) h (suc j) (suc k) l m e = ap suc (apart-at serials p
 record Spread (b : Boards) (n : ℕ) : Type 0 where
   falls : Falls b n
   places : (i : ℕ) → All (λ p. p < n) (listOf b i)
-  own : (i : ℕ) → All (λ p. (b .serial p < serialLimit) × (bucketOf (b .serial p) ≡ i)) (listOf b i)
+  own : (i : ℕ) → All (λ p. (b .serial p < serialLimit) × (serialBucket (b .serial p) ≡ i)) (listOf b i)
   apart : (i : ℕ) → Apart (b .serial) (listOf b i)
 
 -- lists made by linking, and by entries that are not linked
@@ -128,7 +128,7 @@ module _ (b : Boards) (n m : ℕ) (f : Falls b n) where
   unfolding put
   serial-new = rw (eq-eqb n n refl) refl
 
-  earlier-new : linked b n m .earlier n ≡ b .newest (bucketOf m)
+  earlier-new : linked b n m .earlier n ≡ b .newest (serialBucket m)
   unfolding put
   earlier-new = rw (eq-eqb n n refl) refl
 
@@ -149,11 +149,11 @@ list-enough b n f (suc k) (suc j) e l h = go (eqb e 0) refl (list-enough b n f k
 
 -- the lists with an entry more: its bucket's has it in front, the others are as they were
 module _ (b : Boards) (n m : ℕ) (f : Falls b n) where
-  own-list : listOf (linked b n m) (bucketOf m) ≡ n ∷ listOf b (bucketOf m)
+  own-list : listOf (linked b n m) (serialBucket m) ≡ n ∷ listOf b (serialBucket m)
   unfolding listFrom put
-  own-list = go (linked b n m .newest (bucketOf m)) (rw (eq-eqb (bucketOf m) (bucketOf m) refl) refl)
+  own-list = go (linked b n m .newest (serialBucket m)) (rw (eq-eqb (serialBucket m) (serialBucket m) refl) refl)
     where
-      go : (e : ℕ) → e ≡ n + 1 → listFrom (linked b n m .earlier) e e ≡ n ∷ listOf b (bucketOf m)
+      go : (e : ℕ) → e ≡ n + 1 → listFrom (linked b n m .earlier) e e ≡ n ∷ listOf b (serialBucket m)
       go e q =
           let s : e ≡ suc n = omega arith in
           ap (λ (t : ℕ). listFrom (linked b n m .earlier) t t) s
@@ -161,12 +161,12 @@ module _ (b : Boards) (n m : ℕ) (f : Falls b n) where
           ∙ ap (λ (t : ℕ). t ∷ listFrom (linked b n m .earlier) n (linked b n m .earlier t)) (let d : suc n - 1 ≡ n = omega arith in d)
           ∙ ap (λ (t : ℕ). n ∷ listFrom (linked b n m .earlier) n t) (earlier-new b n m f)
           ∙ ap (λ (ps : List ℕ). n ∷ ps)
-          (list-kept b n m f n (b .newest (bucketOf m)) (f .newest (bucketOf m))
-          ∙ list-enough b n f n (b .newest (bucketOf m)) (b .newest (bucketOf m)) (f .newest (bucketOf m)) (omega arith))
+          (list-kept b n m f n (b .newest (serialBucket m)) (f .newest (serialBucket m))
+          ∙ list-enough b n f n (b .newest (serialBucket m)) (b .newest (serialBucket m)) (f .newest (serialBucket m)) (omega arith))
 
-  other-list : (i : ℕ) → (i ≡ bucketOf m → ⊥) → listOf (linked b n m) i ≡ listOf b i
+  other-list : (i : ℕ) → (i ≡ serialBucket m → ⊥) → listOf (linked b n m) i ≡ listOf b i
   unfolding put
-  other-list i d = rw (ne-eqb i (bucketOf m) d) (list-kept b n m f (b .newest i) (b .newest i) (f .newest i))
+  other-list i d = rw (ne-eqb i (serialBucket m) d) (list-kept b n m f (b .newest i) (b .newest i) (f .newest i))
 
 -- different serial numbers stay so where each is as it was
 apart-kept : (s t : ℕ → ℕ) (n : ℕ) → ((p : ℕ) → p < n → t p ≡ s p) → (ps : List ℕ) → All (λ p. p < n) ps → Apart s ps → Apart t ps
@@ -180,9 +180,9 @@ module _ (b : Boards) (n m : ℕ) (low : m < serialLimit) (new : entryOf b m ≡
   next = linked b n m
 
   -- an old list in the new lists
-  kept-own : (i : ℕ) → All (λ p. (next .serial p < serialLimit) × (bucketOf (next .serial p) ≡ i)) (listOf b i)
+  kept-own : (i : ℕ) → All (λ p. (next .serial p < serialLimit) × (serialBucket (next .serial p) ≡ i)) (listOf b i)
   kept-own i =
-      all-both (λ p l w. subst⁻¹ (λ (x : ℕ). (x < serialLimit) × (bucketOf x ≡ i)) (serial-kept b n m (s .falls) p l) w) (listOf b i)
+      all-both (λ p l w. subst⁻¹ (λ (x : ℕ). (x < serialLimit) × (serialBucket x ≡ i)) (serial-kept b n m (s .falls) p l) w) (listOf b i)
       (s .places i) (s .own i)
 
   kept-apart : (i : ℕ) → Apart (next .serial) (listOf b i)
@@ -191,30 +191,30 @@ module _ (b : Boards) (n m : ℕ) (low : m < serialLimit) (new : entryOf b m ≡
   kept-places : (i : ℕ) → All (λ p. p < n + 1) (listOf b i)
   kept-places i = all-map (λ p l. omega arith) (listOf b i) (s .places i)
 
-  fresh : All (λ p. next .serial p ≡ next .serial n → ⊥) (listOf b (bucketOf m))
+  fresh : All (λ p. next .serial p ≡ next .serial n → ⊥) (listOf b (serialBucket m))
   fresh =
-      all-both (λ p l w e. w (sym (serial-kept b n m (s .falls) p l) ∙ e ∙ serial-new b n m (s .falls))) (listOf b (bucketOf m))
-      (s .places (bucketOf m)) (none-with (b .serial) m (listOf b (bucketOf m)) (sym (walk-listed b m) ∙ new))
+      all-both (λ p l w e. w (sym (serial-kept b n m (s .falls) p l) ∙ e ∙ serial-new b n m (s .falls))) (listOf b (serialBucket m))
+      (s .places (serialBucket m)) (none-with (b .serial) m (listOf b (serialBucket m)) (sym (walk-listed b m) ∙ new))
 
   -- of each list, whether it is the entry's own or not
-  each : (P : ℕ → List ℕ → Type 0) → P (bucketOf m) (n ∷ listOf b (bucketOf m)) → ((i : ℕ) → P i (listOf b i)) → (i : ℕ) → P i (listOf next i)
-  each P here there i = go (eqb i (bucketOf m)) refl
+  each : (P : ℕ → List ℕ → Type 0) → P (serialBucket m) (n ∷ listOf b (serialBucket m)) → ((i : ℕ) → P i (listOf b i)) → (i : ℕ) → P i (listOf next i)
+  each P here there i = go (eqb i (serialBucket m)) refl
     where
-      go : (c : Bool) → eqb i (bucketOf m) ≡ c → P i (listOf (linked b n m) i)
+      go : (c : Bool) → eqb i (serialBucket m) ≡ c → P i (listOf (linked b n m) i)
       go true q =
-          let d = eqb-true i (bucketOf m) q in
-          subst⁻¹ (λ (j : ℕ). P j (listOf (linked b n m) j)) d (subst⁻¹ (P (bucketOf m)) (own-list b n m (s .falls)) here)
-      go false q = subst⁻¹ (P i) (other-list b n m (s .falls) i (eqb-false i (bucketOf m) q)) (there i)
+          let d = eqb-true i (serialBucket m) q in
+          subst⁻¹ (λ (j : ℕ). P j (listOf (linked b n m) j)) d (subst⁻¹ (P (serialBucket m)) (own-list b n m (s .falls)) here)
+      go false q = subst⁻¹ (P i) (other-list b n m (s .falls) i (eqb-false i (serialBucket m) q)) (there i)
 
   spread-linked : Spread next (n + 1)
   unfolding Apart
   spread-linked = record {
     falls = falls-linked b n m (s .falls);
-    places = each (λ i ps. All (λ p. p < n + 1) ps) (omega arith, kept-places (bucketOf m)) kept-places;
+    places = each (λ i ps. All (λ p. p < n + 1) ps) (omega arith, kept-places (serialBucket m)) kept-places;
     own =
-        each (λ i ps. All (λ p. (next .serial p < serialLimit) × (bucketOf (next .serial p) ≡ i)) ps)
-        (subst⁻¹ (λ (x : ℕ). (x < serialLimit) × (bucketOf x ≡ bucketOf m)) (serial-new b n m (s .falls)) (low, refl), kept-own (bucketOf m)) kept-own;
-    apart = each (λ i ps. Apart (next .serial) ps) (fresh, kept-apart (bucketOf m)) kept-apart;
+        each (λ i ps. All (λ p. (next .serial p < serialLimit) × (serialBucket (next .serial p) ≡ i)) ps)
+        (subst⁻¹ (λ (x : ℕ). (x < serialLimit) × (serialBucket x ≡ serialBucket m)) (serial-new b n m (s .falls)) (low, refl), kept-own (serialBucket m)) kept-own;
+    apart = each (λ i ps. Apart (next .serial) ps) (fresh, kept-apart (serialBucket m)) kept-apart;
   }
 
 made-spread : {b : Boards} {n : ℕ} → Made b n → Spread b n
@@ -237,8 +237,8 @@ pub lists-short : {b : Boards} {n : ℕ} → Made b n → (i : ℕ) → length (
 lists-short {b} {n} d i =
     let s = made-spread d in
     let ps = listOf b i in
-    let own = all-at (λ p. (b .serial p < serialLimit) × (bucketOf (b .serial p) ≡ i)) ps (s .own i) in
-    pigeonhole listLimit (length ps) (λ j. b .serial (getD ps j 0) / bucketCount) (λ j l. let w = own j l .0 in omega arith)
+    let own = all-at (λ p. (b .serial p < serialLimit) × (serialBucket (b .serial p) ≡ i)) ps (s .own i) in
+    pigeonhole listLimit (length ps) (λ j. b .serial (getD ps j 0) / serialBuckets) (λ j l. let w = own j l .0 in omega arith)
     (λ j k l h e.
     let v = own j l .1 in
     let w = own k h .1 in

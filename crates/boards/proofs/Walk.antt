@@ -12,7 +12,7 @@ use native.Mathlib.Omega.{arith}
 use lib.Dec.{eqb}
 use borrow.Author.Tests.{eqb-true, eqb-false, eq-eqb, ne-eqb}
 use Rattle.rules.specs.State.{put}
-use Rattle.tables.specs.Regions.{bucketOf, Boards, linked}
+use Rattle.tables.specs.Regions.{serialBucket, Boards, linked}
 use Rattle.boards.specs.Linked.{Falls, walk, entryOf}
 
 module _ (b : Boards) (n : ℕ) (f : Falls b n) (s : ℕ) where
@@ -61,20 +61,20 @@ module _ (b : Boards) (n : ℕ) (f : Falls b n) (s : ℕ) where
 
   pub found-most : entryOf b s ≤ n
   unfolding entryOf
-  found-most = omega (arith, walk-most (b .newest (bucketOf s)) (b .newest (bucketOf s)), f .newest (bucketOf s))
+  found-most = omega (arith, walk-most (b .newest (serialBucket s)) (b .newest (serialBucket s)), f .newest (serialBucket s))
 
 -- an entry more at place n
 module _ (b : Boards) (n m : ℕ) (f : Falls b n) where
   pub falls-linked : Falls (linked b n m) (n + 1)
   unfolding put
-  falls-linked = record { newest = λ i. newest i (eqb i (bucketOf m)); earlier = λ i. earlier i (eqb i n) refl }
+  falls-linked = record { newest = λ i. newest i (eqb i (serialBucket m)); earlier = λ i. earlier i (eqb i n) refl }
     where
       newest : (i : ℕ) (c : Bool) → cond c (n + 1) (b .newest i) ≤ n + 1
       newest i true = omega arith
       newest i false = omega (arith, f .newest i)
 
-      earlier : (i : ℕ) (c : Bool) → eqb i n ≡ c → cond c (b .newest (bucketOf m)) (b .earlier i) ≤ i
-      earlier i true q = omega (arith, f .newest (bucketOf m), eqb-true i n q)
+      earlier : (i : ℕ) (c : Bool) → eqb i n ≡ c → cond c (b .newest (serialBucket m)) (b .earlier i) ≤ i
+      earlier i true q = omega (arith, f .newest (serialBucket m), eqb-true i n q)
       earlier i false q = f .earlier i
 
   -- entries below it are passed as before
@@ -95,7 +95,7 @@ module _ (b : Boards) (n m : ℕ) (f : Falls b n) where
 
   pub found-linked : (s : ℕ) → entryOf (linked b n m) s ≡ cond (eqb s m) (n + 1) (entryOf b s)
   unfolding entryOf put
-  found-linked s = go (eqb (bucketOf s) (bucketOf m)) refl (eqb s m) refl
+  found-linked s = go (eqb (serialBucket s) (serialBucket m)) refl (eqb s m) refl
     where
       same : n + 1 - 1 ≡ n
       same = omega arith
@@ -103,23 +103,23 @@ module _ (b : Boards) (n m : ℕ) (f : Falls b n) where
       own-serial : linked b n m .serial (n + 1 - 1) ≡ m
       own-serial = ap (linked b n m .serial) same ∙ rw (eq-eqb n n refl) refl
 
-      own-earlier : linked b n m .earlier (n + 1 - 1) ≡ b .newest (bucketOf m)
+      own-earlier : linked b n m .earlier (n + 1 - 1) ≡ b .newest (serialBucket m)
       own-earlier = ap (linked b n m .earlier) same ∙ rw (eq-eqb n n refl) refl
 
-      go : (c : Bool) → eqb (bucketOf s) (bucketOf m) ≡ c → (d : Bool) → eqb s m ≡ d
-          → walk (linked b n m .serial) (linked b n m .earlier) s (cond c (n + 1) (b .newest (bucketOf s))) (cond c (n + 1) (b .newest (bucketOf s)))
-          ≡ cond d (n + 1) (walk (b .serial) (b .earlier) s (b .newest (bucketOf s)) (b .newest (bucketOf s)))
+      go : (c : Bool) → eqb (serialBucket s) (serialBucket m) ≡ c → (d : Bool) → eqb s m ≡ d
+          → walk (linked b n m .serial) (linked b n m .earlier) s (cond c (n + 1) (b .newest (serialBucket s))) (cond c (n + 1) (b .newest (serialBucket s)))
+          ≡ cond d (n + 1) (walk (b .serial) (b .earlier) s (b .newest (serialBucket s)) (b .newest (serialBucket s)))
       go true q true r =
           let x = eqb-true s m r in
           walk-here (linked b n m) (n + 1) falls-linked s (n + 1) (λ h. omega arith) (own-serial ∙ sym x)
       go true q false r =
           let x = eqb-false s m r in
-          let y = eqb-true (bucketOf s) (bucketOf m) q in
+          let y = eqb-true (serialBucket s) (serialBucket m) q in
           walk-next (linked b n m) (n + 1) falls-linked s (n + 1) (λ h. omega arith) (λ h. x (sym (sym own-serial ∙ h)))
           ∙ ap (λ (e : ℕ). walk (linked b n m .serial) (linked b n m .earlier) s e e) (own-earlier ∙ ap (b .newest) (sym y))
-          ∙ kept s (b .newest (bucketOf s)) (b .newest (bucketOf s)) (f .newest (bucketOf s))
-      go false q true r = absurd (eqb-false (bucketOf s) (bucketOf m) q (ap bucketOf (eqb-true s m r)))
-      go false q false r = kept s (b .newest (bucketOf s)) (b .newest (bucketOf s)) (f .newest (bucketOf s))
+          ∙ kept s (b .newest (serialBucket s)) (b .newest (serialBucket s)) (f .newest (serialBucket s))
+      go false q true r = absurd (eqb-false (serialBucket s) (serialBucket m) q (ap serialBucket (eqb-true s m r)))
+      go false q false r = kept s (b .newest (serialBucket s)) (b .newest (serialBucket s)) (f .newest (serialBucket s))
 
 -- room for one more
 pub falls-more : (b : Boards) (n : ℕ) → Falls b n → Falls b (n + 1)
@@ -127,4 +127,4 @@ falls-more b n f = record { newest = λ i. omega (arith, f .newest i); earlier =
 
 pub found-none : (b : Boards) → ((i : ℕ) → b .newest i ≡ 0) → (s : ℕ) → entryOf b s ≡ 0
 unfolding entryOf walk
-found-none b none s = rw (none (bucketOf s)) refl
+found-none b none s = rw (none (serialBucket s)) refl

@@ -3,7 +3,7 @@
 use mathlib.Core.Bool.{cond}
 use Prim.Native.Nat.{ℕ, zero, suc, _-_, _≤_}
 use lib.Dec.{eqb}
-use Rattle.tables.specs.Regions.{bucketOf, Boards}
+use Rattle.tables.specs.Regions.{serialBucket, Boards}
 
 -- the lists of n entries: each entry stands before those of lower places
 pub record Falls (b : Boards) (n : ℕ) : Type 0 where
@@ -17,4 +17,4 @@ walk serials earlier serial (suc k) e = cond (eqb e 0) 0 (cond (eqb (serials (e 
 
 -- the entry found by a serial number
 unfoldable pub entryOf : Boards → ℕ → ℕ
-entryOf b serial = walk (b .serial) (b .earlier) serial (b .newest (bucketOf serial)) (b .newest (bucketOf serial))
+entryOf b serial = walk (b .serial) (b .earlier) serial (b .newest (serialBucket serial)) (b .newest (serialBucket serial))

@@ -10,7 +10,7 @@ pub fn entry_of(tables: &[u16; tables::WORDS], serial: u16) -> u16
     requires { ⌜ Falls (tablesIn (now tables) .boards) termLimit ⌝ }
     ensures { λ r. ⌜ r ≡ entryOf (tablesIn (now (tables .entry)) .boards) serial ⌝ }
 {
-    let mut e = tables::newest_of(tables, serial as usize % tables::BUCKETS);
+    let mut e = tables::newest_of(tables, serial as usize % tables::SERIAL_BUCKETS);
     while e != 0 {
         let place = e as usize - 1;
         if tables::serial_of(tables, place) == serial {

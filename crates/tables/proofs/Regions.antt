@@ -17,7 +17,7 @@ use lib.Seq.{getD-set-same, getD-set-other}
 use borrow.Author.Tests.{ltb-true, ltb-false, lt-ltb, eqb-true, eqb-false}
 use Rattle.rules.specs.Limits.{partyLimit, termLimit}
 use Rattle.rules.specs.State.{put}
-use Rattle.tables.specs.Regions.{signerStart, halfStart, entryStart, newestStart, bucketCount, bucketOf, serialStart, earlierStart, ekStart, tableWords, region, Boards, boardsIn, Unlinked, Tables, tablesIn, withSigner, withHalf, withEntry, withBoards, withEk, linked}
+use Rattle.tables.specs.Regions.{signerStart, halfStart, entryStart, newestStart, serialBuckets, serialBucket, serialStart, earlierStart, ekStart, tableWords, region, Boards, boardsIn, Unlinked, Tables, tablesIn, withSigner, withHalf, withEntry, withBoards, withEk, linked}
 
 pub region-at : (xs : List ℕ) (start size i : ℕ) → i < size → getD xs (start + i) 0 ≡ region xs start size i
 unfolding region
@@ -52,7 +52,7 @@ module _ (xs : List ℕ) (start size at x : ℕ) (outside : (u : ℕ) → u < si
 -- a store before the boards' regions
 boards-kept : (xs : List ℕ) (at x : ℕ) → at < newestStart → boardsIn (set xs at x) ≡ boardsIn xs
 boards-kept xs at x h = λ j. record {
-  newest = region-kept xs newestStart bucketCount at x (omega arith) j;
+  newest = region-kept xs newestStart serialBuckets at x (omega arith) j;
   serial = region-kept xs serialStart termLimit at x (omega arith) j;
   earlier = region-kept xs earlierStart termLimit at x (omega arith) j;
   ek = region-kept xs ekStart termLimit at x (omega arith) j;
@@ -98,15 +98,15 @@ module _ (xs : List ℕ) (i x : ℕ) (size : length xs ≡ tableWords) where
 
   pub put-ek : i < termLimit → tablesIn (set xs (ekStart + i) x) ≡ withBoards (tablesIn xs) (withEk (boardsIn xs) (put (boardsIn xs .ek) i x))
   put-ek h = let at = ekStart + i in others-kept xs at x (omega arith) ∙ ap (withBoards (tablesIn xs)) (λ j. record {
-    newest = region-kept xs newestStart bucketCount at x (omega arith) j;
+    newest = region-kept xs newestStart serialBuckets at x (omega arith) j;
     serial = region-kept xs serialStart termLimit at x (omega arith) j;
     earlier = region-kept xs earlierStart termLimit at x (omega arith) j;
     ek = region-put xs ekStart termLimit i x h (omega arith) j;
   })
 
-  put-newest : i < bucketCount → boardsIn (set xs (newestStart + i) x) ≡ record { newest = put (boardsIn xs .newest) i x; serial = boardsIn xs .serial; earlier = boardsIn xs .earlier; ek = boardsIn xs .ek }
+  put-newest : i < serialBuckets → boardsIn (set xs (newestStart + i) x) ≡ record { newest = put (boardsIn xs .newest) i x; serial = boardsIn xs .serial; earlier = boardsIn xs .earlier; ek = boardsIn xs .ek }
   put-newest h = let at = newestStart + i in λ j. record {
-    newest = region-put xs newestStart bucketCount i x h (omega arith) j;
+    newest = region-put xs newestStart serialBuckets i x h (omega arith) j;
     serial = region-kept xs serialStart termLimit at x (omega arith) j;
     earlier = region-kept xs earlierStart termLimit at x (omega arith) j;
     ek = region-kept xs ekStart termLimit at x (omega arith) j;
@@ -114,7 +114,7 @@ module _ (xs : List ℕ) (i x : ℕ) (size : length xs ≡ tableWords) where
 
   put-serial : i < termLimit → boardsIn (set xs (serialStart + i) x) ≡ record { newest = boardsIn xs .newest; serial = put (boardsIn xs .serial) i x; earlier = boardsIn xs .earlier; ek = boardsIn xs .ek }
   put-serial h = let at = serialStart + i in λ j. record {
-    newest = region-kept xs newestStart bucketCount at x (omega arith) j;
+    newest = region-kept xs newestStart serialBuckets at x (omega arith) j;
     serial = region-put xs serialStart termLimit i x h (omega arith) j;
     earlier = region-kept xs earlierStart termLimit at x (omega arith) j;
     ek = region-kept xs ekStart termLimit at x (omega arith) j;
@@ -122,7 +122,7 @@ module _ (xs : List ℕ) (i x : ℕ) (size : length xs ≡ tableWords) where
 
   put-earlier : i < termLimit → boardsIn (set xs (earlierStart + i) x) ≡ record { newest = boardsIn xs .newest; serial = boardsIn xs .serial; earlier = put (boardsIn xs .earlier) i x; ek = boardsIn xs .ek }
   put-earlier h = let at = earlierStart + i in λ j. record {
-    newest = region-kept xs newestStart bucketCount at x (omega arith) j;
+    newest = region-kept xs newestStart serialBuckets at x (omega arith) j;
     serial = region-kept xs serialStart termLimit at x (omega arith) j;
     earlier = region-put xs earlierStart termLimit i x h (omega arith) j;
     ek = region-kept xs ekStart termLimit at x (omega arith) j;
@@ -130,22 +130,22 @@ module _ (xs : List ℕ) (i x : ℕ) (size : length xs ≡ tableWords) where
 
 -- the three stores that link an entry
 pub put-linked :
-    (xs : List ℕ) (i serial old : ℕ) → length xs ≡ tableWords → i < termLimit → old ≡ boardsIn xs .newest (bucketOf serial)
-    → tablesIn (set (set (set xs (serialStart + i) serial) (earlierStart + i) old) (newestStart + bucketOf serial) (i + 1)) ≡ withBoards (tablesIn xs) (linked (boardsIn xs) i serial)
+    (xs : List ℕ) (i serial old : ℕ) → length xs ≡ tableWords → i < termLimit → old ≡ boardsIn xs .newest (serialBucket serial)
+    → tablesIn (set (set (set xs (serialStart + i) serial) (earlierStart + i) old) (newestStart + serialBucket serial) (i + 1)) ≡ withBoards (tablesIn xs) (linked (boardsIn xs) i serial)
 put-linked xs i serial old size h e =
     let ys = set xs (serialStart + i) serial in
     let zs = set ys (earlierStart + i) old in
     let ysize : length ys ≡ tableWords = length-set xs (serialStart + i) serial ∙ size in
     let zsize : length zs ≡ tableWords = length-set ys (earlierStart + i) old ∙ ysize in
-    let b : bucketOf serial < bucketCount = omega arith in
-    others-kept zs (newestStart + bucketOf serial) (i + 1) (omega arith)
-    ∙ ap (λ (v : Tables). withBoards v (boardsIn (set zs (newestStart + bucketOf serial) (i + 1)))) (others-kept ys (earlierStart + i) old (omega arith))
-    ∙ ap (λ (v : Tables). withBoards v (boardsIn (set zs (newestStart + bucketOf serial) (i + 1)))) (others-kept xs (serialStart + i) serial (omega arith))
+    let b : serialBucket serial < serialBuckets = omega arith in
+    others-kept zs (newestStart + serialBucket serial) (i + 1) (omega arith)
+    ∙ ap (λ (v : Tables). withBoards v (boardsIn (set zs (newestStart + serialBucket serial) (i + 1)))) (others-kept ys (earlierStart + i) old (omega arith))
+    ∙ ap (λ (v : Tables). withBoards v (boardsIn (set zs (newestStart + serialBucket serial) (i + 1)))) (others-kept xs (serialStart + i) serial (omega arith))
     ∙ ap (withBoards (tablesIn xs))
-    (put-newest zs (bucketOf serial) (i + 1) zsize b
-    ∙ ap (λ (v : Boards). record { newest = put (v .newest) (bucketOf serial) (i + 1); serial = v .serial; earlier = v .earlier; ek = v .ek }) (put-earlier ys i old ysize h)
-    ∙ ap (λ (v : Boards). record { newest = put (v .newest) (bucketOf serial) (i + 1); serial = v .serial; earlier = put (v .earlier) i old; ek = v .ek }) (put-serial xs i serial size h)
-    ∙ ap (λ (n : ℕ). record { newest = put (boardsIn xs .newest) (bucketOf serial) (i + 1); serial = put (boardsIn xs .serial) i serial; earlier = put (boardsIn xs .earlier) i n; ek = boardsIn xs .ek }) e)
+    (put-newest zs (serialBucket serial) (i + 1) zsize b
+    ∙ ap (λ (v : Boards). record { newest = put (v .newest) (serialBucket serial) (i + 1); serial = v .serial; earlier = v .earlier; ek = v .ek }) (put-earlier ys i old ysize h)
+    ∙ ap (λ (v : Boards). record { newest = put (v .newest) (serialBucket serial) (i + 1); serial = v .serial; earlier = put (v .earlier) i old; ek = v .ek }) (put-serial xs i serial size h)
+    ∙ ap (λ (n : ℕ). record { newest = put (boardsIn xs .newest) (serialBucket serial) (i + 1); serial = put (boardsIn xs .serial) i serial; earlier = put (boardsIn xs .earlier) i n; ek = boardsIn xs .ek }) e)
 
 -- every word of zeros is 0, inside and past their end
 pub zeros-at : (m i : ℕ) → getD {A = ℕ} (replicate m 0) i 0 ≡ 0
@@ -169,4 +169,4 @@ tables-none xs e t =
     (none halfStart, none entryStart)
 
 pub unlinked-none : (xs : List ℕ) → xs ≡ replicate tableWords 0 → Unlinked (boardsIn xs)
-unlinked-none xs e = record { newest = λ i. rw e (region-none tableWords newestStart bucketCount i); earlier = λ i. rw e (region-none tableWords earlierStart termLimit i) }
+unlinked-none xs e = record { newest = λ i. rw e (region-none tableWords newestStart serialBuckets i); earlier = λ i. rw e (region-none tableWords earlierStart termLimit i) }

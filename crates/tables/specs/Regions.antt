@@ -22,14 +22,14 @@ abbrev pub newestStart : ℕ
 newestStart = entryStart + termLimit
 
 -- serial numbers of devices with the same rest share a bucket
-abbrev pub bucketCount : ℕ
-bucketCount = 1024
+abbrev pub serialBuckets : ℕ
+serialBuckets = 1024
 
-abbrev pub bucketOf : ℕ → ℕ
-bucketOf serial = serial % bucketCount
+abbrev pub serialBucket : ℕ → ℕ
+serialBucket serial = serial % serialBuckets
 
 abbrev pub serialStart : ℕ
-serialStart = newestStart + bucketCount
+serialStart = newestStart + serialBuckets
 
 abbrev pub earlierStart : ℕ
 earlierStart = serialStart + termLimit
@@ -67,7 +67,7 @@ pub record Tables : Type 0 where
   pub boards : Boards
 
 abbrev pub boardsIn : List ℕ → Boards
-boardsIn xs = record { newest = region xs newestStart bucketCount; serial = region xs serialStart termLimit; earlier = region xs earlierStart termLimit; ek = region xs ekStart termLimit }
+boardsIn xs = record { newest = region xs newestStart serialBuckets; serial = region xs serialStart termLimit; earlier = region xs earlierStart termLimit; ek = region xs ekStart termLimit }
 
 abbrev pub tablesIn : List ℕ → Tables
 tablesIn xs = record { words = length xs; signer = region xs signerStart partyLimit; half = region xs halfStart termLimit; entry = region xs entryStart termLimit; boards = boardsIn xs }
@@ -91,4 +91,4 @@ withEk b c = record { newest = b .newest; serial = b .serial; earlier = b .earli
 
 -- the entry at a place linked by a serial number, before those of its bucket
 abbrev pub linked : Boards → ℕ → ℕ → Boards
-linked b i serial = record { newest = put (b .newest) (bucketOf serial) (i + 1); serial = put (b .serial) i serial; earlier = put (b .earlier) i (b .newest (bucketOf serial)); ek = b .ek }
+linked b i serial = record { newest = put (b .newest) (serialBucket serial) (i + 1); serial = put (b .serial) i serial; earlier = put (b .earlier) i (b .newest (serialBucket serial)); ek = b .ek }

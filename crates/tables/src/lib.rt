@@ -4,7 +4,7 @@ ghost use Prim.Native.Nat.{_<_};
 ghost use lib.ListN.{length};
 ghost use Rattle.rules.specs.Limits.{partyLimit, termLimit};
 ghost use Rattle.rules.specs.State.{put};
-ghost use Rattle.tables.specs.Regions.{bucketCount, tableWords, tablesIn, withSigner, withHalf, withEntry, withBoards, withEk, linked};
+ghost use Rattle.tables.specs.Regions.{serialBuckets, tableWords, tablesIn, withSigner, withHalf, withEntry, withBoards, withEk, linked};
 
 // Where each region starts, and how many words there are in all.
 pub const SIGNERS: usize = 0;
@@ -16,9 +16,9 @@ pub const ENTRIES: usize = HALVES + rules::TERM_LIMIT;
 pub const NEWEST: usize = ENTRIES + rules::TERM_LIMIT;
 
 // Serial numbers with the same low ten bits share a bucket.
-pub const BUCKETS: usize = 1024;
+pub const SERIAL_BUCKETS: usize = 1024;
 
-pub const SERIALS: usize = NEWEST + BUCKETS;
+pub const SERIALS: usize = NEWEST + SERIAL_BUCKETS;
 
 pub const EARLIER: usize = SERIALS + rules::TERM_LIMIT;
 
@@ -73,7 +73,7 @@ pub fn note_entry(tables: &mut [u16; WORDS], t: usize, entry: u16)
 
 // One more than the place of the entry that was linked last in a bucket, or 0.
 pub fn newest_of(tables: &[u16; WORDS], bucket: usize) -> u16
-    requires { ⌜ bucket < bucketCount ⌝ }
+    requires { ⌜ bucket < serialBuckets ⌝ }
     ensures { λ r. ⌜ r ≡ tablesIn (now (tables .entry)) .boards .newest bucket ⌝ }
 {
     tables[NEWEST + bucket]
@@ -115,7 +115,7 @@ pub fn link(tables: &mut [u16; WORDS], place: usize, serial: u16)
     requires { ⌜ (length (now tables) ≡ tableWords) × (place < termLimit) ⌝ }
     ensures { λ _. ⌜ tablesIn (now (tables .exit)) ≡ withBoards (tablesIn (now (tables .entry))) (linked (tablesIn (now (tables .entry)) .boards) place serial) ⌝ }
 {
-    let bucket = serial as usize % BUCKETS;
+    let bucket = serial as usize % SERIAL_BUCKETS;
     let old = newest_of(tables, bucket);
     tables[SERIALS + place] = serial;
     tables[EARLIER + place] = old;
