@@ -791,9 +791,9 @@ impl Town {
     fn device(&mut self, party: u8) {
         let subject = match self.devices.first() {
             // Serial numbers with the same low ten bits.
-            Some(first) if self.rng.chance(30) => {
-                first.subject.wrapping_add(1_024 * self.devices.len() as u16)
-            }
+            Some(first) if self.rng.chance(30) => first
+                .subject
+                .wrapping_add(1_024 * self.devices.len() as u16),
             _ => self.id(),
         };
         let attributes = self.rng.pick(&[0x0A, 0x02, 0x0A, 0x06, 0x0E]);
@@ -950,8 +950,14 @@ impl Town {
     fn endorsement(&mut self, d: usize, other: bool) -> (Key, u16) {
         let all = &self.devices[d].endorsements;
         let first = all[0].0.public;
-        let some: Vec<_> = all.iter().filter(|e| (e.0.public == first) != other).copied().collect();
-        self.rng.try_pick(&some).unwrap_or(self.devices[d].endorsements[0])
+        let some: Vec<_> = all
+            .iter()
+            .filter(|e| (e.0.public == first) != other)
+            .copied()
+            .collect();
+        self.rng
+            .try_pick(&some)
+            .unwrap_or(self.devices[d].endorsements[0])
     }
 
     /// Enrolment of an IAK on an endorsement certificate.
