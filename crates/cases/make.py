@@ -1,7 +1,8 @@
 #!/usr/bin/env python3
-"""Writes the stored scenario files of commands into data/: the situations of document 01 and of change requests 1 and 3, and for each command each refusal
-alone and beside the next one of its order. A name says what is expected: c31_15_16 is a 31 to which 15 and 16 apply, and 15 is its outcome.
-Usage: make.py [DIRECTORY]"""
+"""Writes the stored scenario files of commands into data/: the situations of document 01 and of change requests 1, 3 and 4, for each command each refusal
+alone and beside the next one of its order, and what loading refuses of a 43. A name says what is expected: c31_15_16 is a 31 to which 15 and 16 apply, and
+15 is its outcome; f07_43_... does not load, by 7.
+Usage: make.py [DIRECTORY [--expected]]"""
 import os
 import sys
 from collections import namedtuple
@@ -14,7 +15,7 @@ IAK, EK, DESK, DEVID = 0x0B, 0x0D, 0x0A, 0x0A
 class World:
     def __init__(self, *roles):
         self.roles, self.terms, self.setup, self.commands = list(roles), [], [], []
-        self.expected = []
+        self.expected, self.fault = [], None
 
     def term(self, kind, *body):
         record = bytes([kind, *body])
@@ -52,6 +53,17 @@ class World:
 
     def issue_iak(self, p, q, c, r, gives=0): self.commands.append(bytes([0x3F, p, q, *two(c), *two(r)])); self.expected.append(gives)
 
+    def issue_iaks(self, p, q, *pairs, gives=0):
+        """The pairs that are not given, up to four, are empty ones after them."""
+        body = [two(t) for pair in pairs + (4 - len(pairs)) * (EMPTY,) for t in pair]
+        self.commands.append(bytes([0x43, p, q, *sum(body, [])]))
+        self.expected.append(gives)
+
+    def refuses(self, number):
+        """The last record does not load."""
+        self.fault = number, len(self.file()) - len(self.commands[-1])
+        return self
+
     def file(self):
         return b"".join([bytes([0x01, r]) for r in self.roles] + self.terms + self.setup + self.commands)
 
@@ -59,6 +71,8 @@ class World:
 def two(x):
     return [x // 256, x % 256]
 
+
+EMPTY = 0xFFFF, 0xFFFF
 
 TPM = lambda n: (0, n)
 BOARD = lambda n: (1, n)
@@ -443,16 +457,23 @@ def certified(w, board, ek, subject):
 def first(w): return Endorsed(B, w.ek, w.ek_certificate)
 
 
-def second(w, under, id=30, number=10, subject=None, desk=D, signer=None, key=None, gives=0):
-    """Another IAK of a board is enrolled under an endorsement certificate; its certificate may name another key than the IAK."""
+def opened(w, under, id=30, number=10, subject=None, desk=D, signer=None, key=None, returned=True):
+    """Another IAK of a board is challenged under an endorsement certificate, and the board answers; the certificate asked for may name another key than
+    the IAK. Credential, certificate and private key."""
     iak, iak_ = w.public(id, IAK), w.private(id, IAK)
     w.holds(under.board, iak_)
     w.learns(under.board, iak)
     request(w, subject=subject, certificate=under.certificate, key=iak, key_=iak_, to=desk, by=under.board)
     challenge(w, number=number, desk=desk, name=w.hash(iak), ek=under.ek)
-    give_back(w, desk=desk, by=under.board)
-    c = iak_certificate(w, key=iak if key is None else key, subject=subject, signer=signer)
-    w.issue_iak(desk, under.board, w.open, c, gives=gives)
+    if returned:
+        give_back(w, desk=desk, by=under.board)
+    return w.open, iak_certificate(w, key=iak if key is None else key, subject=subject, signer=signer), iak_
+
+
+def second(w, under, desk=D, gives=0, **options):
+    """Another IAK of a board is enrolled."""
+    credential, c, iak_ = opened(w, under, desk=desk, **options)
+    w.issue_iak(desk, under.board, credential, c, gives=gives)
     return c, iak_
 
 
@@ -545,6 +566,145 @@ def s_subjects_alike_in_ten_bits():
         for j in range(4):
             second(w, eks[j], id=60 + 4 * i + j, number=number, subject=BOARD(serials[i]), gives=0 if i == j else 31)
             number += 1
+    return w
+
+
+# ---- situations of change request 4: all IAKs of a board together
+
+def several(count, w=None, **options):
+    """IAKs of the board, challenged and answered, as pairs of a 43."""
+    w = w or shop()
+    return w, [opened(w, first(w), id=30 + i, number=10 + i, **options)[:2] for i in range(count)]
+
+
+def unissued(w, pair, desk=D, by=B):
+    """Nothing is left of a pair: the desk does not know its certificate, and its credential is open."""
+    w.send(desk, by, pair[1], gives=14)
+    w.issue_iak(desk, by, *pair)
+
+
+@case
+def s_four_iaks_together():
+    """A board with four IAKs, enrolled by one 43; it gets the certificates."""
+    w, pairs = several(4)
+    w.issue_iaks(D, B, *pairs)
+    for _, c in pairs:
+        w.send(D, B, c)
+    return w
+
+
+@case
+def s_four_iaks_together_and_below():
+    """All families below IAKs that one 43 issued."""
+    w = shop()
+    iaks = [opened(w, first(w), id=30 + i, number=10 + i) for i in range(4)]
+    w.issue_iaks(D, B, *[x[:2] for x in iaks])
+    for _, c, _ in iaks:
+        w.send(D, B, c)
+    lak = grow(w, LAK, 22, iaks[0][1:])
+    grow(w, IDEVID, 23, iaks[3][1:])
+    grow(w, LDEVID, 24, lak)
+    grow(w, LDEVID, 25, iaks[2][1:])
+    return w
+
+
+@case
+def s_four_iaks_together_in_the_order_of_the_pairs():
+    w, (a, b, c, d) = several(4)
+    w.issue_iaks(D, B, d, b, a, c)
+    return w
+
+
+@case
+def s_three_iaks_together():
+    w, (a, b, c) = several(3)
+    w.issue_iaks(D, B, c, EMPTY, a, b)
+    return w
+
+
+@case
+def s_two_iaks_together():
+    w, (a, b, c, d) = several(4)
+    w.issue_iaks(D, B, b, EMPTY, EMPTY, a)
+    w.issue_iaks(D, B, EMPTY, d, c)
+    return w
+
+
+@case
+def s_one_iak_in_each_place():
+    w, pairs = several(4)
+    for i, pair in enumerate(pairs):
+        w.issue_iaks(D, B, *i * (EMPTY,), pair)
+    return w
+
+
+@case
+def s_together_and_alone():
+    """3F and 43 by turns."""
+    w, (a, b, c, d) = several(4)
+    w.issue_iak(D, B, *b)
+    w.issue_iaks(D, B, c, a)
+    w.issue_iak(D, B, *d)
+    w.issue_iaks(D, B, c, a, gives=25)
+    w.issue_iak(D, B, *a, gives=25)
+    return w
+
+
+@case
+def s_together_after_a_refusal():
+    """What a refused 43 would have issued is issued by the next one."""
+    w, (a, b, c) = several(3)
+    other = opened(w, first(w), id=40, number=20, returned=False)[:2]
+    w.issue_iaks(D, B, a, b, c, other, gives=26)
+    for _, r in (a, b, c, other):
+        w.send(D, B, r, gives=14)
+    w.issue_iaks(D, B, a, b, c)
+    give_back(w)
+    w.issue_iaks(D, B, other)
+    return w
+
+
+@case
+def s_together_two_eks_one_subject():
+    """The pair before carries the Subject, whichever of the two it is; alone each would be issued."""
+    w = shop()
+    a = opened(w, first(w))[:2]
+    b = opened(w, endorsed(w, 31, B), id=32, number=11)[:2]
+    w.issue_iaks(D, B, a, EMPTY, EMPTY, b, gives=31)
+    w.issue_iaks(D, B, b, a, gives=31)
+    w.issue_iaks(D, B, EMPTY, b)
+    w.issue_iaks(D, B, EMPTY, a, gives=31)
+    return w
+
+
+@case
+def s_together_two_eks_two_subjects():
+    w = shop()
+    a = opened(w, first(w))[:2]
+    b = opened(w, endorsed(w, 31, B), id=32, number=11, subject=BOARD(101))[:2]
+    w.issue_iaks(D, B, a, b)
+    return w
+
+
+@case
+def s_together_two_certificates_of_an_ek():
+    w = shop()
+    a = opened(w, first(w))[:2]
+    b = opened(w, certified(w, B, w.ek, TPM(2)), id=32, number=11)[:2]
+    w.issue_iaks(D, B, b, a)
+    return w
+
+
+@case
+def s_together_of_two_boards():
+    """One board returns the number of another, which sent it."""
+    w = shop()
+    a = opened(w, first(w))[:2]
+    b = opened(w, endorsed(w, 31, B2), id=32, number=11, subject=BOARD(101))[:2]
+    w.issue_iaks(D, B, a, b, gives=26)
+    w.issue_iaks(D, B2, b, a, gives=26)
+    w.send(B2, B, w.nonce)
+    w.issue_iaks(D, B, a, b)
     return w
 
 
@@ -1609,6 +1769,498 @@ def c42_23_28_lak_certificate(): return by_another_command(LAK, LDEVID, gives=23
 def c42_27_28_idevid_certificate(): return by_another_command(IDEVID, LDEVID, gives=27)
 
 
+# ---- 43
+
+@case
+def c43_13():
+    w, pairs = several(2)
+    w.issue_iaks(O, B, *pairs, gives=13)
+    unissued(w, pairs[0])
+    return w
+
+
+@case
+def c43_13_board():
+    w, pairs = several(2)
+    w.issue_iaks(B, B, *pairs, gives=13)
+    return w
+
+
+@case
+def c43_13_32_all_empty():
+    w = shop()
+    for p in (O, B, M):
+        w.issue_iaks(p, B, gives=13)
+    return w
+
+
+@case
+def c43_13_32_alike():
+    w, (a,) = several(1)
+    w.issue_iaks(O, B, a, a, gives=13)
+    return w
+
+
+@case
+def c43_13_25():
+    w, (a,) = several(1)
+    w.issue_iaks(D, B, a)
+    w.issue_iaks(O, B, a, gives=13)
+    return w
+
+
+@case
+def c43_32_all_empty():
+    w, (a,) = several(1)
+    w.issue_iaks(D, B, gives=32)
+    unissued(w, a)
+    return w
+
+
+def alike(i, j):
+    """One certificate in two places, each with a credential of its own, both open."""
+    w, (a, b, c, d) = several(4)
+    places = [a, b, c, d]
+    places[j] = places[j][0], places[i][1]
+    w.issue_iaks(D, B, *places, gives=32)
+    unissued(w, a)
+    return w
+
+
+for _i in range(4):
+    for _j in range(_i + 1, 4):
+        CASES["c43_32_alike_%d_%d" % (_i + 1, _j + 1)] = lambda i=_i, j=_j: alike(i, j)
+
+
+@case
+def c43_32_alike_between_empty_pairs():
+    w, (a, b) = several(2)
+    w.issue_iaks(D, B, EMPTY, a, EMPTY, (b[0], a[1]), gives=32)
+    unissued(w, a)
+    return w
+
+
+@case
+def c43_32_pair_twice():
+    w, (a,) = several(1)
+    w.issue_iaks(D, B, a, a, gives=32)
+    unissued(w, a)
+    return w
+
+
+@case
+def c43_32_25():
+    """The first pair is closed; the last two have one certificate."""
+    w, (a, b, c) = several(3)
+    w.issue_iaks(D, B, a)
+    w.issue_iaks(D, B, a, b, c, (b[0], c[1]), gives=32)
+    unissued(w, b)
+    return w
+
+
+@case
+def c43_32_26():
+    w, (a, b) = several(2)
+    w.issue_iaks(D, B2, a, (b[0], a[1]), gives=32)
+    return w
+
+
+@case
+def c43_32_all_empty_26():
+    w = shop()
+    w.issue_iaks(D, D, gives=32)
+    return w
+
+
+def never_opened(w):
+    """A credential that no challenge opened, and the certificate that it would be for."""
+    iak = w.public(41, IAK)
+    return w.credential(w.hash(iak), w.number(21), w.ek), iak_certificate(w, key=iak)
+
+
+def failing(place, pair, gives, before=None):
+    """A pair that fails in a place, the others fine: nothing is left of those."""
+    w, fine = several(3, w=before)
+    w.issue_iaks(D, B, *fine[:place], pair(w), *fine[place:], gives=gives)
+    unissued(w, fine[0])
+    w.issue_iaks(D, B, *fine[1:])
+    return w
+
+
+for _place, _name in enumerate(("first", "second", "third", "fourth")):
+    CASES["c43_25_never_opened_" + _name] = lambda i=_place: failing(i, never_opened, 25)
+
+
+@case
+def c43_25_other_desk():
+    """Open at another desk."""
+    w, (a,) = several(1)
+    oem2_ = w.private(14, DESK)
+    w.signs(D2, oem2_)
+    other = opened(w, first(w), id=40, number=20, desk=D2, signer=oem2_)[:2]
+    w.issue_iaks(D, B, a, other, gives=25)
+    w.issue_iaks(D2, B, other, a, gives=25)
+    unissued(w, a)
+    unissued(w, other, desk=D2)
+    return w
+
+
+@case
+def c43_25_closed():
+    w, (a, b) = several(2)
+    w.issue_iak(D, B, *b)
+    w.issue_iaks(D, B, a, b, gives=25)
+    unissued(w, a)
+    return w
+
+
+@case
+def c43_25_credential_twice():
+    w, (a, b) = several(2)
+    w.issue_iaks(D, B, a, (a[0], b[1]), gives=25)
+    unissued(w, a)
+    return w
+
+
+@case
+def c43_25_credential_twice_apart():
+    w, (a, b, c) = several(3)
+    w.issue_iaks(D, B, a, EMPTY, c, (a[0], b[1]), gives=25)
+    unissued(w, a)
+    return w
+
+
+@case
+def c43_25_26():
+    """The second credential is not open, and the board does not know its number."""
+    w, (a,) = several(1)
+    w.issue_iaks(D, B, a, never_opened(w), gives=25)
+    return w
+
+
+def not_returned(w): return opened(w, first(w), id=40, number=20, returned=False)[:2]
+
+
+for _place, _name in enumerate(("first", "second", "third", "fourth")):
+    CASES["c43_26_not_returned_" + _name] = lambda i=_place: failing(i, not_returned, 26)
+
+
+@case
+def c43_26_other_board():
+    w, pairs = several(2)
+    w.issue_iaks(D, B2, *pairs, gives=26)
+    unissued(w, pairs[0])
+    return w
+
+
+@case
+def c43_26_returned_by_the_desk():
+    w, pairs = several(2)
+    w.issue_iaks(D, D, *pairs, gives=26)
+    unissued(w, pairs[0])
+    return w
+
+
+@case
+def c43_26_other_board_knows_the_first():
+    w, (a, b) = several(2)
+    w.send(B, B2, w.number(10))
+    w.issue_iaks(D, B2, a, b, gives=26)
+    w.issue_iaks(D, B2, b, a, gives=26)
+    unissued(w, a)
+    return w
+
+
+@case
+def c43_26_27():
+    w, (a,) = several(1)
+    b = opened(w, first(w), id=40, number=20, key=w.new, returned=False)[:2]
+    w.issue_iaks(D, B, a, b, gives=26)
+    return w
+
+
+def other_certificate(**options):
+    """A pair whose certificate is not the one called for."""
+    def make(w):
+        credential, c, _ = opened(w, first(w), id=40, number=20)
+        return credential, iak_certificate(w, **dict(dict(key=w.public(40, IAK)), **{k: v(w) for k, v in options.items()}))
+    return make
+
+
+@case
+def c43_27_key(): return failing(1, other_certificate(key=lambda w: w.new), 27)
+@case
+def c43_27_subject(): return failing(2, other_certificate(subject=lambda w: BOARD(101)), 27)
+@case
+def c43_27_subject_kind(): return failing(3, other_certificate(subject=lambda w: TPM(100)), 27)
+@case
+def c43_27_signer(): return failing(1, other_certificate(signer=lambda w: w.owner_), 27)
+
+
+@case
+def c43_27_crossed():
+    """The certificates of two pairs, each with the other's credential."""
+    w, (a, b) = several(2)
+    w.issue_iaks(D, B, (a[0], b[1]), (b[0], a[1]), gives=27)
+    w.issue_iaks(D, B, b, a)
+    return w
+
+
+@case
+def c43_27_desk_without_key():
+    w, pairs = several(2, desk=D2)
+    w.issue_iaks(D2, B, *pairs, gives=27)
+    return w
+
+
+def again(w, subject=None):
+    """The certificate that enrolled() issued, by a new challenge."""
+    request(w, subject=subject)
+    challenge(w, number=20)
+    give_back(w)
+    return w.open, w.issued
+
+
+@case
+def c43_28(): return failing(1, again, 28, before=enrolled())
+@case
+def c43_28_first(): return failing(0, again, 28, before=enrolled())
+@case
+def c43_27_28(): return failing(2, lambda w: again(w, subject=BOARD(101)), 27, before=enrolled())
+
+
+@case
+def c43_28_by_an_earlier_43():
+    """A certificate that a 43 issued is asked for again, by a 43 and by a 3F."""
+    w = shop()
+    request(w)
+    challenge(w)
+    give_back(w)
+    w.issued = iak_certificate(w)
+    w.issue_iaks(D, B, EMPTY, (w.open, w.issued))
+    a = opened(w, first(w), id=30)[:2]
+    b = again(w)
+    w.issue_iaks(D, B, a, b, gives=28)
+    w.issue_iak(D, B, *b, gives=28)
+    unissued(w, a)
+    return w
+
+
+@case
+def c43_28_31():
+    """The certificate that was issued, asked for again with another EK of the TPM."""
+    w = enrolled()
+    a = opened(w, first(w), id=30)[:2]
+    other = endorsed(w, 31, B)
+    request(w, certificate=other.certificate)
+    challenge(w, number=20, ek=other.ek)
+    give_back(w)
+    w.issue_iaks(D, B, a, (w.open, w.issued), gives=28)
+    unissued(w, a)
+    return w
+
+
+def with_other_ek(w, **options): return opened(w, endorsed(w, 31, B), id=40, number=20, **options)[:2]
+
+
+@case
+def c43_31(): return failing(1, with_other_ek, 31, before=enrolled())
+@case
+def c43_31_first(): return failing(0, with_other_ek, 31, before=enrolled())
+@case
+def c43_31_by_the_pair_before(): return failing(1, with_other_ek, 31)
+@case
+def c43_31_by_three_pairs_before(): return failing(3, with_other_ek, 31)
+@case
+def c43_27_31(): return failing(1, lambda w: with_other_ek(w, key=w.new), 27)
+@case
+def c43_26_31(): return failing(1, lambda w: with_other_ek(w, returned=False), 26)
+
+
+@case
+def c43_31_other_ek_first():
+    """The first pair has the other EK, so that the next one fails."""
+    w, (a, b) = several(2)
+    other = with_other_ek(w)
+    w.issue_iaks(D, B, other, a, b, gives=31)
+    w.issue_iaks(D, B, a, b)
+    w.issue_iaks(D, B, other, gives=31)
+    return w
+
+
+@case
+def c43_31_then_25():
+    """The refusal is that of the first pair that fails, though a later one has a lower number."""
+    w, (a,) = several(1)
+    w.issue_iaks(D, B, a, with_other_ek(w), never_opened(w), gives=31)
+    unissued(w, a)
+    return w
+
+
+@case
+def c43_27_then_26_and_25():
+    w, (a, b) = several(2)
+    w.issue_iaks(D, B, (a[0], b[1]), not_returned(w), (a[0], a[1]), gives=27)
+    unissued(w, a)
+    return w
+
+
+@case
+def c43_26_then_25():
+    """26 at the first pair, 25 at the second; and the other way round."""
+    w, (a,) = several(1)
+    w.issue_iaks(D, B2, a, never_opened(w), gives=26)
+    w.issue_iaks(D, B2, never_opened(w), a, gives=25)
+    unissued(w, a)
+    return w
+
+
+# ---- 43 at loading
+
+def a_term_of_each_kind():
+    w = World(DEVICE, MAKER, OEM, OWNER)
+    key, key_ = w.public(5, IAK), w.private(5, IAK)
+    digest = w.hash(key)
+    proof = w.signature(digest, key_)
+    w.wrong_credential = w.attest(key)
+    attested = w.signature(w.wrong_credential, key_)
+    w.open = w.credential(digest, w.number(9), key)
+    maker_ = w.private(1, DESK)
+    w.issued = w.certificate(key, TPM(7), maker_)
+    body = w.idevid(BOARD(8), w.issued, key)
+    w.wrong_certificate = w.ldevid(attested, w.issued)
+    w.request = w.pair(body, proof)
+    w.signs(1, maker_)
+    w.learns(0, w.issued)
+    return w
+
+
+def loading(*pairs, desk=2, returning=0, gives):
+    """A 43 that does not load. Pairs are functions of the world; those that are not given are empty."""
+    w = a_term_of_each_kind()
+    w.issue_iaks(desk, returning, *[pair(w) for pair in pairs])
+    w.expected = []
+    return w.refuses(gives)
+
+
+def proper(w): return w.open, w.issued
+def empty(w): return EMPTY
+
+
+for _i in range(4):
+    for _name, _pair in {
+        "f07_43_credential_%d_undeclared": lambda w: (len(w.terms), w.issued),
+        "f07_43_certificate_%d_undeclared": lambda w: (w.open, len(w.terms)),
+        "f07_43_credential_%d_FFFF_alone": lambda w: (0xFFFF, w.issued),
+        "f07_43_certificate_%d_FFFF_alone": lambda w: (w.open, 0xFFFF),
+        "f08_43_credential_%d_of_kind_14": lambda w: (w.wrong_credential, w.issued),
+        "f08_43_certificate_%d_of_kind_18": lambda w: (w.open, w.wrong_certificate),
+    }.items():
+        CASES[_name % (_i + 1)] = lambda i=_i, pair=_pair, n=int(_name[1:3]): loading(*i * (proper,), pair, gives=n)
+
+for _name, _make in {
+    "f07_43_party_undeclared": lambda: loading(proper, desk=4, gives=7),
+    "f07_43_returning_undeclared": lambda: loading(proper, returning=4, gives=7),
+    "f07_43_returning_undeclared_all_empty": lambda: loading(returning=4, gives=7),
+    "f07_43_FFFF_across_pairs_1_2": lambda: loading(lambda w: (w.open, 0xFFFF), lambda w: (0xFFFF, w.issued), gives=7),
+    "f07_43_FFFF_across_pairs_2_3": lambda: loading(empty, lambda w: (w.open, 0xFFFF), lambda w: (0xFFFF, w.issued), gives=7),
+    "f07_43_FFFF_across_pairs_3_4": lambda: loading(proper, empty, lambda w: (w.open, 0xFFFF), lambda w: (0xFFFF, w.issued), gives=7),
+    "f07_43_FFFF_before_empty_pairs": lambda: loading(lambda w: (w.open, 0xFFFF), gives=7),
+    "f07_43_FFFF_after_empty_pairs": lambda: loading(empty, empty, empty, lambda w: (0xFFFF, w.issued), gives=7),
+    "f07_43_FFFE_twice": lambda: loading(lambda w: (0xFFFE, 0xFFFE), gives=7),
+    "f07_43_FFFF_and_FFFE": lambda: loading(proper, lambda w: (0xFFFF, 0xFFFE), gives=7),
+    "f08_43_turned": lambda: loading(lambda w: (w.issued, w.open), gives=8),
+    "two_8_then_7_in_43": lambda: loading(lambda w: (w.wrong_credential, 0xFFFF), gives=8),
+    "two_7_then_8_in_43": lambda: loading(lambda w: (0xFFFF, w.wrong_certificate), gives=7),
+    "two_8_then_7_in_pairs_of_43": lambda: loading(empty, lambda w: (w.open, w.wrong_certificate), lambda w: (0xFFFF, w.issued), gives=8),
+    "two_7_then_8_in_pairs_of_43": lambda: loading(empty, lambda w: (w.open, 0xFFFF), lambda w: (w.wrong_credential, w.issued), gives=7),
+    "two_7_party_then_8_in_43": lambda: loading(lambda w: (w.wrong_credential, w.issued), desk=4, gives=7),
+}.items():
+    CASES[_name] = _make
+
+
+@case
+def f04_43_cut_short():
+    """One byte of the last pair is missing."""
+    w = a_term_of_each_kind()
+    w.issue_iaks(2, 0, proper(w))
+    w.commands[-1] = w.commands[-1][:-1]
+    return w.refuses(4)
+
+
+@case
+def f05_party_after_43():
+    w = a_term_of_each_kind()
+    w.issue_iaks(2, 0, proper(w), gives=25)
+    w.commands.append(bytes([0x01, DEVICE]))
+    return w.refuses(5)
+
+
+@case
+def f07_43_no_term():
+    w = World(OEM, DEVICE)
+    w.issue_iaks(0, 1, EMPTY, (0, 0))
+    return w.refuses(7)
+
+
+@case
+def f03_kind_44():
+    w = World()
+    w.commands.append(bytes([0x44]))
+    return w.refuses(3)
+
+
+def every_kind():
+    """A record of each kind, as the files of the kinds to 42 have them, and a 43."""
+    w = a_term_of_each_kind()
+    digest, proof, attested = 2, 3, 5
+    body, lbody = 10, 11
+    for kind, r, gives in (0x30, digest, 0), (0x31, proof, 15), (0x32, attested, 15), (0x33, w.open, 14), (0x34, w.open, 14), (0x35, body, 0), (0x36, lbody, 14), (0x37, w.request, 14):
+        w.do(kind, 0, r, gives=gives)
+    w.do(0x38, 0, digest, 0)
+    w.do(0x39, 0, proof, 0, gives=14)
+    w.do(0x3A, 0, w.issued, 0, gives=18)
+    w.do(0x3B, 0, 0, bytes_=(15,), gives=18)
+    w.send(0, 2, w.request, gives=14)
+    w.do(0x3D, 0, w.issued, gives=15)
+    w.do(0x3E, 2, w.request, w.open, gives=14)
+    w.issue_iak(2, 0, w.open, w.issued, gives=25)
+    w.do(0x40, 3, w.request, w.issued, gives=14)
+    w.do(0x41, 2, w.request, w.issued, gives=14)
+    w.do(0x42, 3, w.request, w.issued, gives=14)
+    w.issue_iaks(2, 0, EMPTY, (w.open, w.issued), gives=25)
+    return w
+
+
+@case
+def load_every_kind_to_43(): return every_kind()
+
+
+@case
+def f03_kind_44_after_a_record_of_each_kind():
+    w = every_kind()
+    w.commands.append(bytes([0x44]))
+    return w.refuses(3)
+
+
+@case
+def load_43_all_empty():
+    """Empty pairs name no term, also where there is none."""
+    w = World(OEM, DEVICE)
+    w.issue_iaks(0, 1, gives=32)
+    w.issue_iaks(1, 1, gives=13)
+    return w
+
+
+@case
+def cut_two_iaks_together():
+    """Cut at each length: before the 43, inside it, after it, inside the next command."""
+    w, (a, b) = several(2)
+    w.issue_iaks(D, B, EMPTY, a, EMPTY, b)
+    w.send(D, B, b[1])
+    return w
+
+
 def main():
     directory = sys.argv[1] if len(sys.argv) > 1 else os.path.join(os.path.dirname(os.path.abspath(__file__)), "data")
     for name, make in sorted(CASES.items()):
@@ -1617,7 +2269,8 @@ def main():
             f.write(w.file())
     if "--expected" in sys.argv:
         for name, make in sorted(CASES.items()):
-            print(name, *make().expected)
+            w = make()
+            print(name, *("F", *w.fault) if w.fault else w.expected)
 
 
 if __name__ == "__main__":

@@ -1,9 +1,9 @@
-//! A second reading of "Rehearsing DevID enrolment", with points 1, 2, 3 and 5
-//! of its change requests, written from those texts alone, to test another
+//! A second reading of "Rehearsing DevID enrolment", with points 1 to 5 of its
+//! change requests, written from those texts alone, to test another
 //! implementation against.
 //!
 //! The numbers in the comments are the kinds of records (hexadecimal, as in
-//! the paper) and the refusals 1 to 31 but 22 (decimal).
+//! the paper) and the refusals 1 to 32 but 22 (decimal).
 
 #![forbid(unsafe_code)]
 
@@ -24,6 +24,8 @@ pub const LIST_PLACES: usize = 9;
 
 /// Greatest depth of an issued certificate.
 const DEPTH: u16 = 8;
+/// Pairs of a 43, the empty ones too.
+const PAIRS: usize = 4;
 
 /// A ledger entry.
 #[derive(Clone, Copy, Debug, Default, PartialEq, Eq)]
@@ -338,6 +340,7 @@ const TPM_MAKER: u8 = 1;
 const OEM_DESK: u8 = 2;
 const OWNER_DESK: u8 = 3;
 
+#[derive(Clone)]
 struct Party {
     role: u8,
     /// The private key that a 22 gave.
@@ -379,7 +382,7 @@ const CREDENTIAL_OPEN: u8 = 2;
 const CREDENTIAL_CLOSED: u8 = 3;
 
 /// The eight state bytes of a term.
-#[derive(Default)]
+#[derive(Clone, Default)]
 struct TermState {
     /// Bit p: party p knows it.
     known: u8,
@@ -389,6 +392,13 @@ struct TermState {
     desk: u8,
     request: u16,
     place: u16,
+}
+
+/// A pair of a 43 that is not empty.
+#[derive(Clone, Copy)]
+struct IakPair {
+    credential: u16,
+    r: u16,
 }
 
 /// A command of the last section; `r` is the result as in the paper.
@@ -466,6 +476,24 @@ enum Command {
         request: u16,
         r: u16,
     },
+    /// 43; none for an empty pair.
+    IssueIaks {
+        desk: u8,
+        returning: u8,
+        pairs: [Option<IakPair>; PAIRS],
+    },
+}
+
+impl Command {
+    /// A pair of a 43 as a 3F of its own.
+    fn of_pair(desk: u8, returning: u8, pair: IakPair) -> Command {
+        Command::IssueIak {
+            desk,
+            returning,
+            credential: pair.credential,
+            r: pair.r,
+        }
+    }
 }
 
 /// A well-formed request of 3E, taken apart.
@@ -506,9 +534,9 @@ struct CertificateFields {
 }
 
 /// The refusals of a command, in the order that they are looked for: by
-/// number, but 31 between 28 and 29.
-const ORDER: [u8; 17] = [
-    13, 14, 15, 16, 17, 18, 19, 20, 21, 23, 24, 25, 26, 27, 28, 31, 29,
+/// number, but 32 after 13, and 31 between 28 and 29.
+const ORDER: [u8; 18] = [
+    13, 32, 14, 15, 16, 17, 18, 19, 20, 21, 23, 24, 25, 26, 27, 28, 31, 29,
 ];
 
 /// Where a refusal stands in the order.
@@ -534,7 +562,7 @@ impl Verdict {
     }
 }
 
-#[derive(Default)]
+#[derive(Clone, Default)]
 struct World {
     parties: Vec<Party>,
     terms: Vec<Term>,
@@ -974,6 +1002,29 @@ impl World {
                 }
                 verdict.demand(self.entry(r).is_none(), 28);
             }
+            Command::IssueIaks {
+                desk,
+                returning,
+                pairs,
+            } => {
+                let pairs: Vec<IakPair> = pairs.into_iter().flatten().collect();
+                verdict.demand(self.role(desk) == OEM_DESK, 13);
+                verdict.demand(!pairs.is_empty(), 32);
+                for (place, pair) in pairs.iter().enumerate() {
+                    let alike = pairs[..place].iter().any(|earlier| earlier.r == pair.r);
+                    verdict.demand(!alike, 32);
+                }
+                // The first pair that fails, each in a world where those
+                // before it were issued. This world stays as it is.
+                let mut trial = self.clone();
+                for pair in pairs {
+                    let outcome = trial.execute(Command::of_pair(desk, returning, pair));
+                    if outcome != 0 {
+                        verdict.demand(false, outcome);
+                        break;
+                    }
+                }
+            }
         }
         verdict.first
     }
@@ -1043,6 +1094,15 @@ impl World {
                 }
                 self.learn(r, desk);
             }
+            Command::IssueIaks {
+                desk,
+                returning,
+                pairs,
+            } => {
+                for pair in pairs.into_iter().flatten() {
+                    self.apply(Command::of_pair(desk, returning, pair));
+                }
+            }
         }
     }
 
@@ -1097,7 +1157,7 @@ fn shape(kind: u8) -> Option<(Section, usize)> {
         0x01 => Section::Parties,
         0x10..=0x1A => Section::Terms,
         0x20..=0x22 => Section::SetUp,
-        0x30..=0x42 => Section::Commands,
+        0x30..=0x43 => Section::Commands,
         _ => return None,
     };
     let length = match kind {
@@ -1108,6 +1168,7 @@ fn shape(kind: u8) -> Option<(Section, usize)> {
         0x38..=0x3A | 0x3E | 0x40..=0x42 => 5,
         0x15 | 0x3F => 6,
         0x17 | 0x19 => 7,
+        0x43 => 2 + 4 * PAIRS,
         _ => return None,
     };
     Some((section, length))
@@ -1209,6 +1270,19 @@ impl Body<'_> {
             Term::Signature { message, .. } if world.kind(message) == 0x14 => Ok(t),
             _ => Err(8),
         }
+    }
+
+    /// A credential and a certificate; none for two FFFF, the empty pair. One
+    /// FFFF alone is no declared term.
+    fn iak_pair(&mut self, world: &World) -> Result<Option<IakPair>, u32> {
+        if self.rest[..4] == [0xFF; 4] {
+            self.rest = &self.rest[4..];
+            return Ok(None);
+        }
+        Ok(Some(IakPair {
+            credential: self.term_of(world, 0x15)?,
+            r: self.term_of(world, 0x19)?,
+        }))
     }
 }
 
@@ -1439,6 +1513,18 @@ impl World {
                 request: body.term(self)?,
                 r: body.term_of(self, 0x19)?,
             },
+            0x43 => {
+                let returning = body.party(self)?;
+                let mut pairs = [None; PAIRS];
+                for pair in &mut pairs {
+                    *pair = body.iak_pair(self)?;
+                }
+                Command::IssueIaks {
+                    desk: party,
+                    returning,
+                    pairs,
+                }
+            }
             _ => unreachable!("a kind of the section of commands"),
         };
         Ok(command)

@@ -5,6 +5,11 @@ use std::collections::HashMap;
 
 /// Longest scenario file, in bytes.
 const FILE_BYTES: usize = 32_768;
+/// Longest record, a 43.
+const RECORD_BYTES: usize = 19;
+/// Pairs of a 43, and what stands in both fields of an empty one.
+const PAIRS: usize = 4;
+const EMPTY: (u16, u16) = (0xFFFF, 0xFFFF);
 
 /// Splitmix64.
 pub struct Rng(u64);
@@ -61,14 +66,14 @@ impl Rng {
 /// Kind byte and body.
 #[derive(Clone, Copy, Debug, PartialEq, Eq, Hash)]
 pub struct Record {
-    bytes: [u8; 8],
+    bytes: [u8; RECORD_BYTES],
     length: u8,
 }
 
 impl Record {
     pub fn new(kind: u8) -> Record {
         let mut record = Record {
-            bytes: [0; 8],
+            bytes: [0; RECORD_BYTES],
             length: 0,
         };
         record.push(kind);
@@ -107,6 +112,11 @@ impl Record {
 
     fn word_at(&self, i: usize) -> u16 {
         u16::from_be_bytes([self.bytes[i], self.bytes[i + 1]])
+    }
+
+    /// The pairs of a 43.
+    fn pairs(&self) -> [(u16, u16); PAIRS] {
+        std::array::from_fn(|i| (self.word_at(3 + 4 * i), self.word_at(5 + 4 * i)))
     }
 }
 
@@ -270,6 +280,12 @@ pub fn issue_iak(desk: u8, returning: u8, credential: u16, r: u16) -> Record {
         .word(credential)
         .word(r)
 }
+/// 43: desk, returning party and four pairs of credential and certificate.
+pub fn issue_iaks(desk: u8, returning: u8, pairs: [(u16, u16); PAIRS]) -> Record {
+    let start = Record::new(0x43).byte(desk).byte(returning);
+    let add = |record: Record, (credential, r): (u16, u16)| record.word(credential).word(r);
+    pairs.into_iter().fold(start, add)
+}
 /// 40 to 42: desk, 18 request and certificate.
 pub fn issue(kind: u8, desk: u8, request: u16, r: u16) -> Record {
     Record::new(kind).byte(desk).word(request).word(r)
@@ -285,6 +301,8 @@ enum Field {
     Word,
     Any,
     Term(u8),
+    /// Credential and certificate, or empty.
+    Pair,
 }
 
 impl Field {
@@ -293,6 +311,7 @@ impl Field {
             Field::Role | Field::Party | Field::Attributes => 1,
             Field::Word | Field::Any | Field::Term(_) => 2,
             Field::Subject => 3,
+            Field::Pair => 4,
         }
     }
 }
@@ -328,6 +347,7 @@ fn fields(kind: u8) -> &'static [Field] {
         0x3E => &[Party, Any, Term(0x15)],
         0x3F => &[Party, Party, Term(0x15), Term(0x19)],
         0x40..=0x42 => &[Party, Any, Term(0x19)],
+        0x43 => &[Party, Party, Pair, Pair, Pair, Pair],
         _ => &[],
     }
 }
@@ -390,6 +410,13 @@ fn fitting(rng: &mut Rng, draft: &Draft, kind: u8, ids: usize) -> Option<Record>
                 record.word(t as u16)
             }
             Field::Term(kind) => record.word(rng.try_pick(draft.of_kind(kind))?),
+            Field::Pair => {
+                let credential = rng.try_pick(draft.of_kind(0x15));
+                let certificate = rng.try_pick(draft.of_kind(0x19));
+                let some = credential.zip(certificate).filter(|_| rng.chance(50));
+                let (credential, certificate) = some.unwrap_or(EMPTY);
+                record.word(credential).word(certificate)
+            }
         };
     }
     Some(record)
@@ -400,12 +427,12 @@ fn fitting(rng: &mut Rng, draft: &Draft, kind: u8, ids: usize) -> Option<Record>
 /// commands are done by `main`, if there is one.
 fn stray(rng: &mut Rng, draft: &Draft, main: Option<u8>) -> Option<Record> {
     for _ in 0..8 {
-        let kind = 0x30 + rng.below(19) as u8;
+        let kind = 0x30 + rng.below(20) as u8;
         let Some(mut record) = fitting(rng, draft, kind, 4) else {
             continue;
         };
         let role = match kind {
-            0x3E | 0x3F | 0x41 => OEM,
+            0x3E | 0x3F | 0x41 | 0x43 => OEM,
             0x40 | 0x42 => OWNER,
             _ => DEVICE,
         };
@@ -442,6 +469,10 @@ fn twisted(rng: &mut Rng, draft: &Draft, command: Record) -> Option<Record> {
         record.bytes[0] = 0x40 + rng.below(3) as u8;
         return Some(record);
     }
+    if kind == 0x43 && rng.chance(60) {
+        let [_, desk, returning, ..] = command.bytes;
+        return Some(issue_iaks(desk, returning, mixed(rng, command.pairs())));
+    }
     let other = fitting(rng, draft, kind, 4)?;
     let list = fields(kind);
     let chosen = rng.below(list.len());
@@ -453,6 +484,41 @@ fn twisted(rng: &mut Rng, draft: &Draft, command: Record) -> Option<Record> {
         return None;
     }
     Some(record)
+}
+
+/// Other pairs of the same terms. Each pair is whole or empty.
+fn mixed(rng: &mut Rng, mut pairs: [(u16, u16); PAIRS]) -> [(u16, u16); PAIRS] {
+    let (i, j) = (rng.below(PAIRS), rng.below(PAIRS));
+    let whole = pairs[i] != EMPTY && pairs[j] != EMPTY;
+    match rng.below(7) {
+        0 => pairs.swap(i, j),
+        1 => rng.shuffle(&mut pairs),
+        2 => pairs[i] = EMPTY,
+        3 => pairs[i] = pairs[j],
+        4 if whole => pairs[i].0 = pairs[j].0,
+        5 if whole => pairs[i].1 = pairs[j].1,
+        _ => {
+            for k in (0..PAIRS).filter(|&k| k != i) {
+                pairs[k] = EMPTY;
+            }
+        }
+    }
+    pairs
+}
+
+/// FFFF in one field of the pairs of a 43, in a whole pair, or in fields of two
+/// pairs. An empty pair gets another number in one field.
+fn half_empty(rng: &mut Rng, bytes: &mut [u8]) {
+    let field = 3 + 2 * rng.below(2 * PAIRS);
+    let length = if rng.chance(60) { 2 } else { 4 };
+    let end = (field + length).min(bytes.len());
+    for byte in &mut bytes[field..end] {
+        *byte = if *byte == 0xFF && length == 2 {
+            0
+        } else {
+            0xFF
+        };
+    }
 }
 
 // ---------------------------------------------------------------------------
@@ -524,6 +590,11 @@ enum Slip {
     SharedSubject,
     Twice,
     AgainByOtherEk,
+    // Several IAKs together only.
+    AllEmpty,
+    SameCredential,
+    SameCertificate,
+    Crossed,
     // Under an issued certificate only.
     PlainAttest,
     NotAttest,
@@ -536,7 +607,7 @@ enum Slip {
     HashedAttest,
 }
 
-const IAK_SLIPS: [Slip; 38] = [
+const IAK_SLIPS: [Slip; 39] = [
     Slip::SwappedPair,
     Slip::BareBody,
     Slip::OtherHash,
@@ -549,6 +620,7 @@ const IAK_SLIPS: [Slip; 38] = [
     Slip::OtherSubject,
     Slip::OtherKey,
     Slip::OtherIssuer,
+    Slip::Again,
     Slip::Again,
     Slip::TpmSubject,
     Slip::SelfIssuedEndorsement,
@@ -575,6 +647,36 @@ const IAK_SLIPS: [Slip; 38] = [
     Slip::AgainByOtherEk,
     Slip::AgainByOtherEk,
     Slip::HashedAttest,
+];
+
+/// Of one IAK among several, or of the 43.
+const TOGETHER_SLIPS: [Slip; 26] = [
+    Slip::WeakKey,
+    Slip::NotSent,
+    Slip::UsedNumber,
+    Slip::NoActivation,
+    Slip::NoActivation,
+    Slip::OtherSubject,
+    Slip::OtherKey,
+    Slip::OtherIssuer,
+    Slip::Again,
+    Slip::Again,
+    Slip::Again,
+    Slip::Again,
+    Slip::OtherEk,
+    Slip::OtherEk,
+    Slip::OtherEk,
+    Slip::SharedSubject,
+    Slip::SharedSubject,
+    Slip::Twice,
+    Slip::ReturnedByDesk,
+    Slip::ReturnedByOther,
+    Slip::OtherDesk,
+    Slip::WrongRole,
+    Slip::AllEmpty,
+    Slip::SameCredential,
+    Slip::SameCertificate,
+    Slip::Crossed,
 ];
 
 const FAMILY_SLIPS: [Slip; 23] = [
@@ -652,6 +754,14 @@ impl Node {
     fn bears(&self, family: Family) -> bool {
         self.attributes == AK && (family.role == OWNER || self.depth == 1)
     }
+}
+
+/// An IAK whose credential is open.
+#[derive(Clone, Copy)]
+struct Opened {
+    key: Key,
+    credential: u16,
+    certificate: u16,
 }
 
 /// Commands of one enrolment, to start when others are done.
@@ -1115,6 +1225,152 @@ impl Town {
         self.finish(node, issued && desk_key.is_some(), Vec::new(), commands);
     }
 
+    /// One IAK of several, up to the return of its number.
+    fn open_iak(&mut self, d: usize, desk: usize, slip: Slip, to: &mut Vec<Record>) -> Opened {
+        let p = self.devices[d].party;
+        let (oem, desk_key) = (self.oems[desk].party, self.oems[desk].key);
+        let number = if slip == Slip::SharedSubject {
+            let other = self.other_device(d);
+            self.devices[other].subject
+        } else {
+            self.devices[d].subject
+        };
+        let subject = Subject::Device(number);
+        let key = self.new_key(d, AK, slip);
+        let (ek, endorsement) = self.endorsement(d, slip == Slip::OtherEk);
+        let body = self.draft.idevid(subject, endorsement, key.public);
+        to.push(act(0x35, p, body));
+        let request = self.request(d, key, body, slip, to);
+        let name = self.draft.hash(key.public);
+        let number = self.nonce(oem, slip);
+        let mut credential = self.draft.credential(name, number, ek.public);
+        let issuer = self.issuer(desk_key, d);
+        let certificate = self.wanted(d, key, subject, issuer, slip);
+        if slip != Slip::NotSent {
+            to.push(send(p, oem, request));
+        }
+        to.push(challenge(oem, request, credential));
+        to.push(send(oem, p, credential));
+        if slip != Slip::NoActivation {
+            to.push(act(0x34, p, credential));
+        }
+        if slip == Slip::Again {
+            let number = self.nonce(oem, Slip::None);
+            let again = self.draft.credential(name, number, ek.public);
+            to.extend([
+                challenge(oem, request, again),
+                send(oem, p, again),
+                act(0x34, p, again),
+                issue_iak(oem, p, credential, certificate),
+            ]);
+            credential = again;
+        }
+        Opened {
+            key,
+            credential,
+            certificate,
+        }
+    }
+
+    /// Pairs in some of the four places, in their order.
+    fn placed(&mut self, some: &[Opened]) -> [(u16, u16); PAIRS] {
+        let mut pairs = [EMPTY; PAIRS];
+        let mut left = some.len();
+        for i in 0..PAIRS {
+            if self.rng.below(PAIRS - i) < left {
+                let iak = some[some.len() - left];
+                pairs[i] = (iak.credential, iak.certificate);
+                left -= 1;
+            }
+        }
+        pairs
+    }
+
+    /// Enrolment of one to four IAKs of a device by one 43, with so many terms
+    /// to spend.
+    fn enrol_together(&mut self, d: usize, room: usize, slip: Slip) {
+        let mut commands = Vec::new();
+        let p = self.devices[d].party;
+        let desk = self.rng.below(self.oems.len());
+        let (oem, desk_key) = (self.oems[desk].party, self.oems[desk].key);
+        let most = (room / 12).clamp(1, PAIRS);
+        let count = 1 + self.rng.below(most).max(self.rng.below(most));
+        // The slip is mostly in a later pair.
+        let odd = self.rng.below(count).max(self.rng.below(count));
+        let mut iaks = Vec::new();
+        for i in 0..count {
+            let slip = if i == odd { slip } else { Slip::None };
+            iaks.push(self.open_iak(d, desk, slip, &mut commands));
+        }
+        let mut asked = iaks.clone();
+        let before = (odd + count - 1) % count;
+        match slip {
+            Slip::AllEmpty => asked.clear(),
+            Slip::SameCredential => asked[odd].credential = iaks[before].credential,
+            Slip::SameCertificate if count == 1 => asked.push(iaks[0]),
+            Slip::SameCertificate => asked[odd].certificate = iaks[before].certificate,
+            Slip::Crossed => {
+                asked[before].certificate = iaks[odd].certificate;
+                asked[odd].certificate = iaks[before].certificate;
+            }
+            _ => {}
+        }
+        if slip == Slip::None || self.rng.chance(20) {
+            self.rng.shuffle(&mut asked);
+        }
+        let returning = match slip {
+            Slip::ReturnedByDesk => oem,
+            Slip::ReturnedByOther => {
+                let other = self.other_device(d);
+                self.devices[other].party
+            }
+            _ => p,
+        };
+        let closing = match slip {
+            Slip::OtherDesk => self.oems[(desk + 1) % self.oems.len()].party,
+            Slip::WrongRole => self.owners[0].party,
+            _ => oem,
+        };
+        // Now and then 3F issues one of them.
+        if slip == Slip::None && count > 1 && self.rng.chance(15) {
+            let alone = asked.remove(0);
+            commands.push(issue_iak(oem, p, alone.credential, alone.certificate));
+        }
+        let pairs = self.placed(&asked);
+        commands.push(issue_iaks(closing, returning, pairs));
+        if slip == Slip::Twice {
+            commands.push(issue_iaks(closing, returning, pairs));
+        }
+        // After a refusal the others are often asked for again.
+        let mut issued = matches!(slip, Slip::None | Slip::Twice);
+        if !issued && self.rng.chance(50) {
+            iaks.remove(odd);
+            let pairs = self.placed(&iaks);
+            commands.push(issue_iaks(oem, p, pairs));
+            issued = true;
+        }
+        for iak in &iaks {
+            commands.push(send(oem, p, iak.certificate));
+        }
+        let flow = self.flows.len();
+        self.flows.push(Flow {
+            after: Vec::new(),
+            commands,
+        });
+        for iak in iaks {
+            if issued && desk_key.is_some() {
+                self.nodes.push(Node {
+                    device: d,
+                    key: iak.key,
+                    attributes: AK,
+                    certificate: iak.certificate,
+                    depth: 1,
+                    flow,
+                });
+            }
+        }
+    }
+
     /// A certificate to stand above one of the family, mostly a late one if
     /// `deep` is high.
     fn parent(&mut self, family: Family, slip: Slip, deep: usize) -> Node {
@@ -1334,18 +1590,26 @@ impl Town {
     /// Enrolments until the budget of terms is spent.
     fn enrol(&mut self, budget: usize, hostile: usize, deep: usize) {
         while self.draft.terms.len() + 16 <= budget {
-            let iak = self.nodes.is_empty() || self.rng.chance(12);
+            let iak = self.nodes.is_empty() || self.rng.chance(15);
             if self.rng.chance(3) {
                 let d = self.rng.below(self.devices.len());
                 self.rehearse(d);
             } else if iak {
-                let slip = if self.rng.chance(hostile) {
-                    self.rng.pick(&IAK_SLIPS)
-                } else {
+                let together = self.rng.chance(40);
+                let often = if together { 2 * hostile } else { hostile };
+                let slip = if !self.rng.chance(often) {
                     Slip::None
+                } else if together {
+                    self.rng.pick(&TOGETHER_SLIPS)
+                } else {
+                    self.rng.pick(&IAK_SLIPS)
                 };
                 let d = self.rng.below(self.devices.len());
-                self.enrol_iak(d, slip);
+                if together {
+                    self.enrol_together(d, budget - self.draft.terms.len(), slip);
+                } else {
+                    self.enrol_iak(d, slip);
+                }
             } else {
                 let slip = if self.rng.chance(hostile) {
                     self.rng.pick(&FAMILY_SLIPS)
@@ -1573,6 +1837,12 @@ pub fn world(seed: u64) -> Vec<u8> {
         }
     }
     town.settle(2);
+    if town.rng.chance(1) {
+        let mut together = town.draft.commands.iter_mut();
+        if let Some(record) = together.find(|r| r.kind() == 0x43) {
+            half_empty(&mut town.rng, &mut record.bytes);
+        }
+    }
     if town.rng.chance(15) {
         town.fill();
     }
@@ -1663,6 +1933,9 @@ pub fn random_records(seed: u64) -> Vec<u8> {
             let i = rng.below(list.len());
             let record = &mut list[i];
             match rng.below(4) {
+                0 if record.kind() == 0x43 && rng.chance(70) => {
+                    half_empty(&mut rng, &mut record.bytes)
+                }
                 0 => {
                     let j = 1 + rng.below(record.length as usize - 1);
                     record.bytes[j] = rng.byte();
@@ -1827,8 +2100,16 @@ fn damage_record(rng: &mut Rng, file: &mut Vec<u8>) {
     if places.len() < 3 {
         return;
     }
-    let i = rng.below(places.len() - 1);
+    let mut i = rng.below(places.len() - 1);
+    let together = |&i: &usize| file[places[i]] == 0x43 && places[i] + RECORD_BYTES <= file.len();
+    let all: Vec<usize> = (0..places.len() - 1).filter(together).collect();
+    let chosen = rng.try_pick(&all).filter(|_| rng.chance(25));
+    i = chosen.unwrap_or(i);
     let (start, end) = (places[i], places[i + 1].min(file.len()));
+    if chosen.is_some() && rng.chance(60) {
+        half_empty(rng, &mut file[start..end]);
+        return;
+    }
     let record = file[start..end].to_vec();
     let target = rng.pick(&places).min(file.len());
     match rng.below(4) {
@@ -1844,7 +2125,7 @@ fn damage_record(rng: &mut Rng, file: &mut Vec<u8>) {
         }
         // Any kind, or one just past a section.
         _ if rng.chance(85) => file[start] = 0x01 + rng.byte() % 0x43,
-        _ => file[start] = rng.pick(&[0x02, 0x1B, 0x23, 0x43]),
+        _ => file[start] = rng.pick(&[0x02, 0x1B, 0x23, 0x44]),
     }
 }
 
@@ -1874,7 +2155,7 @@ pub fn any(seed: u64) -> Vec<u8> {
             };
             let usual = rng.chance(50);
             (0..length)
-                .map(|_| if usual { rng.byte() % 0x44 } else { rng.byte() })
+                .map(|_| if usual { rng.byte() % 0x45 } else { rng.byte() })
                 .collect()
         }
     }

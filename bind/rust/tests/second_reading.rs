@@ -88,25 +88,36 @@ fn refused(refusal: Refusal) -> String {
     format!("refused {} {}", refusal.number, refusal.place)
 }
 
-#[derive(Default)]
+/// How often each number occurred.
+type Counts = [u64; 33];
+
 struct Seen {
     runs: u64,
     issued: u64,
     depth_8: u64,
     paths: u64,
-    refusals: [u64; 32],
-    outcomes: [u64; 32],
-    /// Outcomes of 3F, of 40, of 41 and of 42.
-    issuing: [[u64; 32]; 4],
+    refusals: Counts,
+    outcomes: Counts,
+    /// Outcomes of 3F, of 40, of 41, of 42 and of 43.
+    issuing: [Counts; 5],
 }
 
-/// Whether the rules have this outcome for a command 3F to 42. An IDevID is at depth 2, so 41 has no 29.
+impl Seen {
+    fn new() -> Seen {
+        let none = [0; 33];
+        Seen { runs: 0, issued: 0, depth_8: 0, paths: 0, refusals: none, outcomes: none, issuing: [none; 5] }
+    }
+}
+
+/// Whether the rules have this outcome for a command 3F to 43. An IDevID is at depth 2, so 41 has no 29.
 fn possible(kind: u8, outcome: usize) -> bool {
+    let iak = kind == 0x3F || kind == 0x43;
     match outcome {
         0 | 13 | 27 | 28 => true,
-        25 | 26 | 31 => kind == 0x3F,
-        14 | 19 | 20 | 21 | 23 => kind != 0x3F,
+        25 | 26 | 31 => iak,
+        14 | 19 | 20 | 21 | 23 => !iak,
         29 => kind == 0x40 || kind == 0x42,
+        32 => kind == 0x43,
         _ => false,
     }
 }
@@ -135,7 +146,7 @@ fn compare(name: &str, seed: u64, file: &[u8], rng: &mut Rng, seen: &mut Seen) {
             let outcomes = &lent.outcomes[..(accepted + refused) as usize];
             for (kind, &o) in worlds::command_kinds(file).into_iter().zip(outcomes) {
                 seen.outcomes[o as usize] += 1;
-                if let 0x3F..=0x42 = kind {
+                if let 0x3F..=0x43 = kind {
                     seen.issuing[kind as usize - 0x3F][o as usize] += 1;
                 }
             }
@@ -189,7 +200,7 @@ fn setting(name: &str, default: u64) -> u64 {
 fn every_call_agrees() {
     let first = setting("BIRDWEEKLY_FIRST", 0);
     let seeds = setting("BIRDWEEKLY_SEEDS", SEEDS);
-    let mut seen = Seen::default();
+    let mut seen = Seen::new();
     for seed in first..first + seeds {
         for (i, (name, generate)) in GENERATORS.into_iter().enumerate() {
             let file = generate(seed);
@@ -197,7 +208,7 @@ fn every_call_agrees() {
         }
     }
     println!(
-        "{} files; {} runs, {} issued, {} at depth 8, {} paths; refusals {:?}; outcomes {:?}; of 3F, 40, 41 and 42 {:?}",
+        "{} files; {} runs, {} issued, {} at depth 8, {} paths; refusals {:?}; outcomes {:?}; of 3F and 40 to 43 {:?}",
         seeds * GENERATORS.len() as u64,
         seen.runs,
         seen.issued,
@@ -224,18 +235,19 @@ fn every_call_agrees() {
         for number in (1..=12).chain([30]) {
             assert!(seen.refusals[number] > 0, "no refusal {number}");
         }
-        for number in (13..=29).chain([31]).filter(|&number| number != 22) {
+        for number in (13..=29).chain([31, 32]).filter(|&number| number != 22) {
             assert!(seen.outcomes[number] > 0, "no outcome {number}");
         }
         assert!(seen.issued > 1_000 && seen.depth_8 > 10 && seen.paths > 100);
     }
 }
 
-/// Every n of one file, and every cut of it.
+/// Every n of one file that has a 43, and every cut of it.
 #[test]
 fn every_count_and_every_cut() {
-    let file = (0..).map(worlds::world).find(|file| (300..1_200).contains(&file.len())).unwrap();
-    let mut seen = Seen::default();
+    let fits = |file: &Vec<u8>| (300..1_200).contains(&file.len()) && worlds::command_kinds(file).contains(&0x43);
+    let file = (0..).map(worlds::world).find(fits).unwrap();
+    let mut seen = Seen::new();
     for n in 0..file.len() / 4 + 2 {
         let mut state = [vec![1; STATE_BYTES + 2], vec![1; STATE_BYTES + 2]];
         let mut outcomes = [vec![2; OUTCOME_BYTES + 2], vec![2; OUTCOME_BYTES + 2]];

@@ -16,9 +16,9 @@ use Rattle.rules.specs.Desk.{requestBody, formTests, proofTests, numberTests, i
 use Rattle.rules.specs.Run.{testsOf, outcome, effectOf}
 use Rattle.state.specs.View.{Columns, view, withMark, withDesk, withRequest}
 use Rattle.state.proofs.Exact.{stateOf}
-use Rattle.loaded.specs.Chain.{chain}
+use Rattle.theorems.specs.Chain.{chain}
 use Rattle.loaded.specs.Loaded.{fileIn, Learns, Leaves}
-use Rattle.loaded.proofs.Chain.{in-order, chain-rest}
+use Rattle.theorems.proofs.Chain.{in-order, chain-rest}
 use Rattle.requests.specs.Tests.{endorsementTests, credentialTests}
 
 module _ (f : File) (ys : List Test) {x : ℕ} (z : x ≡ 0) where

@@ -10,7 +10,7 @@ ghost use Rattle.rules.specs.Desk.{numberTests};
 ghost use Rattle.theorems.proofs.Loading.{Wellformed};
 ghost use Rattle.state.specs.View.{view};
 ghost use Rattle.state.proofs.Exact.{stateOf};
-ghost use Rattle.loaded.specs.Chain.{chain};
+ghost use Rattle.theorems.specs.Chain.{chain};
 ghost use Rattle.loaded.specs.Loaded.{fileIn, Holds, Finds, Decides, Leaves};
 
 // The number of a challenge: known to the desk, to one party in all, and unused.

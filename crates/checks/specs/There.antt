@@ -5,13 +5,13 @@ use Prim.Native.Nat.{ℕ, zero, suc, _+_, _*_, _<_, _≤_}
 use lib.Dec.{eqb, ltb}
 use lib.ListN.{length, getD}
 use Rattle.rules.specs.declared.Field.{Field}
-use Rattle.rules.specs.declared.Field.the-variants.{RoleField, IdentifierField, AttributesField, SubjectField, PartyField, AnyTerm, TermOf, SignedAttest}
+use Rattle.rules.specs.declared.Field.the-variants.{RoleField, IdentifierField, AttributesField, SubjectField, PartyField, AnyTerm, TermOf, SignedAttest, IakPairField}
 use Rattle.rules.specs.declared.Term.{Term}
 use Rattle.rules.specs.Limits.{rowWidth, partyLimit, termLimit, roleCount}
 use Rattle.rules.specs.Attributes.{attributesLimit}
-use Rattle.rules.specs.Term.{signatureKind, attestKind, alike}
+use Rattle.rules.specs.Term.{signatureKind, attestKind, credentialKind, certificateKind, alike}
 use Rattle.rules.specs.Record.{partySection, termSection, word}
-use Rattle.rules.specs.Load.{first, refuseUnless}
+use Rattle.rules.specs.Load.{first, refuseUnless, emptyPair}
 use Rattle.state.specs.View.{view}
 use Rattle.learning.specs.There.{TermRecord, kindThere, termThere, partsThere}
 
@@ -40,6 +40,10 @@ pub record TermsThere (bs s : List ℕ) (n : ℕ) : Type 0 where
 abbrev pub kindOfThere : List ℕ → (ℕ → ℕ) → ℕ → ℕ
 kindOfThere bs place t = kindThere bs (place t)
 
+-- 7, 8: a term number that is not declared, or not of a kind
+abbrev pub kindFaultThere : List ℕ → (ℕ → ℕ) → ℕ → ℕ → ℕ → ℕ
+kindFaultThere bs place terms k t = first (refuseUnless 7 (ltb t terms)) (refuseUnless 8 (eqb (kindOfThere bs place t) k))
+
 -- 7, 8: what is wrong with a field at a place of a body
 unfoldable pub fieldFaultThere : List ℕ → (ℕ → ℕ) → ℕ → ℕ → Field → ℕ → List ℕ → ℕ
 fieldFaultThere bs place parties terms RoleField i body = refuseUnless 7 (ltb (getD body i 0) roleCount)
@@ -48,12 +52,14 @@ fieldFaultThere bs place parties terms AttributesField i body = refuseUnless 7 (
 fieldFaultThere bs place parties terms SubjectField i body = refuseUnless 7 (ltb (getD body i 0) 2)
 fieldFaultThere bs place parties terms PartyField i body = refuseUnless 7 (ltb (getD body i 0) parties)
 fieldFaultThere bs place parties terms AnyTerm i body = refuseUnless 7 (ltb (word body i) terms)
-fieldFaultThere bs place parties terms (TermOf k) i body =
-    first (refuseUnless 7 (ltb (word body i) terms)) (refuseUnless 8 (eqb (kindOfThere bs place (word body i)) k))
+fieldFaultThere bs place parties terms (TermOf k) i body = kindFaultThere bs place terms k (word body i)
 fieldFaultThere bs place parties terms SignedAttest i body =
     first (refuseUnless 7 (ltb (word body i) terms))
     (first (refuseUnless 8 (eqb (kindOfThere bs place (word body i)) signatureKind))
     (refuseUnless 8 (eqb (kindOfThere bs place (word bs (place (word body i) + 1))) attestKind)))
+fieldFaultThere bs place parties terms IakPairField i body =
+    cond (emptyPair body i) 0
+    (first (kindFaultThere bs place terms credentialKind (word body i)) (kindFaultThere bs place terms certificateKind (word body (i + 2))))
 
 -- a term is alike one of the first n
 unfoldable pub anyAlikeThere : List ℕ → (ℕ → ℕ) → Term → ℕ → Bool

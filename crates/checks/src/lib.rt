@@ -5,10 +5,10 @@ ghost use mathlib.Core.Path.{_≡_};
 ghost use Prim.Native.Nat.{_+_, _*_, _<_, _≤_};
 ghost use lib.Dec.{ltb};
 ghost use lib.ListN.{length, getD};
-ghost use Rattle.rules.specs.declared.Field.the-variants.{TermOf, SignedAttest};
+ghost use Rattle.rules.specs.declared.Field.the-variants.{TermOf, SignedAttest, IakPairField};
 ghost use Rattle.rules.specs.Limits.{rowWidth};
 ghost use Rattle.rules.specs.Record.{width as widthOf, word};
-ghost use Rattle.rules.specs.Load.{refuseUnless};
+ghost use Rattle.rules.specs.Load.{refuseUnless, emptyPair};
 ghost use Rattle.state.specs.View.{view};
 ghost use Rattle.learning.specs.There.{kindThere};
 ghost use Rattle.checks.specs.There.{headFault, roleThere, TermsThere, fieldFaultThere};
@@ -119,6 +119,34 @@ fn attest_fault(file: &[u8], state: &[u8], body: &[u8], i: usize, terms: usize) 
     }
 }
 
+// Whether the pair at a place is empty: both of its fields are.
+pub fn empty_pair(body: &[u8], i: usize) -> bool
+    requires { ⌜ i + 3 < length (now body) ⌝ }
+    ensures { λ r. ⌜ r ≡ emptyPair (now (body .entry)) i ⌝ }
+{
+    let second = i + 2;
+    if records::word_at(body, i) != rules::EMPTY_FIELD {
+        return false;
+    }
+    records::word_at(body, second) == rules::EMPTY_FIELD
+}
+
+// A credential and a certificate in the body, or an empty pair: 0, 7 or 8.
+fn pair_fault(file: &[u8], state: &[u8], body: &[u8], i: usize, terms: usize) -> u8
+    requires { ⌜ TermsThere (now file) (now state) terms × (i + 3 < length (now body)) ⌝ }
+    ensures { λ r. ⌜ r ≡ fieldFaultThere (now (file .entry)) (view (now (state .entry)) .place) 0 terms IakPairField i (now (body .entry)) ⌝ }
+{
+    let second = i + 2;
+    if empty_pair(body, i) {
+        return 0;
+    }
+    let bad = kind_fault(file, state, body, i, 0x15, terms);
+    if bad != 0 {
+        return bad;
+    }
+    kind_fault(file, state, body, second, 0x19, terms)
+}
+
 // 7, 8 at a field of a body: 0, or the refusal.
 pub fn field_fault(
     file: &[u8],
@@ -141,6 +169,7 @@ pub fn field_fault(
         Field::AnyTerm => declared_fault(body, i, terms),
         Field::TermOf(kind) => kind_fault(file, state, body, i, kind, terms),
         Field::SignedAttest => attest_fault(file, state, body, i, terms),
+        Field::IakPairField => pair_fault(file, state, body, i, terms),
     }
 }
 
@@ -166,5 +195,6 @@ pub fn command_fault(
         Field::AnyTerm => field_fault(file, state, body, field, i, parties, terms),
         Field::TermOf(kind) => kind_fault(file, state, body, i, kind, terms),
         Field::SignedAttest => field_fault(file, state, body, field, i, parties, terms),
+        Field::IakPairField => field_fault(file, state, body, field, i, parties, terms),
     }
 }

@@ -5,20 +5,21 @@
 use mathlib.Core.Path.{_≡_, refl, sym, ap, subst⁻¹, _∙_}
 use mathlib.Core.Logic.{⊎-elim}
 use mathlib.Core.Bool.{Bool, true, false, false≢true, cond}
+use mathlib.Core.List.{List, [], _∷_}
 use Prim.Native.Nat.{ℕ, _<_, _≤_}
 use native.Mathlib.Omega.{arith}
 use native.Mathlib.Decide.{ℕ-discrete}
 use lib.ListN.{length}
 use Rattle.rules.specs.declared.Entry.{Entry}
-use Rattle.rules.specs.Term.{hashKind, signatureKind, attestKind, idevidRequestKind, pairKind}
-use Rattle.rules.specs.File.{File, Command, hash, sign, certify, makeCredential, activateCredential, makeIdevidRequest, makeLdevidRequest, makePair, checkHash, checkSignature, checkCertificate, checkAttributes, send, selfIssue, challenge, issueIak, issue, isKind, hashedTerm, credentialNumber}
+use Rattle.rules.specs.Term.{hashKind, signatureKind, attestKind, credentialKind, idevidRequestKind, certificateKind, pairKind}
+use Rattle.rules.specs.File.{File, Command, hash, sign, certify, makeCredential, activateCredential, makeIdevidRequest, makeLdevidRequest, makePair, checkHash, checkSignature, checkCertificate, checkAttributes, send, selfIssue, challenge, issueIak, issue, issueIaks, IakPair, kind, isKind, hashedTerm, credentialNumber}
 use Rattle.rules.specs.Learning.{Knowledge, grant, learn}
 use Rattle.rules.specs.State.{State, start, numberUsed, credentialOpen, credentialClosed, put, learnt, ticketed, opening, closing, entered}
 use Rattle.rules.specs.Device.{hashEffect}
-use Rattle.rules.specs.Desk.{requestBody, requestSignature, formTests, proofTests, numberTests, challengeTests, challengeEffect, issueIakEffect, issueEffect}
+use Rattle.rules.specs.Desk.{requestBody, requestSignature, formTests, proofTests, numberTests, challengeTests, challengeEffect, issueIakEffect, issueEffect, issueIaksEffect}
 use Rattle.rules.specs.Run.{testsOf, effectOf, outcome, after}
 use Rattle.theorems.proofs.Learning.{grant-only, learn-only}
-use Rattle.theorems.proofs.Loading.{Checked, Wellformed}
+use Rattle.theorems.proofs.Loading.{Checked, PairsFormed, Wellformed}
 use Rattle.theorems.proofs.Terms.{isKind-kind, declared}
 use Rattle.theorems.proofs.Passing.{Passed, passed}
 use Rattle.theorems.proofs.Running.{after-accepted, after-refused}
@@ -127,9 +128,19 @@ challenge-requested f x p q r l e =
       body = isKind-kind f idevidRequestKind _ (w .1 .1 .1 .0);
     }
 
+-- 3F, and the pairs of a 43
+iak-rest : {f : File} → Checked f → (x : State) → Rest f x → (p q c r : ℕ) → kind f c ≡ credentialKind → kind f r ≡ certificateKind → Rest f (issueIakEffect f x p q c r)
+unfolding issueIakEffect
+iak-rest {f} ck x k p q c r h l = entered-rest (closing-rest (learnt-rest ck p (declared f r (λ z. omega (arith, l))) k) (declared f c (λ z. omega (arith, h)))) _
+
+pairs-rest : {f : File} → Checked f → (p q : ℕ) (xs : List IakPair) (x : State) → Rest f x → PairsFormed f xs → Rest f (issueIaksEffect f x p q xs)
+unfolding issueIaksEffect
+pairs-rest ck p q [] x k w = k
+pairs-rest {f} ck p q (y ∷ xs) x k w = pairs-rest ck p q xs (issueIakEffect f x p q (y .credential) (y .certificate)) (iak-rest ck x k p q (y .credential) (y .certificate) (w .0) (w .1)) (w .2)
+
 module _ {f : File} (ck : Checked f) (x : State) (k : Rest f x) where
   effect-rest : (c : Command) → Wellformed f c → outcome f x c ≡ 0 → Rest f (effectOf f x c)
-  unfolding effectOf hashEffect challengeEffect issueIakEffect issueEffect
+  unfolding effectOf hashEffect challengeEffect issueEffect
   effect-rest (hash p r) w e = either (isKind f attestKind (hashedTerm f r))
     where
       either : (b : Bool) → Rest f (cond b (learnt f x p r) (ticketed (learnt f x p r) p r))
@@ -151,9 +162,9 @@ module _ {f : File} (ck : Checked f) (x : State) (k : Rest f x) where
   effect-rest (challenge p q r) w e =
       let l = declared f r (λ z. omega (arith, w .1)) in
       opening-rest (learnt-rest ck p l k) p (declared f (credentialNumber f r) (λ z. omega (arith, ck .credentialNumberKind r (w .1)))) l (challenge-requested f x p q r (w .2) e)
-  effect-rest (issueIak p q c r) w e =
-      entered-rest (closing-rest (learnt-rest ck p (declared f r (λ z. omega (arith, w .3))) k) (declared f c (λ z. omega (arith, w .2)))) _
+  effect-rest (issueIak p q c r) w e = iak-rest ck x k p q c r (w .2) (w .3)
   effect-rest (issue family p q r) w e = entered-rest (learnt-rest ck p (declared f r (λ z. omega (arith, w .1))) k) _
+  effect-rest (issueIaks p q xs) w e = pairs-rest ck p q xs x k (w .2)
 
   after-rest : (c : Command) → Wellformed f c → Rest f (after f x c)
   after-rest c w = go (ℕ-discrete (outcome f x c) 0)

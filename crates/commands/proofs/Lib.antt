@@ -1,3 +1,2 @@
 pub mod Keeping
-pub mod Room
 pub mod Next

@@ -1,6 +1,6 @@
 -- What stands after the command at a place: where it is refused, and where one that enters nothing in the ledger, or a desk's, is accepted.
 --     finds-kept                                                           the tables find what they found, where only the places of entries change
---     open-requested, parents-entered, entered, accepts                    what a desk command asks of what stands
+--     open-requested, parents-entered, ledgered, some-ledger, accepts                    what a desk command asks of what stands
 --     zero-decided                                                         0 is the outcome of an accepted command
 --     refused-left, device-left, desk-left, device-stands, desk-stands     what is left, and that it stands
 -- Assumes nothing.
@@ -25,14 +25,15 @@ use Rattle.index.specs.Indexed.{passes}
 use Rattle.lookup.specs.There.{commandThere}
 use Rattle.lookup.specs.Commands.{CommandAt}
 use Rattle.loaded.specs.Loaded.{fileIn, Finds, Leaves}
-use Rattle.loaded.specs.Entries.{Enters, Entered, Boarded, Accepts, SameKeys}
+use Rattle.loaded.specs.Entries.{Enters, Boarded, Ledgered, Accepts, DeskLeaves, SameKeys}
 use Rattle.loaded.proofs.Standing.{checked-here, holds-kept}
 use Rattle.loaded.proofs.Ledger.{column-some}
-use Rattle.desk.specs.Dispatch.{OpenRequested, DeskLeaves}
+use Rattle.requests.specs.Formed.{OpenRequested}
+use Rattle.desk.specs.Dispatch.{SomeLedger}
 use Rattle.issuance.specs.Issues.{ParentsEntered}
 use Rattle.commands.specs.Standing.{stateIn, Kept, Stands}
 use Rattle.commands.proofs.Keeping.{kept-after}
-use Rattle.commands.proofs.Room.{ledger-below}
+use Rattle.loaded.proofs.Room.{ledger-below}
 
 pub finds-kept : {bs tables tables′ : List ℕ} → Finds bs tables → SameKeys (tablesIn tables) (tablesIn tables′) → Finds bs tables′
 finds-kept {bs} d k = record {
@@ -51,8 +52,11 @@ module _ {bs s tables words : List ℕ} {n : ℕ} (st : Stands bs s tables words
   parents-entered p q w =
       column-some (parentCertificateOf (fileIn bs) q) (st .enters) (parent-listed (fileIn bs) (checked-here (st .holds)) (stateIn s words n) (st .kept .sound) p q w)
 
-  pub entered : Entered tables words
-  entered = (n, entriesIn words n, st .enters)
+  pub ledgered : Ledgered bs s tables words n (entriesIn words n)
+  ledgered = record { enters = st .enters; boards = st .boards; sound = st .kept .sound }
+
+  pub some-ledger : SomeLedger bs s tables words
+  some-ledger = (n, entriesIn words n, ledgered)
 
   module _ {at : ℕ} (w : CommandAt (Wellformed (fileIn bs)) bs at) where
     abbrev Before : State
@@ -86,6 +90,10 @@ module _ {bs s tables words : List ℕ} {n : ℕ} (st : Stands bs s tables words
         more = omega (arith, ledger-below (checked-here (st .holds)) (st .kept .sound), entries-length words n);
       }
 
+      pub accepts-ledgered : Ledgered bs s tables words n (accepts .ledger)
+      unfolding accepts
+      accepts-ledgered = ledgered
+
       done : After ≡ effectOf (fileIn bs) Before (commandThere bs at)
       done = after-accepted (fileIn bs) Before (commandThere bs at) (sym zero-decided)
 
@@ -104,4 +112,4 @@ module _ {bs s tables words : List ℕ} {n : ℕ} (st : Stands bs s tables words
         desk-left = ap (stateOf (view s′)) (sym (enters-now .same)) ∙ v .columns (entriesIn words n) (st .enters) ∙ sym done
 
         pub desk-stands : length s′ ≡ length s → Stands bs s′ tables′ words′ r
-        desk-stands l = next l (v .places) (finds-kept (st .finds) (v .keys)) (subst (Enters tables′ words′ r) (enters-now .same) enters-now) (subst (Boarded (fileIn bs) (tablesIn tables′ .boards)) (enters-now .same) (v .boards (entriesIn words n) (st .enters) (st .kept .sound) (st .boards))) desk-left
+        desk-stands l = next l (v .places) (finds-kept (st .finds) (v .keys)) (subst (Enters tables′ words′ r) (enters-now .same) enters-now) (subst (Boarded (fileIn bs) (tablesIn tables′ .boards)) (enters-now .same) (v .boards (entriesIn words n) ledgered)) desk-left

@@ -1,4 +1,4 @@
-// Desk commands, 3E to 42: what the command at a place decides and leaves.
+// Desk commands, 3E to 43: what the command at a place decides and leaves.
 ghost use mathlib.Core.Path.{_≡_};
 ghost use Prim.Native.Nat.{_<_};
 ghost use lib.ListN.{length};
@@ -7,9 +7,10 @@ ghost use Rattle.learning.specs.There.{kindThere};
 ghost use Rattle.lookup.specs.There.{commandThere};
 ghost use Rattle.lookup.specs.Commands.{CommandAt};
 ghost use Rattle.loaded.specs.Loaded.{fileIn, Holds, Finds};
-ghost use Rattle.loaded.specs.Entries.{Entered, DecidesBy};
+ghost use Rattle.loaded.specs.Entries.{DecidesBy, DeskLeaves};
+ghost use Rattle.requests.specs.Formed.{OpenRequested};
 ghost use Rattle.issuance.specs.Issues.{ParentsEntered};
-ghost use Rattle.desk.specs.Dispatch.{OpenRequested, DeskEffectReady, DeskLeaves};
+ghost use Rattle.desk.specs.Dispatch.{SomeLedger, DeskEffectReady};
 
 // What the desk command at a place decides.
 pub fn decide(
@@ -20,7 +21,7 @@ pub fn decide(
     parties: usize,
     at: usize,
 ) -> u8
-    requires { ⌜ Holds (now file) (now state) × Finds (now file) (now tables) × (parties ≡ length (fileIn (now file) .roles)) × CommandAt (Wellformed (fileIn (now file))) (now file) at × (0x3D < kindThere (now file) at) × Entered (now tables) (now words) × OpenRequested (now file) (now state) × ParentsEntered (now file) (now state) (now tables) ⌝ }
+    requires { ⌜ Holds (now file) (now state) × Finds (now file) (now tables) × (parties ≡ length (fileIn (now file) .roles)) × CommandAt (Wellformed (fileIn (now file))) (now file) at × (0x3D < kindThere (now file) at) × SomeLedger (now file) (now state) (now tables) (now words) × OpenRequested (now file) (now state) × ParentsEntered (now file) (now state) (now tables) ⌝ }
     ensures { λ x. ⌜ DecidesBy (now (file .entry)) (now (state .entry)) (now (tables .entry)) (now (words .entry)) (commandThere (now (file .entry)) at) x ⌝ }
 {
     let kind = file[at];
@@ -30,6 +31,9 @@ pub fn decide(
         let c = records::word_at(file, at + 3) as usize;
         let r = records::word_at(file, at + 5) as usize;
         return issuance::decide_issue_iak(file, state, tables, party, other, c, r);
+    }
+    if kind == 0x43 {
+        return together::decide(file, state, tables, at);
     }
     let q = records::word_at(file, at + 2) as usize;
     let r = records::word_at(file, at + 4) as usize;
@@ -59,6 +63,9 @@ pub fn effect(
         let r = records::word_at(file, at + 5) as usize;
         issuance::effect_issue_iak(file, state, tables, words, entries, party, c, r);
         return entries + 1;
+    }
+    if kind == 0x43 {
+        return together::effect(file, state, tables, words, entries, at);
     }
     let q = records::word_at(file, at + 2) as usize;
     let r = records::word_at(file, at + 4) as usize;

@@ -14,8 +14,8 @@ use Rattle.rules.specs.File.{File, hash, sign, certify, activateCredential, che
 use Rattle.rules.specs.State.{State}
 use Rattle.rules.specs.Device.{deviceRole, hashTests, makeCredentialTests, bothKnownTests, keyHas, maySend, sendTests, selfIssueTests, signTests, certifyTests, activateCredentialTests, holdsHalf, checkRole, checkTests}
 use Rattle.rules.specs.Run.{testsOf, outcome}
-use Rattle.loaded.specs.Chain.{chain}
-use Rattle.loaded.proofs.Chain.{in-order}
+use Rattle.theorems.specs.Chain.{chain}
+use Rattle.theorems.proofs.Chain.{in-order}
 
 module _ (f : File) (s : State) where
   pub hash-chain : (p r : ℕ) → outcome f s (hash p r) ≡ chain (need 13 (isRole f device p) ∷ need 14 (s .knows p (hashedTerm f r)) ∷ [])

@@ -13,7 +13,7 @@ ghost use Rattle.state.specs.View.{view};
 ghost use Rattle.learning.specs.There.{kindThere};
 ghost use Rattle.lookup.specs.There.{commandThere};
 ghost use Rattle.lookup.specs.Commands.{CommandAt};
-ghost use Rattle.loaded.specs.Chain.{chain};
+ghost use Rattle.theorems.specs.Chain.{chain};
 ghost use Rattle.loaded.specs.Loaded.{fileIn, Holds, Finds, PartyHere, TermHere, Decides, Leaves};
 
 // 30 Hash.

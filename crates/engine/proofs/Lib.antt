@@ -2,3 +2,4 @@ pub mod Started
 pub mod Ended
 pub mod Written
 pub mod Answers
+pub mod Refused

@@ -11,9 +11,9 @@ use Rattle.rules.specs.declared.Subject.{Subject}
 use Rattle.rules.specs.Refusals.{Test}
 use Rattle.rules.specs.File.{File, subject}
 use Rattle.rules.specs.Desk.{calledFor}
-use Rattle.loaded.specs.Chain.{chain}
+use Rattle.theorems.specs.Chain.{chain}
 use Rattle.theorems.proofs.Terms.{same-subject}
-use Rattle.loaded.proofs.Chain.{chain-rest, passed}
+use Rattle.theorems.proofs.Chain.{chain-rest, passed}
 use Rattle.requests.specs.Tests.{calledTests}
 
 module _ (f : File) (desk r key : ℕ) (wanted : Subject) where

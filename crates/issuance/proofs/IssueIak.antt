@@ -12,8 +12,8 @@ use Rattle.rules.specs.File.{File, issueIak, isRole, credentialNumber, idevidCe
 use Rattle.rules.specs.State.{State, credentialOpen}
 use Rattle.rules.specs.Desk.{requestBody, iakOf, ekOf, ekCertificateOf, calledFor, issueIakTests}
 use Rattle.rules.specs.Run.{testsOf, outcome}
-use Rattle.loaded.specs.Chain.{chain}
-use Rattle.loaded.proofs.Chain.{in-order}
+use Rattle.theorems.specs.Chain.{chain}
+use Rattle.theorems.proofs.Chain.{in-order}
 use Rattle.requests.specs.Tests.{calledTests}
 use Rattle.issuance.specs.Tests.{iakEntryTests}
 

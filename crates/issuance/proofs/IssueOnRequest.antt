@@ -27,10 +27,10 @@ use Rattle.rules.specs.Run.{testsOf, outcome}
 use Rattle.theorems.proofs.Requests.{DeskParent}
 use Rattle.state.specs.View.{view}
 use Rattle.tables.specs.Regions.{tablesIn}
-use Rattle.loaded.specs.Chain.{chain}
+use Rattle.theorems.specs.Chain.{chain}
 use Rattle.loaded.specs.Loaded.{fileIn, Holds, TermHere}
 use Rattle.loaded.specs.Entries.{Enters}
-use Rattle.loaded.proofs.Chain.{in-order, chain-rest, passed}
+use Rattle.theorems.proofs.Chain.{in-order, chain-rest, passed}
 use Rattle.loaded.proofs.Standing.{checked-here, term-here, kind-declared, signing-key-declared, certified-key-declared, signer-declared}
 use Rattle.requests.specs.Formed.{Formed}
 use Rattle.requests.specs.Tests.{calledTests, attestTests, parentageTests}

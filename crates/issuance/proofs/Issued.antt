@@ -31,7 +31,7 @@ use Rattle.state.proofs.Exact.{stateOf}
 use Rattle.tables.specs.Regions.{Boards, Tables, tablesIn, withBoards, withEk, linked}
 use Rattle.boards.specs.Linked.{Falls, entryOf}
 use Rattle.loaded.specs.Loaded.{fileIn, Learns}
-use Rattle.loaded.specs.Entries.{Enters, Boarded, Issues}
+use Rattle.loaded.specs.Entries.{Enters, Boarded, DeskLeaves}
 use Rattle.loaded.proofs.Ledger.{ledger-length, entry-most, entry-listed}
 use Rattle.loaded.proofs.Boards.{found-ek, falls-ek, boarded-linked, boarded-known, boarded-below}
 use Rattle.issuance.specs.Appends.{Appends, linkedBy}
@@ -117,7 +117,7 @@ pub iak-issued :
     → IssuesIak bs s tables words n p c r → request ≡ view s .request c → body ≡ leftOf (fileIn bs) request → parent ≡ idevidCertificate (fileIn bs) body → named ≡ subject (fileIn bs) body → ek ≡ certifiedKey (fileIn bs) parent
     → Learns bs s s₁ p r → view s₂ ≡ withMark (view s₁) (put (view s₁ .mark) c credentialClosed) → Appends tables words n (record { certificate = r; parent = parent; depth = 1 }) ek tables₁ words′
     → tablesIn tables′ ≡ linkedBy (tablesIn tables₁) n named
-    → (other : ℕ) → Issues bs s tables words n (issueIak p other c r) s₂ tables′ words′
+    → (other : ℕ) → DeskLeaves bs s tables words n (issueIak p other c r) s₂ tables′ words′ (n + 1)
 unfolding effectOf issueIakEffect entered closing ekCertificateOf requestBody endEk
 iak-issued {bs} {s} {s₁} {s₂} {tables} {words} {tables₁} {tables′} {n = n} {p} {c} {r} {request} {body} {parent} {ek} {named} i q b e u x w m a k other =
     let f = fileIn bs in
@@ -130,7 +130,10 @@ iak-issued {bs} {s} {s₁} {s₂} {tables} {words} {tables₁} {tables′} {n = 
           ∙ ap (λ (x : State). entered (closing x c) (next parent)) (w .columns old)
           ∙ ap (λ (t : ℕ). entered (closing (learnt f (stateOf (view s) old) p r) c) (next t)) above;
       enters = λ old h. enters-linked tables₁ tables′ n named k (subst⁻¹ (λ (v : Boards). Falls v n) (a .boards) (falls-ek _ _ n (h .falls))) (a .enters old h (iak-new f (stateOf (view s) old) p (i .other) c r (accepted old h)));
-      boards = λ old h inv v.
+      boards = λ old z₀.
+          let h = z₀ .enters in
+          let inv = z₀ .sound in
+          let v = z₀ .boards in
           let z = inv .opened c (i .wellformed .2) (iak-open f (stateOf (view s) old) p (i .other) c r (accepted old h)) in
           let d = device-subject _ (z .deviceSubject) in
           let own : subject f (requestBody f (view s .request c)) ≡ subject f body = ap (subject f) (sym (b ∙ ap (leftOf f) q)) in
@@ -151,7 +154,7 @@ pub request-issued :
     → ((m : ℕ) (ledger : List Entry) → Enters tables words m ledger → depth ≡ depthOf ledger parent)
     → ek ≡ tablesIn tables .boards .ek (tablesIn tables .entry parent - 1)
     → Learns bs s s₁ p r → Appends tables words n (record { certificate = r; parent = parent; depth = depth + 1 }) ek tables′ words′
-    → (family : Family) → Issues bs s tables words n (issue family p q r) s₁ tables′ words′
+    → (family : Family) → DeskLeaves bs s tables words n (issue family p q r) s₁ tables′ words′ (n + 1)
 unfolding effectOf issueEffect entered parentCertificateOf requestBody
 request-issued {bs} {s} {tables = tables} {n = n} {p} {q} {r} {body} {parent} {depth} {ek} i b e d x w a family =
     let f = fileIn bs in
@@ -164,7 +167,10 @@ request-issued {bs} {s} {tables = tables} {n = n} {p} {q} {r} {body} {parent} {d
           ∙ ap (λ (m : ℕ). entered (learnt f (stateOf (view s) old) p r) (next parent m)) (d n old h)
           ∙ ap (λ (t : ℕ). entered (learnt f (stateOf (view s) old) p r) (next t (depthOf old t))) above;
       enters = λ old h. a .enters old h (ap (λ (es : List Entry). listed es r) (same-ledger h (i .accepts .enters)) ∙ request-accepted i .new);
-      boards = λ old h inv v.
+      boards = λ old z₀.
+          let h = z₀ .enters in
+          let inv = z₀ .sound in
+          let v = z₀ .boards in
           let new = ap (λ (es : List Entry). listed es r) (same-ledger h (i .accepts .enters)) ∙ request-accepted i .new in
           let g = entry-listed parent h (subst⁻¹ (λ (t : ℕ). 0 < tablesIn tables .entry t) (e ∙ ap (ldevidCertificate f) b) (parent-place i .0)) in
           subst⁻¹ (λ (y : Boards). Boarded f y (old ++ (next parent depth ∷ [])))

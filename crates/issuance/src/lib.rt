@@ -3,7 +3,7 @@ use rules::Family;
 use rules::Subject;
 ghost use mathlib.Core.Path.{_≡_};
 ghost use mathlib.Core.List.{List};
-ghost use Prim.Native.Nat.{ℕ, _-_, _<_, _≤_};
+ghost use Prim.Native.Nat.{ℕ, _+_, _-_, _<_, _≤_};
 ghost use lib.ListN.{length};
 ghost use Rattle.rules.specs.declared.Entry.{Entry};
 ghost use Rattle.rules.specs.declared.Family.{Family};
@@ -17,9 +17,9 @@ ghost use Rattle.state.specs.View.{view};
 ghost use Rattle.tables.specs.Regions.{tableWords, tablesIn};
 ghost use Rattle.boards.specs.Linked.{Falls};
 ghost use Rattle.entries.specs.Words.{ledgerWords};
-ghost use Rattle.loaded.specs.Chain.{chain};
+ghost use Rattle.theorems.specs.Chain.{chain};
 ghost use Rattle.loaded.specs.Loaded.{fileIn, Holds, Finds};
-ghost use Rattle.loaded.specs.Entries.{Enters, Entered, Boarded, DecidesListed, DecidesBy, Issues};
+ghost use Rattle.loaded.specs.Entries.{Enters, Entered, Boarded, DecidesListed, DecidesBy, DeskLeaves};
 ghost use Rattle.requests.specs.Formed.{Requested};
 ghost use Rattle.issuance.specs.Tests.{iakEntryTests, entryTests};
 ghost use Rattle.issuance.specs.Appends.{Appends, linkedBy};
@@ -248,7 +248,7 @@ pub fn effect_issue_iak(
     r: usize,
 )
     requires { ⌜ Holds (now file) (now state) × IssuesIak (now file) (now state) (now tables) (now words) n party c r ⌝ }
-    ensures { λ _. ⌜ ((other : ℕ) → Issues (now (file .entry)) (now (state .entry)) (now (tables .entry)) (now (words .entry)) n (issueIak party other c r) (now (state .exit)) (now (tables .exit)) (now (words .exit))) ⌝ }
+    ensures { λ _. ⌜ ((other : ℕ) → DeskLeaves (now (file .entry)) (now (state .entry)) (now (tables .entry)) (now (words .entry)) n (issueIak party other c r) (now (state .exit)) (now (tables .exit)) (now (words .exit)) (n + 1)) ⌝ }
 {
     let q = state::request_of(state, c);
     let request = requests::pair_of(file, state, q);
@@ -273,7 +273,7 @@ pub fn effect_issue(
     r: usize,
 )
     requires { ⌜ Holds (now file) (now state) × IssuesOnRequest (now file) (now state) (now tables) (now words) n party q r ⌝ }
-    ensures { λ _. ⌜ ((family : Family) → Issues (now (file .entry)) (now (state .entry)) (now (tables .entry)) (now (words .entry)) n (issue family party q r) (now (state .exit)) (now (tables .exit)) (now (words .exit))) ⌝ }
+    ensures { λ _. ⌜ ((family : Family) → DeskLeaves (now (file .entry)) (now (state .entry)) (now (tables .entry)) (now (words .entry)) n (issue family party q r) (now (state .exit)) (now (tables .exit)) (now (words .exit)) (n + 1)) ⌝ }
 {
     let request = requests::pair_of(file, state, q);
     let asked = requests::ldevid_request_of(file, state, request.left);

@@ -1,4 +1,3 @@
-pub mod Chain
 pub mod Fields
 pub mod Standing
 pub mod Filled
@@ -7,3 +6,4 @@ pub mod Halves
 pub mod Tested
 pub mod Ledger
 pub mod Boards
+pub mod Room

@@ -11,7 +11,7 @@ use mathlib.Core.Bool.{Bool, true, false, not, _&&_, _||_}
 use mathlib.Core.List.{[], _∷_}
 use Prim.Native.Nat.{ℕ}
 use Rattle.rules.specs.Refusals.{need}
-use Rattle.loaded.specs.Chain.{chain}
+use Rattle.theorems.specs.Chain.{chain}
 
 pub of-read : (test : ℕ → Bool) {t u : ℕ} {x b : Bool} → t ≡ u → x ≡ test t → x ≡ b → test u ≡ b
 of-read test e q w = ap test (sym e) ∙ sym q ∙ w

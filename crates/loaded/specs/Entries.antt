@@ -12,7 +12,6 @@ use Rattle.rules.specs.declared.Subject.the-variants.{Device}
 use Rattle.rules.specs.File.{File, Command, subject}
 use Rattle.rules.specs.Desk.{endEk}
 use Rattle.rules.specs.Run.{outcome, effectOf}
-use Rattle.theorems.proofs.Ends.{OneEk}
 use Rattle.theorems.proofs.Invariant.{Invariant}
 use Rattle.state.specs.View.{view}
 use Rattle.state.proofs.Exact.{stateOf}
@@ -45,16 +44,18 @@ pub record Boarded (f : File) (b : Boards) (ledger : List Entry) : Type 0 where
   pub found : (i : ℕ) (e : Entry) → getElem? ledger i ≡ some e → (m : ℕ) × (subject f (e .certificate) ≡ Device m) × (0 < entryOf b m)
   pub right : (m : ℕ) → 0 < entryOf b m → (e : Entry) × (getElem? ledger (entryOf b m - 1) ≡ some e) × (subject f (e .certificate) ≡ Device m)
 
--- the outcome of a command that looks at the tables of the ledger, and of one that looks at its words too; entries of one Subject end at one EK
+-- the words and the tables hold a ledger, and what demand 3 is proved by holds of the state with it
+pub record Ledgered (bs s tables words : List ℕ) (n : ℕ) (ledger : List Entry) : Type 0 where
+  pub enters : Enters tables words n ledger
+  pub boards : Boarded (fileIn bs) (tablesIn tables .boards) ledger
+  pub sound : Invariant (fileIn bs) (stateOf (view s) ledger)
+
+-- the outcome of a command that looks at the tables of the ledger, and of one that looks at its words too
 abbrev pub DecidesListed : List ℕ → List ℕ → List ℕ → Command → ℕ → Type 0
-DecidesListed bs s tables c x =
-    (words : List ℕ) (n : ℕ) (ledger : List Entry) → Enters tables words n ledger → Boarded (fileIn bs) (tablesIn tables .boards) ledger → OneEk (fileIn bs) ledger
-    → x ≡ outcome (fileIn bs) (stateOf (view s) ledger) c
+DecidesListed bs s tables c x = (words : List ℕ) (n : ℕ) (ledger : List Entry) → Ledgered bs s tables words n ledger → x ≡ outcome (fileIn bs) (stateOf (view s) ledger) c
 
 abbrev pub DecidesBy : List ℕ → List ℕ → List ℕ → List ℕ → Command → ℕ → Type 0
-DecidesBy bs s tables words c x =
-    (n : ℕ) (ledger : List Entry) → Enters tables words n ledger → Boarded (fileIn bs) (tablesIn tables .boards) ledger → OneEk (fileIn bs) ledger
-    → x ≡ outcome (fileIn bs) (stateOf (view s) ledger) c
+DecidesBy bs s tables words c x = (n : ℕ) (ledger : List Entry) → Ledgered bs s tables words n ledger → x ≡ outcome (fileIn bs) (stateOf (view s) ledger) c
 
 -- an accepted command that issues, with room for its entry
 pub record Accepts (bs s tables words : List ℕ) (n : ℕ) (c : Command) : Type 0 where
@@ -69,13 +70,11 @@ pub record SameKeys (v w : Tables) : Type 0 where
   pub signer : w .signer ≡ v .signer
   pub half : w .half ≡ v .half
 
--- what an accepted command leaves that issues a certificate: the columns and the ledger of the rules' state, which the words and the tables hold
-pub record Issues (bs s tables words : List ℕ) (n : ℕ) (c : Command) (s′ tables′ words′ : List ℕ) : Type 0 where
+-- what an accepted desk command leaves: the columns and the ledger of the rules' state, of r entries, which the words and the tables hold
+pub record DeskLeaves (bs s tables words : List ℕ) (n : ℕ) (c : Command) (s′ tables′ words′ : List ℕ) (r : ℕ) : Type 0 where
   pub ledger : List Entry → List Entry
   pub columns : (old : List Entry) → Enters tables words n old → stateOf (view s′) (ledger old) ≡ effectOf (fileIn bs) (stateOf (view s) old) c
-  pub enters : (old : List Entry) → Enters tables words n old → Enters tables′ words′ (n + 1) (ledger old)
-  pub boards :
-      (old : List Entry) → Enters tables words n old → Invariant (fileIn bs) (stateOf (view s) old) → Boarded (fileIn bs) (tablesIn tables .boards) old
-      → Boarded (fileIn bs) (tablesIn tables′ .boards) (ledger old)
+  pub enters : (old : List Entry) → Enters tables words n old → Enters tables′ words′ r (ledger old)
+  pub boards : (old : List Entry) → Ledgered bs s tables words n old → Boarded (fileIn bs) (tablesIn tables′ .boards) (ledger old)
   pub places : view s′ .place ≡ view s .place
   pub keys : SameKeys (tablesIn tables) (tablesIn tables′)

@@ -1,6 +1,6 @@
 -- The numbers of a load answer are small.
 --     few-commands      a file has no more commands than bytes
---     near-refusal      the place of a refusal is at most 8 times the length of the file
+--     near-refusal      the place of a refusal is at most the length of the file times that of the longest record
 -- Assumes nothing.
 use mathlib.Core.Path.{_≡_, subst}
 use mathlib.Core.Bool.{Bool, true, false, cond}
@@ -13,7 +13,12 @@ use Rattle.rules.specs.Limits.{fileLimit}
 use Rattle.rules.specs.Record.{sectionOf, bodyLength, partySection, termSection, setupSection, Piece, whole, fault, cut, pieces}
 use Rattle.rules.specs.File.{File}
 use Rattle.rules.specs.Load.{termAt, setupAt, commandAt, recordFault, withParty, withTerm, withSetup, withCommand, enter, Load, loaded, refused, settle, step, feed, emptyFile, load}
+use Rattle.records.specs.Codes.{bodyLimit}
 use Rattle.records.proofs.Lengths.{body-small}
+
+-- the bytes of a record at most
+abbrev pub recordLimit : ℕ
+recordLimit = 1 + bodyLimit
 
 -- every piece begins at m or before
 abbrev Near : ℕ → List Piece → Type 0
@@ -27,7 +32,7 @@ cut-near m false b at k body more h near = (h, tt)
 cut-near m true false at k body more h near = (h, tt)
 cut-near m true true at k body more h near = (h, near)
 
-pieces-near : (m n at : ℕ) (bs : List ℕ) → at + 8 * n ≤ m → Near m (pieces n at bs)
+pieces-near : (m n at : ℕ) (bs : List ℕ) → at + recordLimit * n ≤ m → Near m (pieces n at bs)
 unfolding pieces
 pieces-near m zero at bs h = tt
 pieces-near m (suc n) at [] h = tt
@@ -88,15 +93,15 @@ either-within : (n m : ℕ) (t : Bool) (l l′ : Load) → Within n m l → With
 either-within n m true l l′ w w′ = w
 either-within n m false l l′ w w′ = w′
 
-load-within : (bytes : List ℕ) → Within (length bytes) (8 * length bytes) (load bytes)
+load-within : (bytes : List ℕ) → Within (length bytes) (recordLimit * length bytes) (load bytes)
 unfolding load emptyFile
 load-within bytes =
-    either-within (length bytes) (8 * length bytes) (leb (length bytes) fileLimit) _ (refused 2 0)
-    (fed (length bytes) (8 * length bytes) 0 (pieces (length bytes) 0 bytes) (loaded emptyFile) (omega (arith, pieces-few (length bytes) 0 bytes)) (pieces-near (8 * length bytes) (length bytes) 0 bytes (omega arith)) (omega arith))
+    either-within (length bytes) (recordLimit * length bytes) (leb (length bytes) fileLimit) _ (refused 2 0)
+    (fed (length bytes) (recordLimit * length bytes) 0 (pieces (length bytes) 0 bytes) (loaded emptyFile) (omega (arith, pieces-few (length bytes) 0 bytes)) (pieces-near (recordLimit * length bytes) (length bytes) 0 bytes (omega arith)) (omega arith))
     (omega arith)
 
 pub few-commands : (bytes : List ℕ) (f : File) → load bytes ≡ loaded f → length (f .commands) ≤ length bytes
-few-commands bytes f e = subst (Within (length bytes) (8 * length bytes)) e (load-within bytes)
+few-commands bytes f e = subst (Within (length bytes) (recordLimit * length bytes)) e (load-within bytes)
 
-pub near-refusal : (bytes : List ℕ) (r at : ℕ) → load bytes ≡ refused r at → at ≤ 8 * length bytes
-near-refusal bytes r at e = subst (Within (length bytes) (8 * length bytes)) e (load-within bytes)
+pub near-refusal : (bytes : List ℕ) (r at : ℕ) → load bytes ≡ refused r at → at ≤ recordLimit * length bytes
+near-refusal bytes r at e = subst (Within (length bytes) (recordLimit * length bytes)) e (load-within bytes)

@@ -1,19 +1,21 @@
 -- The command of a record by the bytes where they stand.
 --     hash-there to issue-iak-there   the command of a record, one law a kind
 --     issue-length, issue-there       that of the kinds 40, 41 and 42, by their family
+--     issue-iaks-there                that of kind 43, with the pairs where they stand
 --     command-ends                    where the record of a command ends in the file
 --     three-bytes, four-bytes         its body has three bytes at least, its record four
 --     one-read, two-read, known-as    the command by numbers that were read, and what is known of it
 -- Assumes nothing.
 use mathlib.Core.Path.{_≡_, refl, sym, ap, ap₂, subst, _∙_}
 use mathlib.Core.List.{List}
-use Prim.Native.Nat.{ℕ, _+_, _<_, _≤_}
+use Prim.Native.Nat.{ℕ, zero, suc, _+_, _*_, _<_, _≤_}
 use native.Mathlib.Omega.{arith}
 use lib.ListN.{length, getD, take, drop}
+use Rattle.rules.specs.Limits.{pairCount, pairWidth}
 use Rattle.rules.specs.Families.{requestFamilies, familyOf}
 use Rattle.rules.specs.Record.{sectionOf, fieldsOf, bodyLength, width, widths, word}
-use Rattle.rules.specs.File.{Command, hash, sign, certify, makeCredential, activateCredential, makeIdevidRequest, makeLdevidRequest, makePair, checkHash, checkSignature, checkCertificate, checkAttributes, send, selfIssue, challenge, issueIak, issue}
-use Rattle.rules.specs.Load.{commandAt}
+use Rattle.rules.specs.File.{Command, hash, sign, certify, makeCredential, activateCredential, makeIdevidRequest, makeLdevidRequest, makePair, checkHash, checkSignature, checkCertificate, checkAttributes, send, selfIssue, challenge, issueIak, issue, issueIaks}
+use Rattle.rules.specs.Load.{commandAt, emptyPair, pairsAt}
 use Rattle.records.proofs.EachKind.{agree}
 use Rattle.learning.specs.There.{kindThere}
 use Rattle.learning.proofs.Words.{byte-at, word-at}
@@ -29,6 +31,15 @@ issue-length = agree bodyLength (λ k. 5) 0x40 (length requestFamilies) refl
 issue-made : (b : List ℕ) (k : ℕ) → 0x40 ≤ k → k < 0x40 + length requestFamilies → commandAt k b ≡ issue (familyOf k) (getD b 0 0) (word b 1) (word b 3)
 unfolding commandAt
 issue-made b = agree (λ k. commandAt k b) (λ k. issue (familyOf k) (getD b 0 0) (word b 1) (word b 3)) 0x40 (length requestFamilies) refl
+
+-- the pairs in a body of m bytes are those in the file
+pairs-same : (bs : List ℕ) (at m n i : ℕ) → i + n * pairWidth ≤ m → pairsAt n (take m (drop (at + 1) bs)) i ≡ pairsAt n bs (at + suc i)
+unfolding pairsAt emptyPair
+pairs-same bs at m zero i h = refl
+pairs-same bs at m (suc n) i h =
+    let e : at + suc (i + 2) ≡ at + suc i + 2 = omega arith in
+    let l : at + suc (i + pairWidth) ≡ at + suc i + pairWidth = omega arith in
+    rw (word-at bs at m i (omega arith), word-at bs at m (i + 2) (omega arith), pairs-same bs at m n (i + pairWidth) (omega arith), e, l) refl
 
 module _ (bs : List ℕ) (at : ℕ) where
   -- a record that stands in the file ends in it
@@ -117,6 +128,10 @@ module _ (bs : List ℕ) (at : ℕ) where
   pub issue-there : 0x40 ≤ kindThere bs at → kindThere bs at < 0x40 + length requestFamilies → commandThere bs at ≡ issue (familyOf (kindThere bs at)) (getD bs (at + 1) 0) (word bs (at + 2)) (word bs (at + 4))
   issue-there l h =
       two-terms (kindThere bs at) (issue (familyOf (kindThere bs at))) (issue-length (kindThere bs at) l h) (λ b. issue-made b (kindThere bs at) l h) refl
+
+  pub issue-iaks-there : kindThere bs at ≡ 0x43 → commandThere bs at ≡ issueIaks (getD bs (at + 1) 0) (getD bs (at + 2) 0) (pairsAt pairCount bs (at + 3))
+  unfolding commandAt bodyLength widths width fieldsOf sectionOf
+  issue-iaks-there e = of-kind 0x43 18 refl e ∙ (λ x. issueIaks (byte-at bs at 18 0 (omega arith) x) (byte-at bs at 18 1 (omega arith) x) (pairs-same bs at 18 pairCount 2 (omega arith) x))
 
 -- a command by numbers that were read
 pub one-read : (make : ℕ → ℕ → Command) {c : Command} {p m r : ℕ} → c ≡ make p m → r ≡ m → c ≡ make p r

@@ -9,6 +9,7 @@ use borrow.Author.Tests.{leb-true, ltb-true, lt-ltb, eq-eqb}
 use Rattle.rules.specs.Record.{kindCount, sectionOf, fieldsOf, termSection, commandSection, bodyLength, width, widths}
 use Rattle.rules.specs.Term.{pairKind}
 use Rattle.theorems.proofs.LastArm.{NoneFrom, last-arm}
+use Rattle.records.specs.Codes.{fieldLimit, bodyLimit}
 use Rattle.records.proofs.EachKind.{values, each-kind, each-number, section-past}
 
 -- sections are at most that of commands
@@ -20,13 +21,13 @@ pub fields-end : (k : ℕ) → widths (fieldsOf k) ≡ bodyLength k
 unfolding bodyLength
 fields-end k = refl
 
-pub body-small : (k : ℕ) → bodyLength k ≤ 7
+pub body-small : (k : ℕ) → bodyLength k ≤ bodyLimit
 unfolding bodyLength widths width sectionOf fieldsOf
-body-small k = leb-true (bodyLength k) 7 (each-kind (λ s fs. leb (widths fs) 7) (λ s fs. true) refl k)
+body-small k = leb-true (bodyLength k) bodyLimit (each-kind (λ s fs. leb (widths fs) bodyLimit) (λ s fs. true) refl k)
 
-pub few-fields : (k : ℕ) → length (fieldsOf k) ≤ 4
+pub few-fields : (k : ℕ) → length (fieldsOf k) ≤ fieldLimit
 unfolding sectionOf fieldsOf
-few-fields k = leb-true (length (fieldsOf k)) 4 (each-kind (λ s fs. leb (length fs) 4) (λ s fs. true) refl k)
+few-fields k = leb-true (length (fieldsOf k)) fieldLimit (each-kind (λ s fs. leb (length fs) fieldLimit) (λ s fs. true) refl k)
 
 -- what a test asks where another holds
 when-true : (t u : Bool) → cond t u true ≡ true → t ≡ true → u ≡ true

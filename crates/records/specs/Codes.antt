@@ -1,4 +1,4 @@
--- Fields as numbers: a field of one kind of term is that kind, another a number below 8; 0 is no field. A list of fields is packed a byte each, the first in the lowest.
+-- Fields as numbers: a field of one kind of term is that kind, another a number below 9; 0 is no field. A list of fields is packed a byte each, the first in the lowest.
 use mathlib.Core.Path.{_≡_}
 use mathlib.Core.Bool.{cond}
 use mathlib.Core.List.{List, [], _∷_}
@@ -6,8 +6,16 @@ use Prim.Native.Nat.{ℕ, _+_, _*_, _%_, _≤_}
 use lib.Dec.{eqb}
 use lib.ListN.{getD}
 use Rattle.rules.specs.declared.Field.{Field}
-use Rattle.rules.specs.declared.Field.the-variants.{RoleField, IdentifierField, AttributesField, SubjectField, PartyField, AnyTerm, TermOf, SignedAttest}
+use Rattle.rules.specs.declared.Field.the-variants.{RoleField, IdentifierField, AttributesField, SubjectField, PartyField, AnyTerm, TermOf, SignedAttest, IakPairField}
+use Rattle.rules.specs.Limits.{pairCount, pairWidth}
 use Rattle.rules.specs.Record.{lastKind, fieldsOf}
+
+-- the fields of a record and the bytes of a body at most: those of a 43
+abbrev pub fieldLimit : ℕ
+fieldLimit = 6
+
+abbrev pub bodyLimit : ℕ
+bodyLimit = 2 + pairCount * pairWidth
 
 unfoldable pub codeOf : Field → ℕ
 codeOf RoleField = 1
@@ -18,6 +26,7 @@ codeOf PartyField = 5
 codeOf AnyTerm = 6
 codeOf (TermOf k) = k
 codeOf SignedAttest = 7
+codeOf IakPairField = 8
 
 unfoldable pub packed : List Field → ℕ
 packed [] = 0
@@ -34,7 +43,8 @@ lowField n =
     (cond (eqb (n % 256) 5) PartyField
     (cond (eqb (n % 256) 6) AnyTerm
     (cond (eqb (n % 256) 7) SignedAttest
-    (TermOf (n % 256)))))))))
+    (cond (eqb (n % 256) 8) IakPairField
+    (TermOf (n % 256))))))))))
 
 -- a table of the packed fields of each kind from 00 to the last
 abbrev pub FieldRows : List ℕ → Type 0

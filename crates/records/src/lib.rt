@@ -32,13 +32,16 @@ pub fn section_of(kind: u8) -> u8
         0x01 => 1,
         0x10..=0x1A => 2,
         0x20..=0x22 => 3,
-        0x30..=0x42 => 4,
+        0x30..=0x43 => 4,
         _ => 0,
     }
 }
 
-// The fields of each kind from 00 to 42, packed: a byte each (low_field), the first in the lowest.
-const FIELDS: [u32; rules::KIND_COUNT] = [
+// The fields of a record at most.
+pub const FIELD_LIMIT: usize = 6;
+
+// The fields of each kind from 00 to 43, packed: a byte each (low_field), the first in the lowest.
+const FIELDS: [u64; rules::KIND_COUNT] = [
     0,
     // From 01 on.
     0x01,
@@ -111,17 +114,18 @@ const FIELDS: [u32; rules::KIND_COUNT] = [
     0x190605,
     0x190605,
     0x190605,
+    0x080808080505,
 ];
 
 // The packed fields of each kind, for a caller to keep: a constant is written anew wherever it stands.
-pub fn field_table() -> [u32; rules::KIND_COUNT]
+pub fn field_table() -> [u64; rules::KIND_COUNT]
     ensures { λ r. ⌜ FieldRows r ⌝ }
 {
     FIELDS
 }
 
 // The fields of a kind, packed, from the table that the caller keeps.
-pub fn fields_in(table: &[u32; rules::KIND_COUNT], kind: u8) -> u32
+pub fn fields_in(table: &[u64; rules::KIND_COUNT], kind: u8) -> u64
     requires { ⌜ FieldRows (now table) ⌝ }
     ensures { λ r. ⌜ r ≡ packed (fieldsOf kind) ⌝ }
 {
@@ -129,8 +133,8 @@ pub fn fields_in(table: &[u32; rules::KIND_COUNT], kind: u8) -> u32
     if k <= rules::LAST_KIND { table[k] } else { 0 }
 }
 
-// The lowest of packed fields: a byte that is the kind of the terms that it takes, or a number below 8.
-pub fn low_field(fields: u32) -> Field
+// The lowest of packed fields: a byte that is the kind of the terms that it takes, or a number below 9.
+pub fn low_field(fields: u64) -> Field
     ensures { λ r. ⌜ r ≡ lowField fields ⌝ }
 {
     let code = (fields % 256) as u8;
@@ -143,6 +147,7 @@ pub fn low_field(fields: u32) -> Field
         5 => Field::PartyField,
         6 => Field::AnyTerm,
         7 => Field::SignedAttest,
+        8 => Field::IakPairField,
         _ => Field::TermOf(code),
     }
 }
@@ -160,6 +165,7 @@ pub fn width(f: Field) -> usize
         Field::AnyTerm => 2,
         Field::TermOf(_) => 2,
         Field::SignedAttest => 2,
+        Field::IakPairField => rules::PAIR_WIDTH,
     }
 }
 
@@ -207,7 +213,8 @@ fn command_length(kind: u8) -> usize
         0x3F => 6,
         0x40 => 5,
         0x41 => 5,
-        _ => 5,
+        0x42 => 5,
+        _ => 18,
     }
 }
 
@@ -219,7 +226,7 @@ pub fn body_length(kind: u8) -> usize
         0x01 => 1,
         0x10..=0x1A => term_length(kind),
         0x20..=0x22 => 3,
-        0x30..=0x42 => command_length(kind),
+        0x30..=0x43 => command_length(kind),
         _ => 0,
     }
 }

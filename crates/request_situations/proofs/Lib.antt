@@ -1,2 +1,3 @@
 pub mod OfFamilies
 pub mod OfSubjects
+pub mod OfTogether

@@ -6,3 +6,7 @@ pub fn of_families() -> u64 {
 pub fn of_subjects() -> u64 {
     7
 }
+
+pub fn of_together() -> u64 {
+    22
+}

@@ -8,8 +8,8 @@ use Prim.Native.Nat.{ℕ}
 use Rattle.rules.specs.declared.Term.the-variants.{Signature, Attest}
 use Rattle.rules.specs.Term.{signatureKind, attestKind}
 use Rattle.rules.specs.File.{File, term, isKind, message, attestedKey}
-use Rattle.loaded.specs.Chain.{chain}
-use Rattle.loaded.proofs.Chain.{chain-none, chain-passes, chain-fails}
+use Rattle.theorems.specs.Chain.{chain}
+use Rattle.theorems.proofs.Chain.{chain-none, chain-passes, chain-fails}
 use Rattle.requests.specs.Tests.{attestTests}
 use Rattle.requests.proofs.Read.{kind-is, signature-kind, signature-message, attest-key}
 

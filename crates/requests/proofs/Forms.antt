@@ -12,8 +12,8 @@ use Rattle.rules.specs.Term.{hashKind, pairKind, signatureKind}
 use Rattle.rules.specs.File.{File, term, isKind, hashedTerm, message, signingKey, paired}
 use Rattle.rules.specs.Desk.{formTests, proofTests, requestBody, requestSignature}
 use Rattle.requests.specs.Names.{Names}
-use Rattle.loaded.specs.Chain.{chain}
-use Rattle.loaded.proofs.Chain.{chain-none, chain-passes, chain-fails}
+use Rattle.theorems.specs.Chain.{chain}
+use Rattle.theorems.proofs.Chain.{chain-none, chain-passes, chain-fails}
 use Rattle.requests.proofs.Read.{kind-is, pair-kind, pair-left, pair-right, signature-kind, signature-message, signature-key, hash-content}
 
 module _ (f : File) (k q : ℕ) where

@@ -9,8 +9,8 @@ use native.Mathlib.Omega.{arith}
 use Rattle.rules.specs.Refusals.{Test}
 use Rattle.rules.specs.File.{File, kind, leftOf}
 use Rattle.rules.specs.Desk.{requestBody, requestSignature, formTests, proofTests}
-use Rattle.loaded.specs.Chain.{chain}
-use Rattle.loaded.proofs.Chain.{chain-rest, passed}
+use Rattle.theorems.specs.Chain.{chain}
+use Rattle.theorems.proofs.Chain.{chain-rest, passed}
 use Rattle.requests.specs.Formed.{Formed}
 use Rattle.requests.proofs.Read.{is-kind-kind}
 

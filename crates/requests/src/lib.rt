@@ -16,7 +16,7 @@ ghost use Rattle.rules.specs.Term.{credentialKind, idevidRequestKind, ldevidReq
 ghost use Rattle.rules.specs.File.{isRole, kind, message, signingKey, attestedKey, credentialTerm, credentialNumber, credentialKey, idevidCertificate, idevidKey, ldevidMessage, ldevidCertificate, certifiedKey, signer, leftOf, rightOf, subject, attributes, signsForRole, signsForSome};
 ghost use Rattle.rules.specs.Desk.{formTests, proofTests};
 ghost use Rattle.tables.specs.Regions.{tablesIn};
-ghost use Rattle.loaded.specs.Chain.{chain};
+ghost use Rattle.theorems.specs.Chain.{chain};
 ghost use Rattle.loaded.specs.Loaded.{fileIn, Holds, Finds, PartyHere, TermHere};
 ghost use Rattle.requests.specs.Search.{Searched};
 ghost use Rattle.requests.specs.Names.{Names};

@@ -131,3 +131,11 @@ issueIak desk returning opened r = 0x3F ∷ desk ∷ returning ∷ words (opened
 -- 40, 41, 42: desk, request, certificate
 abbrev pub issue : ℕ → ℕ → ℕ → ℕ → Bytes
 issue kind desk request r = kind ∷ desk ∷ words (request ∷ r ∷ [])
+
+-- 43: OEM desk, returning party, four pairs of a credential and a certificate, one after another
+abbrev pub issueIaks : ℕ → ℕ → List ℕ → Bytes
+issueIaks desk returning pairs = 0x43 ∷ desk ∷ returning ∷ words pairs
+
+-- an empty pair
+abbrev pub noPair : List ℕ
+noPair = 0xFFFF ∷ 0xFFFF ∷ []

@@ -5,8 +5,8 @@ use Prim.Native.Nat.{ℕ, zero, suc, _+_, _*_}
 use Rattle.rules.specs.declared.Entry.{Entry}
 use Rattle.rules.specs.Load.{load}
 use Rattle.rules.specs.Listing.{listing}
-use Rattle.rules.proofs.Computed.{Result, ran, notLoaded, result, withLedger, outcomesWith, outcomesKnowing}
-use Rattle.rules.proofs.Records.{Bytes, written, aDevice, aTpmMaker, anOemDesk, anOwnerDesk, tpm, device, publicKey, privateKey, hash, signature, attest, credential, number, idevidRequest, ldevidRequest, certificate, pair, learns, holds, signsWith, makeHash, sign, certify, makeCredential, activateCredential, makeIdevidRequest, makeLdevidRequest, makePair, send, challenge, issueIak, issue}
+use Rattle.rules.proofs.Computed.{Result, ran, notLoaded, result, withLedger, outcomesWith, outcomesKnowing, allOpen, resultOpen}
+use Rattle.rules.proofs.Records.{Bytes, written, aDevice, aTpmMaker, anOemDesk, anOwnerDesk, tpm, device, publicKey, privateKey, hash, signature, attest, credential, number, idevidRequest, ldevidRequest, certificate, pair, learns, holds, signsWith, makeHash, sign, certify, makeCredential, activateCredential, makeIdevidRequest, makeLdevidRequest, makePair, send, challenge, issueIak, issue, issueIaks, noPair}
 
 -- A file and what it gives.
 pub record Situation : Type 0 where
@@ -578,6 +578,41 @@ slips =
 slips-refused : outcomesKnowing (load (withOwner (allTerms 0 slips) (allHeld 0 slips) (issuing 0 slips))) ≡ 0 ∷ 23 ∷ 23 ∷ 21 ∷ 0 ∷ 23 ∷ 13 ∷ []
 unfolding result outcomesKnowing
 slips-refused = refl
+
+-- 43 (request 4 of document 02), in a state that no file comes to: every party knows everything, and every credential is open with the request
+-- before it. Terms: 0 the desk's key, 1 and 2 EKs, 3 and 4 their certificates, 5 a number; then four IAKs of five terms each, the key, the 17,
+-- the request, which is not signed, the credential and the certificate. The second has the first's Subject and the other EK.
+abbrev openIak : ℕ → ℕ → List Bytes
+openIak n endorsement =
+    publicKey (10 + n) 0x0B
+    ∷ idevidRequest (device 8) endorsement (6 + n * 5)
+    ∷ pair (7 + n * 5) (7 + n * 5)
+    ∷ credential 1 5 (6 + n * 5)
+    ∷ certificate (6 + n * 5) (device 8) 0
+    ∷ []
+
+abbrev openPair : ℕ → List ℕ
+openPair n = (9 + n * 5) ∷ (10 + n * 5) ∷ []
+
+-- The second fails after the first, which is not issued; then the first alone; then the third and the fourth, in this order.
+abbrev together : Bytes
+together =
+    written
+    ((anOemDesk ∷ aDevice ∷ privateKey 1 0x0A ∷ publicKey 2 0x0D ∷ publicKey 3 0x0D ∷ certificate 1 (tpm 7) 0 ∷ certificate 2 (tpm 7) 0 ∷ number 9 ∷ [])
+    ++ openIak 0 3
+    ++ openIak 1 4
+    ++ openIak 2 3
+    ++ openIak 3 3
+    ++ (holds 0 0
+    ∷ signsWith 0 0
+    ∷ issueIaks 0 1 (openPair 0 ++ openPair 1 ++ noPair ++ noPair)
+    ∷ issueIaks 0 1 (noPair ++ openPair 0 ++ noPair ++ noPair)
+    ∷ issueIaks 0 1 (openPair 2 ++ noPair ++ noPair ++ openPair 3)
+    ∷ []))
+
+together-issued : resultOpen (load together) ≡ (31 ∷ 0 ∷ 0 ∷ [], (10, 3, 1) ∷ (20, 3, 1) ∷ (25, 3, 1) ∷ [])
+unfolding result allOpen resultOpen
+together-issued = refl
 
 -- A Restricted key that signs a private key of its TPM, itself.
 abbrev privateSigned : Situation

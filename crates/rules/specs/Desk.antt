@@ -1,16 +1,17 @@
 -- Desk commands (document 01, "Desk commands"): what each asks, and what it changes.
-use mathlib.Core.Bool.{Bool, true, cond, not, _&&_, _||_}
+use mathlib.Core.Bool.{Bool, true, false, cond, not, _&&_, _||_}
 use mathlib.Core.List.{List, [], _∷_, _++_}
 use Prim.Native.Nat.{ℕ, zero, suc, _+_}
 use lib.Dec.{eqb, leb}
+use lib.ListN.{length}
 use Rattle.rules.specs.declared.Entry.{Entry}
 use Rattle.rules.specs.declared.Family.{Family}
 use Rattle.rules.specs.declared.Subject.{Subject}
 use Rattle.rules.specs.Limits.{device, tpmMaker, oemDesk, partyLimit, depthLimit}
-use Rattle.rules.specs.Refusals.{Test, need}
+use Rattle.rules.specs.Refusals.{Test, need, refusalOf}
 use Rattle.rules.specs.Attributes.{sameAttributes, iakAttributes, ekAttributes}
 use Rattle.rules.specs.Term.{hashKind, signatureKind, attestKind, idevidRequestKind, ldevidRequestKind, pairKind, sameSubject, isDeviceSubject, isTpmSubject}
-use Rattle.rules.specs.File.{File, isRole, isKind, hashedTerm, message, signingKey, attestedKey, credentialTerm, credentialNumber, credentialKey, idevidCertificate, idevidKey, ldevidMessage, ldevidCertificate, certifiedKey, signer, leftOf, rightOf, subject, attributes, paired, signsFor, signsForRole, signsForSome}
+use Rattle.rules.specs.File.{File, IakPair, isRole, isKind, hashedTerm, message, signingKey, attestedKey, credentialTerm, credentialNumber, credentialKey, idevidCertificate, idevidKey, ldevidMessage, ldevidCertificate, certifiedKey, signer, leftOf, rightOf, subject, attributes, paired, signsFor, signsForRole, signsForSome}
 use Rattle.rules.specs.Learning.{Knowledge}
 use Rattle.rules.specs.State.{State, numberUsed, credentialOpen, listed, depthOf, endOf, learnt, opening, closing, entered}
 
@@ -146,3 +147,36 @@ unfoldable pub issueEffect : File → State → ℕ → ℕ → ℕ → State
 issueEffect f s p q r =
     entered (learnt f s p r)
     (record { certificate = r; parent = parentCertificateOf f q; depth = depthOf (s .ledger) (parentCertificateOf f q) + 1 })
+
+-- 43 (OEM desk p, returning party q, pairs; request 4 of document 02): "Each pair is judged by the rules of 3F, as if the pairs before it had
+-- been issued", up to the first that fails
+unfoldable pub pairTests : File → State → ℕ → ℕ → List IakPair → List Test
+pairTests f s p q [] = []
+pairTests f s p q (x ∷ xs) =
+    let tests = issueIakTests f s p q (x .credential) (x .certificate) in
+    tests ++ cond (eqb (refusalOf tests) 0) (pairTests f (issueIakEffect f s p q (x .credential) (x .certificate)) p q xs) []
+
+unfoldable pub certificatesOf : List IakPair → List ℕ
+certificatesOf [] = []
+certificatesOf (x ∷ xs) = x .certificate ∷ certificatesOf xs
+
+unfoldable pub isAmong : ℕ → List ℕ → Bool
+isAmong t [] = false
+isAmong t (u ∷ us) = eqb t u || isAmong t us
+
+-- two are alike: no two terms of a file are (9), so that they are one term
+unfoldable pub anyTwice : List ℕ → Bool
+anyTwice [] = false
+anyTwice (t ∷ ts) = isAmong t ts || anyTwice ts
+
+unfoldable pub issueIaksTests : File → State → ℕ → ℕ → List IakPair → List Test
+issueIaksTests f s p q xs =
+    need 13 (isRole f oemDesk p)
+    ∷ need 32 (not (eqb (length xs) 0))
+    ∷ need 32 (not (anyTwice (certificatesOf xs)))
+    ∷ pairTests f s p q xs
+
+-- "All are issued in order"
+unfoldable pub issueIaksEffect : File → State → ℕ → ℕ → List IakPair → State
+issueIaksEffect f s p q [] = s
+issueIaksEffect f s p q (x ∷ xs) = issueIaksEffect f (issueIakEffect f s p q (x .credential) (x .certificate)) p q xs

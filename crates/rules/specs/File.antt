@@ -17,7 +17,13 @@ use Rattle.rules.specs.Term.{kindOf, fieldsIn, subjectOf, attributesOf, 
 pub data Setup : Type 0 where
   learns holds signsWith : ℕ → ℕ → Setup
 
--- A command, 30 to 42, with its fields in the order of its body; 40, 41 and 42 are one with the family of the certificate.
+-- A pair of a 43: a credential, and the certificate to issue for it.
+pub record IakPair : Type 0 where
+  pub credential : ℕ
+  pub certificate : ℕ
+
+-- A command, 30 to 43, with its fields in the order of its body; 40, 41 and 42 are one with the family of the certificate. The pairs of a 43 are
+-- those that are not empty.
 pub data Command : Type 0 where
   hash sign certify makeCredential activateCredential makeIdevidRequest makeLdevidRequest makePair : ℕ → ℕ → Command
   checkHash checkSignature checkCertificate checkAttributes send : ℕ → ℕ → ℕ → Command
@@ -25,6 +31,7 @@ pub data Command : Type 0 where
   challenge : ℕ → ℕ → ℕ → Command
   issueIak : ℕ → ℕ → ℕ → ℕ → Command
   issue : Family → ℕ → ℕ → ℕ → Command
+  issueIaks : ℕ → ℕ → List IakPair → Command
 
 -- What the records so far declare. Section: that of the last record. Set-up records and commands: the latest first.
 pub record File : Type 0 where

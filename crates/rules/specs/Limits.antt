@@ -29,6 +29,16 @@ stateBytes = termLimit * rowWidth
 abbrev pub pathPlaces : ℕ
 pathPlaces = depthLimit + 1
 
+-- a 43 (request 4 of document 02): its pairs, the bytes of one, and the number in both fields of an empty one, which is no term's
+abbrev pub pairCount : ℕ
+pairCount = 4
+
+abbrev pub pairWidth : ℕ
+pairWidth = 4
+
+abbrev pub emptyField : ℕ
+emptyField = 0xFFFF
+
 -- roles of parties
 abbrev pub device : ℕ
 device = 0

@@ -8,14 +8,14 @@ use Rattle.rules.specs.declared.Subject.{Subject}
 use Rattle.rules.specs.declared.Subject.the-variants.{Tpm, Device}
 use Rattle.rules.specs.declared.Term.{Term}
 use Rattle.rules.specs.declared.Term.the-variants.{PublicKey, PrivateKey, Hash, Signature, Attest, Credential, Number, IdevidRequest, LdevidRequest, Certificate, Pair}
-use Rattle.rules.specs.Limits.{fileLimit, partyLimit, termLimit, roleCount, device, tpmMaker}
+use Rattle.rules.specs.Limits.{fileLimit, partyLimit, termLimit, pairCount, pairWidth, emptyField, roleCount, device, tpmMaker}
 use Rattle.rules.specs.Attributes.{attributesLimit, fixedTpm, has, sameAttributes, deskKeyAttributes}
 use Rattle.rules.specs.Term.{publicKeyKind, privateKeyKind, hashKind, signatureKind, attestKind, credentialKind, numberKind, idevidRequestKind, ldevidRequestKind, certificateKind, anyAlike, isTpmSubject}
 use Rattle.rules.specs.Families.{familyOf}
 use Rattle.rules.specs.declared.Field.{Field}
-use Rattle.rules.specs.declared.Field.the-variants.{RoleField, IdentifierField, AttributesField, SubjectField, PartyField, AnyTerm, TermOf, SignedAttest}
+use Rattle.rules.specs.declared.Field.the-variants.{RoleField, IdentifierField, AttributesField, SubjectField, PartyField, AnyTerm, TermOf, SignedAttest, IakPairField}
 use Rattle.rules.specs.Record.{width, fieldsOf, sectionOf, partySection, termSection, setupSection, word, Piece, whole, fault, pieces}
-use Rattle.rules.specs.File.{Setup, learns, holds, signsWith, Command, hash, sign, certify, makeCredential, activateCredential, makeIdevidRequest, makeLdevidRequest, makePair, checkHash, checkSignature, checkCertificate, checkAttributes, send, selfIssue, challenge, issueIak, issue, File, isRole, isKind, message, subject, attributes, signer, someSetup, isOtherHold, isSigner, holdsKey, signsForRole}
+use Rattle.rules.specs.File.{Setup, learns, holds, signsWith, Command, hash, sign, certify, makeCredential, activateCredential, makeIdevidRequest, makeLdevidRequest, makePair, checkHash, checkSignature, checkCertificate, checkAttributes, send, selfIssue, challenge, issueIak, issue, issueIaks, IakPair, File, isRole, isKind, message, subject, attributes, signer, someSetup, isOtherHold, isSigner, holdsKey, signsForRole}
 
 -- the first of two refusals, where 0 is none
 unfoldable pub first : ℕ → ℕ → ℕ
@@ -50,6 +50,17 @@ setupAt k bs =
     (cond (eqb k 0x21) (holds (getD bs 0 0) (word bs 1))
     (signsWith (getD bs 0 0) (word bs 1)))
 
+-- "a pair of two FFFF hex is empty": the pair at a place of a 43's body (request 4 of document 02)
+unfoldable pub emptyPair : List ℕ → ℕ → Bool
+emptyPair bs i = eqb (word bs i) emptyField && eqb (word bs (i + 2)) emptyField
+
+-- n pairs from a place on, without the empty ones
+unfoldable pub pairsAt : ℕ → List ℕ → ℕ → List IakPair
+pairsAt zero bs i = []
+pairsAt (suc n) bs i =
+    let more = pairsAt n bs (i + pairWidth) in
+    cond (emptyPair bs i) more (record { credential = word bs i; certificate = word bs (i + 2) } ∷ more)
+
 -- the command of a kind with a body
 unfoldable pub commandAt : ℕ → List ℕ → Command
 commandAt k bs =
@@ -69,7 +80,8 @@ commandAt k bs =
     (cond (eqb k 0x3D) (selfIssue (getD bs 0 0) (word bs 1))
     (cond (eqb k 0x3E) (challenge (getD bs 0 0) (word bs 1) (word bs 3))
     (cond (eqb k 0x3F) (issueIak (getD bs 0 0) (getD bs 1 0) (word bs 2) (word bs 4))
-    (issue (familyOf k) (getD bs 0 0) (word bs 1) (word bs 3)))))))))))))))))
+    (cond (eqb k 0x43) (issueIaks (getD bs 0 0) (getD bs 1 0) (pairsAt pairCount bs 2))
+    (issue (familyOf k) (getD bs 0 0) (word bs 1) (word bs 3))))))))))))))))))
 
 -- 5: a section goes before one that has begun
 unfoldable pub sectionFault : File → ℕ → ℕ
@@ -86,6 +98,10 @@ countFault f k =
 unfoldable pub declaredFault : File → ℕ → ℕ
 declaredFault f t = refuseUnless 7 (ltb t (length (f .terms)))
 
+-- 7, 8: a term number that is not declared, or not of a kind
+abbrev pub kindFault : File → ℕ → ℕ → ℕ
+kindFault f k t = first (declaredFault f t) (refuseUnless 8 (isKind f k t))
+
 -- 7, 8: what is wrong with a field at a place of a body
 unfoldable pub fieldFault : File → Field → ℕ → List ℕ → ℕ
 fieldFault f RoleField i bs = refuseUnless 7 (ltb (getD bs i 0) roleCount)
@@ -94,11 +110,12 @@ fieldFault f AttributesField i bs = refuseUnless 7 (ltb (getD bs i 0) attributes
 fieldFault f SubjectField i bs = refuseUnless 7 (ltb (getD bs i 0) 2)
 fieldFault f PartyField i bs = refuseUnless 7 (ltb (getD bs i 0) (length (f .roles)))
 fieldFault f AnyTerm i bs = declaredFault f (word bs i)
-fieldFault f (TermOf k) i bs = first (declaredFault f (word bs i)) (refuseUnless 8 (isKind f k (word bs i)))
+fieldFault f (TermOf k) i bs = kindFault f k (word bs i)
 fieldFault f SignedAttest i bs =
     first (declaredFault f (word bs i))
     (first (refuseUnless 8 (isKind f signatureKind (word bs i)))
     (refuseUnless 8 (isKind f attestKind (message f (word bs i)))))
+fieldFault f IakPairField i bs = cond (emptyPair bs i) 0 (first (kindFault f credentialKind (word bs i)) (kindFault f certificateKind (word bs (i + 2))))
 
 -- the fields in their order
 unfoldable pub fieldsFault : File → List Field → ℕ → List ℕ → ℕ

@@ -3,9 +3,10 @@ use mathlib.Core.Bool.{Bool, true, false, cond, _&&_}
 use mathlib.Core.List.{List, [], _∷_}
 use Prim.Native.Nat.{ℕ, zero, suc, _+_, _*_, _-_}
 use lib.Dec.{eqb, ltb, leb}
-use lib.ListN.{getD, length, take, drop}
+use lib.ListN.{getD, length, take, drop, replicate}
 use Rattle.rules.specs.declared.Field.{Field}
-use Rattle.rules.specs.declared.Field.the-variants.{RoleField, IdentifierField, AttributesField, SubjectField, PartyField, AnyTerm, TermOf, SignedAttest}
+use Rattle.rules.specs.declared.Field.the-variants.{RoleField, IdentifierField, AttributesField, SubjectField, PartyField, AnyTerm, TermOf, SignedAttest, IakPairField}
+use Rattle.rules.specs.Limits.{pairCount, pairWidth}
 use Rattle.rules.specs.Term.{publicKeyKind, privateKeyKind, hashKind, signatureKind, credentialKind, numberKind, idevidRequestKind, ldevidRequestKind, certificateKind, pairKind}
 
 -- the bytes of a field
@@ -18,6 +19,7 @@ width PartyField = 1
 width AnyTerm = 2
 width (TermOf k) = 2
 width SignedAttest = 2
+width IakPairField = pairWidth
 
 unfoldable pub widths : List Field → ℕ
 widths [] = 0
@@ -38,12 +40,12 @@ commandSection = 4
 
 -- the last kind of the last section; the kinds from 00 to it
 abbrev pub lastKind : ℕ
-lastKind = 0x42
+lastKind = 0x43
 
 abbrev pub kindCount : ℕ
 kindCount = lastKind + 1
 
--- the section of a kind: 01, 10 to 1A, 20 to 22, 30 to 42
+-- the section of a kind: 01, 10 to 1A, 20 to 22, 30 to 43
 unfoldable pub sectionOf : ℕ → ℕ
 sectionOf k =
     cond (eqb k 0x01) partySection
@@ -72,7 +74,7 @@ termRows =
 setupRows : List (List Field)
 setupRows = (PartyField ∷ AnyTerm ∷ []) ∷ (PartyField ∷ TermOf privateKeyKind ∷ []) ∷ (PartyField ∷ TermOf privateKeyKind ∷ []) ∷ []
 
--- 30 to 42
+-- 30 to 43
 commandRows : List (List Field)
 commandRows =
     (PartyField ∷ TermOf hashKind ∷ [])
@@ -94,6 +96,7 @@ commandRows =
     ∷ (PartyField ∷ AnyTerm ∷ TermOf certificateKind ∷ [])
     ∷ (PartyField ∷ AnyTerm ∷ TermOf certificateKind ∷ [])
     ∷ (PartyField ∷ AnyTerm ∷ TermOf certificateKind ∷ [])
+    ∷ (PartyField ∷ PartyField ∷ replicate pairCount IakPairField)
     ∷ []
 
 -- the fields of a kind's body

@@ -23,9 +23,16 @@ pub const DEPTH_LIMIT: u16 = 8;
 pub const PATH_PLACES: usize = 9;
 
 // The last kind of the last section, and the kinds from 00 to it.
-pub const LAST_KIND: usize = 0x42;
+pub const LAST_KIND: usize = 0x43;
 
 pub const KIND_COUNT: usize = LAST_KIND + 1;
+
+// The pairs of a 43, the bytes of one, and the number in both fields of an empty one.
+pub const PAIR_COUNT: usize = 4;
+
+pub const PAIR_WIDTH: usize = 4;
+
+pub const EMPTY_FIELD: u16 = 0xFFFF;
 
 // The marks of a used number, and of an open and a closed credential.
 pub const NUMBER_USED: u8 = 1;
@@ -210,6 +217,8 @@ pub enum Field {
     TermOf(u8),
     // A signature over an attest.
     SignedAttest,
+    // A credential and a certificate, or an empty pair.
+    IakPairField,
 }
 
 // A line of the ledger: an issued certificate, its parent and how many steps lead to an endorsement certificate.

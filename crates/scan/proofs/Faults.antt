@@ -5,7 +5,7 @@
 --     fields-next, fields-stop                             7 and 8, one field after the other
 --     refuse-fields, refuse-last, taken                    what loading makes of the record
 -- Assumes nothing.
-use mathlib.Core.Path.{_≡_, refl, sym, ap, _∙_, subst}
+use mathlib.Core.Path.{_≡_, refl, sym, ap, ap₂, _∙_, subst}
 use mathlib.Core.Logic.{_⊎_, inl, inr}
 use mathlib.Core.Bool.{Bool, true, false, cond, not, _&&_, _||_, false≢true}
 use mathlib.Core.List.{List, [], _∷_, List·Memᴰ, List·Memᴰ·head, List·Memᴰ·tail, List·Memᴰ·not-nil, List·Memᴰ·cases-cons, Memᴰ·cast}
@@ -17,18 +17,18 @@ use lib.ListN.{length, getD, take, drop}
 use lib.Seq.{drop-cons, getD-take, getD-drop}
 use borrow.Author.Tests.{ltb-true, ltb-false, eqb-true, eqb-false, eq-eqb, ne-eqb, lt-leb, le-leb}
 use Rattle.rules.specs.declared.Field.{Field}
-use Rattle.rules.specs.declared.Field.the-variants.{RoleField, IdentifierField, AttributesField, SubjectField, PartyField, AnyTerm, TermOf, SignedAttest}
+use Rattle.rules.specs.declared.Field.the-variants.{RoleField, IdentifierField, AttributesField, SubjectField, PartyField, AnyTerm, TermOf, SignedAttest, IakPairField}
 use Rattle.rules.specs.declared.Term.{Term}
 use Rattle.rules.specs.declared.Term.the-variants.{Hash}
 use Rattle.rules.specs.Limits.{partyLimit, tpmMaker}
 use Rattle.rules.specs.Attributes.{has, fixedTpm}
-use Rattle.rules.specs.Term.{publicKeyKind, privateKeyKind, signatureKind, numberKind, certificateKind, kindOf, fieldsIn, attributesOf, alike, anyAlike}
+use Rattle.rules.specs.Term.{publicKeyKind, privateKeyKind, signatureKind, credentialKind, numberKind, certificateKind, kindOf, fieldsIn, attributesOf, alike, anyAlike}
 use Rattle.rules.specs.Record.{lastKind, width, widths, fieldsOf, sectionOf, bodyLength, termSection, setupSection, word}
 use Rattle.rules.specs.File.{File, Setup, learns, holds, signsWith, isRole, term, kind, isKind, field, message, signer, subject, attributes, parts, someSetup, isOtherHold, isSigner, isSigningKeyFor, holdsKey, signsForRole}
-use Rattle.rules.specs.Load.{first, refuseUnless, termAt, setupAt, sectionFault, countFault, declaredFault, fieldFault, fieldsFault, alikeFault, mayLearn, mayHold, maySign, allowedFault, setupFault, recordFault, enter, loaded, refused, feed}
+use Rattle.rules.specs.Load.{first, refuseUnless, termAt, setupAt, emptyPair, sectionFault, countFault, declaredFault, kindFault, fieldFault, fieldsFault, alikeFault, mayLearn, mayHold, maySign, allowedFault, setupFault, recordFault, enter, loaded, refused, feed}
 use Rattle.state.specs.View.{view, inOther}
 use Rattle.learning.specs.There.{termThere}
-use Rattle.checks.specs.There.{headFault, roleThere, fieldFaultThere, anyAlikeThere}
+use Rattle.checks.specs.There.{headFault, roleThere, kindFaultThere, fieldFaultThere, anyAlikeThere}
 use Rattle.setup.specs.Allowed.{noKey, signsThere, mayLearnThere, mayHoldThere, maySignThere, allowedThere}
 use Rattle.theorems.proofs.LoadingFields.{SetupFields, first-zero, Each, each, second, within, setup-passed}
 use Rattle.theorems.proofs.Loading.{Checked, Good, good-checked}
@@ -264,6 +264,10 @@ module _ (f : File) (bs s signers : List ℕ) (n : Tally) (at : ℕ) (d : Descri
   declared-same : (t : ℕ) → ltb t (n .terms) ≡ ltb t (length (f .terms))
   declared-same t = rw (d .termsAre)
 
+  kind-fault-same : (k t : ℕ) → kindFaultThere bs (view s .place) (n .terms) k t ≡ kindFault f k t
+  unfolding declaredFault isKind
+  kind-fault-same k t = then-same 6 _ _ _ _ (declared-same t) (λ h. rw (kind-same t (declared-below t h)))
+
   -- a field's fault by the bytes is the rules'
   pub field-same : (x : Field) (i : ℕ) (body : List ℕ) → fieldFaultThere bs (view s .place) (n .parties) (n .terms) x i body ≡ fieldFault f x i body
   unfolding fieldFaultThere fieldFault declaredFault isKind
@@ -273,12 +277,14 @@ module _ (f : File) (bs s signers : List ℕ) (n : Tally) (at : ℕ) (d : Descri
   field-same SubjectField i body = refl
   field-same PartyField i body = rw (d .partiesAre)
   field-same AnyTerm i body = rw (d .termsAre)
-  field-same (TermOf k) i body = then-same 6 _ _ _ _ (declared-same (word body i)) (λ h. rw (kind-same (word body i) (declared-below (word body i) h)))
+  field-same (TermOf k) i body = kind-fault-same k (word body i)
   field-same SignedAttest i body = then-same 6 _ _ _ _ (declared-same (word body i)) (λ h.
       let b = declared-below (word body i) h in
       then-same 7 _ _ _ _ (rw (kind-same (word body i) b)) (λ e.
       let k = eqb-true (kind f (word body i)) signatureKind e in
       rw (message-same (word body i) b k, kind-same (message f (word body i)) (message-declared (word body i) b k))))
+  field-same IakPairField i body =
+      ap₂ (λ a b. cond (emptyPair body i) 0 (first a b)) (kind-fault-same credentialKind (word body i)) (kind-fault-same certificateKind (word body (i + 2)))
 
   -- the keys of the 22s are declared terms
   key-declared : (p k : ℕ) → List·Memᴰ (signsWith p k) (f .setup) → k < noKey

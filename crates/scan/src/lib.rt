@@ -99,7 +99,7 @@ fn enter(
 
 // The scan of the commands, which come last: as that of the file, and nothing is noted.
 fn scan_commands(
-    table: &[u32; rules::KIND_COUNT],
+    table: &[u64; rules::KIND_COUNT],
     file: &[u8],
     state: &[u8],
     from: usize,
@@ -145,7 +145,7 @@ fn scan_commands(
         let mut fields = records::fields_in(table, kind);
         let mut i: usize = 0;
         let mut offset = 0;
-        while i < 4 {
+        while i < records::FIELD_LIMIT {
             if fields == 0 {
                 break;
             }
@@ -222,7 +222,7 @@ pub fn scan(
         let mut fields = records::fields_in(&table, kind);
         let mut i: usize = 0;
         let mut offset = 0;
-        while i < 4 {
+        while i < records::FIELD_LIMIT {
             if fields == 0 {
                 break;
             }

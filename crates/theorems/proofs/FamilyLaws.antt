@@ -16,15 +16,15 @@ use Rattle.rules.specs.declared.Entry.{Entry}
 use Rattle.rules.specs.declared.Family.{Family}
 use Rattle.rules.specs.Limits.{tpmMaker, oemDesk, ownerDesk}
 use Rattle.rules.specs.Refusals.{order, applies}
-use Rattle.rules.specs.Attributes.{sameAttributes}
+use Rattle.rules.specs.Attributes.{sameAttributes, ekAttributes}
 use Rattle.rules.specs.Term.{publicKeyKind, numberKind, ldevidRequestKind, certificateKind, pairKind}
 use Rattle.rules.specs.Families.{tpmMakers, oemDesks, iakFamily, idevidFamily, requestFamilies, families}
 use Rattle.rules.specs.File.{File, signsWith, challenge, issue, roleOf, attributes, certifiedKey, signer, leftOf, signsForSome}
 use Rattle.rules.specs.Load.{loaded, load}
 use Rattle.rules.specs.State.{depthOf}
-use Rattle.rules.specs.Desk.{requestBody, formTests, proofTests, ekOf, calledFor, parentCertificateOf, issueTests}
+use Rattle.rules.specs.Desk.{requestBody, formTests, proofTests, ekCertificateOf, ekOf, calledFor, parentCertificateOf, issueTests}
 use Rattle.rules.specs.Run.{testsOf, outcome, reached}
-use Rattle.theorems.specs.Residency.{SignedBy, EntryAt, Parent, ofIak, onRequest, Endorsement, OfFamily, Sound}
+use Rattle.theorems.specs.Residency.{SignedBy, Accepted, EntryAt, Parent, ofIak, ofPair, onRequest, Endorsement, OfFamily, Sound}
 use Rattle.theorems.specs.FamilyLaws.{OneFamily, NeverParent, FamilyLaws}
 use Rattle.theorems.proofs.FamilyRows.{barren, no-child, family-row, one-row, may, Signer, some-signer}
 use Rattle.theorems.proofs.Loading.{Checked, checked}
@@ -56,14 +56,22 @@ module _ (f : File) (ck : Checked f) where
       ap (may (other .signers)) (sym (g .2) ∙ signed-once (g .0) (x .party) (signer f t) (g .1) (x .given)) ∙ x .allowed))
       (ck .learnsAllowed (e .party) t (e .given))
 
-  parent-key : (n : ℕ) (family : Family) (t g : ℕ) → Parent f n family t g → List·Memᴰ family families × (attributes f (certifiedKey f g) ≡ family .parent)
+  -- the key of the certificate in a request that a challenge was accepted for
+  challenged-key : (j p q c : ℕ) → Accepted f j (challenge p q c) → attributes f (ekOf f q) ≡ ekAttributes
+  challenged-key j p q c b =
+      challenge-ek f ck (reached f j) (reached-invariant f ck j) p q c (ck .wellformed (challenge p q c) (command-member f j (challenge p q c) (b .here))) (b .zeroOutcome)
+
+  iak-parent : (family : Family) (g j p q c : ℕ) → Accepted f j (challenge p q c) → family ≡ iakFamily → g ≡ ekCertificateOf f q
+      → List·Memᴰ family families × (attributes f (certifiedKey f g) ≡ family .parent)
   unfolding ekOf
-  parent-key n family t g (ofIak i j p returning c q l a k b h e) = (
+  iak-parent family g j p q c b h e = (
     subst (λ (x : Family). List·Memᴰ x families) (sym h) (List·Memᴰ·head refl),
-    ap (λ (x : ℕ). attributes f (certifiedKey f x)) e
-        ∙ challenge-ek f ck (reached f j) (reached-invariant f ck j) p q c (ck .wellformed (challenge p q c) (command-member f j (challenge p q c) (b .here))) (b .zeroOutcome)
-        ∙ sym (ap (λ (x : Family). x .parent) h),
+    ap (λ (x : ℕ). attributes f (certifiedKey f x)) e ∙ challenged-key j p q c b ∙ sym (ap (λ (x : Family). x .parent) h),
   )
+
+  parent-key : (n : ℕ) (family : Family) (t g : ℕ) → Parent f n family t g → List·Memᴰ family families × (attributes f (certifiedKey f g) ≡ family .parent)
+  parent-key n family t g (ofIak i j p returning c q l a k b h e) = iak-parent family g j p q c b h e
+  parent-key n family t g (ofPair i j p returning c q xs l a m k b h e) = iak-parent family g j p q c b h e
   parent-key n family t g (onRequest i p q l a e) =
       let o = issue-family f ck (reached f i) (reached-invariant f ck i) family p q t (ck .wellformed (issue family p q t) (command-member f i (issue family p q t) (a .here))) (a .zeroOutcome) in
       (o .row, ap (λ (x : ℕ). attributes f (certifiedKey f x)) e ∙ o .parentAttributes)

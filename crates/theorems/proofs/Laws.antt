@@ -28,7 +28,7 @@ use Rattle.theorems.proofs.Terms.{declared, holds-given}
 use Rattle.theorems.proofs.Running.{after-refused, reached-none, reached-next, reached-end}
 use Rattle.theorems.proofs.Ledgers.{at-within}
 use Rattle.theorems.proofs.Invariant.{Invariant, Step}
-use Rattle.theorems.proofs.Reaching.{reached-invariant, reached-step}
+use Rattle.theorems.proofs.Reaching.{Steps, still, further, reached-invariant, reached-steps}
 use Rattle.theorems.proofs.Pigeonhole.{pigeonhole}
 
 -- a refused command changes nothing
@@ -66,7 +66,7 @@ counted (x ∷ xs) = one (eqb x 0) (counted xs)
     one true h = omega arith
     one false h = omega arith
 
-outcome-each : (f : File) (cs : List Command) (s : State) → length (outcomes f cs s) ≡ length cs
+pub outcome-each : (f : File) (cs : List Command) (s : State) → length (outcomes f cs s) ≡ length cs
 unfolding outcomes
 outcome-each f [] s = refl
 outcome-each f (c ∷ cs) s = ap suc (outcome-each f cs (after f s c))
@@ -97,11 +97,13 @@ module _ (bytes : List ℕ) (f : File) (loads : load bytes ≡ loaded f) where
   unfolding start
   held-never-changes zero p k e = ap (λ (s : State). s .table p k) (reached-none f)
   held-never-changes (suc n) p k e =
-      ⊎-elim (λ h. ap (λ (s : State). s .table p k) h) same (reached-step f ck n) ∙ held-never-changes n p k e
+      same (reached-steps f ck n) ∙ held-never-changes n p k e
     where
-      same : Step f (reached f n) (reached f (suc n)) → reached f (suc n) .table p k ≡ reached f n .table p k
-      same st =
-          both-ways (reached f (suc n) .table p k) (reached f n .table p k)
+      same : {s t : State} → Steps f s t → t .table p k ≡ s .table p k
+      same still = refl
+      same (further {s} {t} st more) =
+          same more
+          ∙ both-ways (t .table p k) (s .table p k)
           (λ h. ⊎-elim (λ i. i) (λ i. absurd (let z : hashKind ≡ privateKeyKind = sym i ∙ e in omega arith)) (st .tableOnly p k h))
           (st .grows .table p k)
 

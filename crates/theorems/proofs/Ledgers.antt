@@ -3,7 +3,7 @@
 use mathlib.Core.Path.{_≡_, refl, ap}
 use mathlib.Core.Logic.{_⊎_, inl, inr, ⊎-elim}
 use mathlib.Core.Bool.{Bool, true, false, false≢true, cond, _||_}
-use mathlib.Core.List.{List, [], _∷_, _++_}
+use mathlib.Core.List.{List, [], _∷_, _++_, List·Memᴰ}
 use mathlib.Core.Option.{some}
 use Prim.Native.Nat.{ℕ, zero, suc, _<_}
 use native.Mathlib.Omega.{arith}
@@ -13,6 +13,7 @@ use borrow.Author.Tests.{eq-eqb, eqb-true}
 use Rattle.rules.specs.declared.Entry.{Entry}
 use Rattle.rules.specs.State.{listed, depthOf, parentOf}
 use Rattle.theorems.proofs.Booleans.{or-left, or-right, or-step}
+use Rattle.theorems.proofs.Running.{at-member}
 
 module _ {A : Type 0} where
   -- an element keeps its place
@@ -27,6 +28,12 @@ module _ {A : Type 0} where
   at-appended [] y (suc i) x e = absurd (let z : _≡_ {A = ℕ} 0 1 = cc in omega arith)
   at-appended (z ∷ xs) y zero x e = inl e
   at-appended (z ∷ xs) y (suc i) x e = ⊎-elim inl (λ h. inr (ap suc (h .0), h .1)) (at-appended xs y i x e)
+
+  -- an element of two lists is one of the first, at its place, or of the second
+  pub at-either : (xs ys : List A) (i : ℕ) (x : A) → getElem? (xs ++ ys) i ≡ some x → (getElem? xs i ≡ some x) ⊎ List·Memᴰ x ys
+  at-either [] ys i x h = inr (at-member ys i x h)
+  at-either (z ∷ xs) ys zero x h = inl h
+  at-either (z ∷ xs) ys (suc i) x h = at-either xs ys i x h
 
   pub at-below : (xs : List A) (i : ℕ) (x : A) → getElem? xs i ≡ some x → i < length xs
   at-below [] i x e = absurd (let z : _≡_ {A = ℕ} 0 1 = cc in omega arith)

@@ -16,6 +16,9 @@ pub mod DeviceSteps
 pub mod Knowers
 pub mod Requests
 pub mod DeskSteps
+pub mod Together
+pub mod Chain
+pub mod Judging
 pub mod Reaching
 pub mod Pigeonhole
 pub mod History
@@ -30,3 +33,6 @@ pub mod Rows
 pub mod Written
 pub mod Decimal
 pub mod LastArm
+pub mod OtherCommands
+pub mod CutLoading
+pub mod Cut

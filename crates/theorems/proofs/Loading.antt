@@ -1,7 +1,7 @@
 -- What loading checked holds of every file that loads.
 -- Assumes nothing.
 use mathlib.Core.Path.{_≡_, refl, sym, subst, _∙_}
-use mathlib.Core.Bool.{Bool, true, false, cond, _&&_}
+use mathlib.Core.Bool.{Bool, true, false, cond, _&&_, false≢true}
 use mathlib.Core.Logic.{_⊎_, inl, inr}
 use mathlib.Core.List.{List, [], _∷_, List·Memᴰ, List·Memᴰ·cases-cons}
 use Prim.Native.Nat.{ℕ, zero, suc, _+_, _-_, _<_, _≤_}
@@ -10,18 +10,23 @@ use lib.Dec.{eqb, ltb, leb}
 use borrow.Author.Tests.{ltb-true, leb-true, eqb-true, eqb-false, not-true}
 use lib.ListN.{getD, length, length-append, take, drop}
 use Rattle.rules.specs.declared.Term.{Term}
-use Rattle.rules.specs.Limits.{fileLimit, partyLimit, termLimit, device, tpmMaker}
+use Rattle.rules.specs.Limits.{fileLimit, partyLimit, termLimit, pairCount, pairWidth, device, tpmMaker}
 use Rattle.rules.specs.Attributes.{fixedTpm, has, deskKeyAttributes}
 use Rattle.rules.specs.Families.{requestFamilies}
 use Rattle.rules.specs.Term.{publicKeyKind, privateKeyKind, hashKind, signatureKind, attestKind, credentialKind, numberKind, idevidRequestKind, ldevidRequestKind, certificateKind, pairKind, fieldsIn, isTpmSubject, anyAlike}
-use Rattle.rules.specs.Record.{fieldsOf, lastKind, kindCount, sectionOf, partySection, termSection, setupSection, commandSection, bodyLength, Piece, whole, fault, cut, pieces}
-use Rattle.rules.specs.File.{File, Setup, learns, holds, signsWith, Command, hash, sign, certify, makeCredential, activateCredential, makeIdevidRequest, makeLdevidRequest, makePair, checkHash, checkSignature, checkCertificate, checkAttributes, send, selfIssue, challenge, issueIak, issue, roleOf, term, kind, parts, names, field, message, signingKey, subject, attributes, signer, credentialNumber, attestedKey, certifiedKey, idevidCertificate, ldevidCertificate, signsForRole}
-use Rattle.rules.specs.Load.{termAt, setupAt, commandAt, sectionFault, countFault, fieldsFault, alikeFault, setupFault, allowedFault, recordFault, withParty, withTerm, withSetup, withCommand, enter, Load, loaded, refused, settle, step, feed, emptyFile, load}
+use Rattle.rules.specs.Record.{fieldsOf, lastKind, kindCount, sectionOf, partySection, termSection, setupSection, commandSection, bodyLength, word, Piece, whole, fault, cut, pieces}
+use Rattle.rules.specs.File.{File, Setup, learns, holds, signsWith, Command, hash, sign, certify, makeCredential, activateCredential, makeIdevidRequest, makeLdevidRequest, makePair, checkHash, checkSignature, checkCertificate, checkAttributes, send, selfIssue, challenge, issueIak, issue, issueIaks, IakPair, roleOf, term, kind, parts, names, field, message, signingKey, subject, attributes, signer, credentialNumber, attestedKey, certifiedKey, idevidCertificate, ldevidCertificate, signsForRole}
+use Rattle.rules.specs.Load.{termAt, setupAt, emptyPair, pairsAt, commandAt, sectionFault, countFault, fieldsFault, alikeFault, setupFault, allowedFault, recordFault, withParty, withTerm, withSetup, withCommand, enter, Load, loaded, refused, settle, step, feed, emptyFile, load}
 use Rattle.theorems.proofs.Terms.{declared}
 use Rattle.theorems.proofs.FamilyRows.{row-of-kind}
 use Rattle.theorems.proofs.LoadingTerms.{Named, Names, AllName, Distinct, all-name, distinct-more, named-lower, parts-lower}
 use Rattle.theorems.proofs.LoadingFields.{first-zero, refuse-zero, SetupFields, AllPassed, passed, Each, each, fourth, within, term-names, setup-passed}
 use Rattle.theorems.proofs.LoadingSetup.{Setups, no-mem, none-yet, one-more, setups-stay}
+
+-- what loading checked of the pairs of a 43
+abbrev pub PairsFormed : File → List IakPair → Type 0
+PairsFormed f [] = Unit {0}
+PairsFormed f (x ∷ xs) = (kind f (x .credential) ≡ credentialKind) × (kind f (x .certificate) ≡ certificateKind) × PairsFormed f xs
 
 -- what loading checked of a command's fields
 abbrev pub Wellformed : File → Command → Type 0
@@ -42,6 +47,7 @@ Wellformed f (selfIssue p r) = (p < length (f .roles)) × (kind f r ≡ certific
 Wellformed f (challenge p q r) = (p < length (f .roles)) × (kind f r ≡ credentialKind) × (q < length (f .terms))
 Wellformed f (issueIak p q c r) = (p < length (f .roles)) × (q < length (f .roles)) × (kind f c ≡ credentialKind) × (kind f r ≡ certificateKind)
 Wellformed f (issue family p q r) = (p < length (f .roles)) × (kind f r ≡ certificateKind) × (q < length (f .terms)) × List·Memᴰ family requestFamilies
+Wellformed f (issueIaks p q xs) = (p < length (f .roles)) × (q < length (f .roles)) × PairsFormed f xs
 
 -- what holds of every file that loads
 pub record Checked (f : File) : Type 0 where
@@ -76,10 +82,26 @@ pub record Checked (f : File) : Type 0 where
 abbrev CommandPassed : File → List ℕ → ℕ → Type 0
 CommandPassed f bs k = AllPassed f (fieldsOf k) 0 bs → Wellformed f (commandAt k bs)
 
+pair-formed : (f : File) (bs : List ℕ) (i : ℕ) (xs : List IakPair) (b : Bool) → emptyPair bs i ≡ b → (emptyPair bs i ≡ true) ⊎ ((kind f (word bs i) ≡ credentialKind) × (kind f (word bs (i + 2)) ≡ certificateKind))
+    → PairsFormed f xs → PairsFormed f (cond b xs (record { credential = word bs i; certificate = word bs (i + 2) } ∷ xs))
+pair-formed f bs i xs true e h more = more
+pair-formed f bs i xs false e (inl z) more = absurd (false≢true (sym e ∙ z))
+pair-formed f bs i xs false e (inr w) more = (w .0, w .1, more)
+
+-- n fields of pairs that passed
+abbrev PairsPassed : File → ℕ → List ℕ → ℕ → Type 0
+PairsPassed f zero bs i = Unit {0}
+PairsPassed f (suc n) bs i = ((emptyPair bs i ≡ true) ⊎ ((kind f (word bs i) ≡ credentialKind) × (kind f (word bs (i + 2)) ≡ certificateKind))) × PairsPassed f n bs (i + pairWidth)
+
+pairs-formed : (f : File) (n : ℕ) (bs : List ℕ) (i : ℕ) → PairsPassed f n bs i → PairsFormed f (pairsAt n bs i)
+unfolding pairsAt
+pairs-formed f zero bs i h = tt
+pairs-formed f (suc n) bs i h = pair-formed f bs i (pairsAt n bs (i + pairWidth)) (emptyPair bs i) refl (h .0) (pairs-formed f n bs (i + pairWidth) (h .1))
+
 module _ (f : File) (bs : List ℕ) where
   each-command : Each (CommandPassed f bs) (kindCount - 0x30) 0x30
   unfolding fieldsOf sectionOf commandAt
-  each-command = ((λ h. (h .0, h .1 .0 .1, h .1 .0 .0)), ((λ h. (h .0, h .1 .0 .1)), ((λ h. (h .0, h .1 .0 .0, h .1 .0 .1)), ((λ h. (h .0, h .1 .0 .1)), ((λ h. (h .0, h .1 .0 .1)), ((λ h. (h .0, h .1 .0 .1)), ((λ h. (h .0, h .1 .0 .1)), ((λ h. (h .0, h .1 .0 .1)), ((λ h. (h .0, h .1 .0 .1, h .1 .0 .0, h .1 .1 .0)), ((λ h. (h .0, h .1 .0 .1, h .1 .1 .0 .1)), ((λ h. (h .0, h .1 .0 .1, h .1 .1 .0 .1)), ((λ h. (h .0, h .1 .0 .1)), ((λ h. (h .0, h .1 .0, h .1 .1 .0)), ((λ h. (h .0, h .1 .0 .1)), ((λ h. (h .0, h .1 .1 .0 .1, h .1 .0)), ((λ h. (h .0, h .1 .0, h .1 .1 .0 .1, h .1 .1 .1 .0 .1)), ((λ h. (h .0, h .1 .1 .0 .1, h .1 .0, row-of-kind _)), ((λ h. (h .0, h .1 .1 .0 .1, h .1 .0, row-of-kind _)), ((λ h. (h .0, h .1 .1 .0 .1, h .1 .0, row-of-kind _)), tt)))))))))))))))))))
+  each-command = ((λ h. (h .0, h .1 .0 .1, h .1 .0 .0)), ((λ h. (h .0, h .1 .0 .1)), ((λ h. (h .0, h .1 .0 .0, h .1 .0 .1)), ((λ h. (h .0, h .1 .0 .1)), ((λ h. (h .0, h .1 .0 .1)), ((λ h. (h .0, h .1 .0 .1)), ((λ h. (h .0, h .1 .0 .1)), ((λ h. (h .0, h .1 .0 .1)), ((λ h. (h .0, h .1 .0 .1, h .1 .0 .0, h .1 .1 .0)), ((λ h. (h .0, h .1 .0 .1, h .1 .1 .0 .1)), ((λ h. (h .0, h .1 .0 .1, h .1 .1 .0 .1)), ((λ h. (h .0, h .1 .0 .1)), ((λ h. (h .0, h .1 .0, h .1 .1 .0)), ((λ h. (h .0, h .1 .0 .1)), ((λ h. (h .0, h .1 .1 .0 .1, h .1 .0)), ((λ h. (h .0, h .1 .0, h .1 .1 .0 .1, h .1 .1 .1 .0 .1)), ((λ h. (h .0, h .1 .1 .0 .1, h .1 .0, row-of-kind _)), ((λ h. (h .0, h .1 .1 .0 .1, h .1 .0, row-of-kind _)), ((λ h. (h .0, h .1 .1 .0 .1, h .1 .0, row-of-kind _)), ((λ h. (h .0, h .1 .0, pairs-formed f pairCount bs 2 (h .1 .1))), tt))))))))))))))))))))
 
   command-passed : (k : ℕ) → sectionOf k ≡ commandSection → fieldsFault f (fieldsOf k) 0 bs ≡ 0 → Wellformed f (commandAt k bs)
   unfolding sectionOf
@@ -98,6 +120,11 @@ pub record Good (f : File) : Type 0 where
   noTerms : f .section < termSection → f .terms ≡ []
   noSetup : f .section < setupSection → f .setup ≡ []
   noCommands : f .section < commandSection → f .commands ≡ []
+
+pairs-stay : (f : File) (section : ℕ) (c : Command) (xs : List IakPair) → PairsFormed f xs → PairsFormed (withCommand f section c) xs
+unfolding withCommand kind term
+pairs-stay f section c [] w = tt
+pairs-stay f section c (x ∷ xs) w = (w .0, w .1, pairs-stay f section c xs (w .2))
 
 wellformed-stays : (f : File) (section : ℕ) (c b : Command) → Wellformed f b → Wellformed (withCommand f section c) b
 unfolding withCommand kind term message field
@@ -118,6 +145,7 @@ wellformed-stays f section c (selfIssue p r) w = w
 wellformed-stays f section c (challenge p q r) w = w
 wellformed-stays f section c (issueIak p q d r) w = w
 wellformed-stays f section c (issue family p q r) w = w
+wellformed-stays f section c (issueIaks p q xs) w = (w .0, w .1, pairs-stay f section c xs (w .2))
 
 module _ (f : File) (g : Good f) where
   party-good : (role : ℕ) → f .section ≤ partySection → length (f .roles) < partyLimit → Good (withParty f role)
@@ -196,7 +224,7 @@ last-section false false true d h x y z = absurd (z refl)
 last-section false false false true h x y z = refl
 last-section false false false false h x y z = absurd (omega arith)
 
-command-section : (k : ℕ) → 0 < sectionOf k → (sectionOf k ≡ partySection → ⊥) → (sectionOf k ≡ termSection → ⊥) → (sectionOf k ≡ setupSection → ⊥) → sectionOf k ≡ commandSection
+pub command-section : (k : ℕ) → 0 < sectionOf k → (sectionOf k ≡ partySection → ⊥) → (sectionOf k ≡ termSection → ⊥) → (sectionOf k ≡ setupSection → ⊥) → sectionOf k ≡ commandSection
 unfolding sectionOf
 command-section k h x y z = last-section (eqb k 1) (leb 0x10 k && leb k 0x1A) (leb 0x20 k && leb k 0x22) (leb 0x30 k && leb k lastKind) h x y z
 

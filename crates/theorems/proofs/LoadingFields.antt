@@ -3,6 +3,7 @@
 use mathlib.Core.Path.{_≡_, refl, subst}
 use mathlib.Core.Bool.{Bool, true, false, cond, _&&_}
 use mathlib.Core.List.{List, [], _∷_}
+use mathlib.Core.Logic.{_⊎_, inl, inr}
 use Prim.Native.Nat.{ℕ, zero, suc, _+_, _<_, _≤_}
 use native.Mathlib.Omega.{arith}
 use lib.Dec.{eqb, ltb, leb}
@@ -11,12 +12,13 @@ use lib.ListN.{getD, length}
 use Rattle.rules.specs.declared.Subject.{Subject}
 use Rattle.rules.specs.declared.Subject.the-variants.{Tpm, Device}
 use Rattle.rules.specs.declared.Term.the-variants.{IdevidRequest, Certificate}
-use Rattle.rules.specs.Term.{privateKeyKind, signatureKind, attestKind, idevidRequestKind, certificateKind, kindOf, fieldsIn, subjectFields}
+use Rattle.rules.specs.Limits.{pairWidth}
+use Rattle.rules.specs.Term.{privateKeyKind, signatureKind, attestKind, credentialKind, idevidRequestKind, certificateKind, kindOf, fieldsIn, subjectFields}
 use Rattle.rules.specs.declared.Field.{Field}
-use Rattle.rules.specs.declared.Field.the-variants.{RoleField, IdentifierField, AttributesField, SubjectField, PartyField, AnyTerm, TermOf, SignedAttest}
+use Rattle.rules.specs.declared.Field.the-variants.{RoleField, IdentifierField, AttributesField, SubjectField, PartyField, AnyTerm, TermOf, SignedAttest, IakPairField}
 use Rattle.rules.specs.Record.{lastKind, width, fieldsOf, sectionOf, termSection, setupSection, word}
 use Rattle.rules.specs.File.{File, Setup, learns, holds, signsWith, kind, isKind, term, message}
-use Rattle.rules.specs.Load.{first, refuseUnless, declaredFault, fieldFault, fieldsFault, subjectAt, termAt, setupAt}
+use Rattle.rules.specs.Load.{first, refuseUnless, declaredFault, kindFault, emptyPair, fieldFault, fieldsFault, subjectAt, termAt, setupAt}
 use Rattle.theorems.proofs.LoadingTerms.{Names}
 use Rattle.theorems.proofs.Booleans.{and-true}
 
@@ -48,6 +50,7 @@ Passed f PartyField i bs = getD bs i 0 < length (f .roles)
 Passed f AnyTerm i bs = word bs i < length (f .terms)
 Passed f (TermOf k) i bs = (word bs i < length (f .terms)) × (kind f (word bs i) ≡ k)
 Passed f SignedAttest i bs = (kind f (word bs i) ≡ signatureKind) × (kind f (message f (word bs i)) ≡ attestKind)
+Passed f IakPairField i bs = (emptyPair bs i ≡ true) ⊎ ((kind f (word bs i) ≡ credentialKind) × (kind f (word bs (i + 2)) ≡ certificateKind))
 
 abbrev pub size : Field → ℕ
 size RoleField = 1
@@ -58,6 +61,7 @@ size PartyField = 1
 size AnyTerm = 2
 size (TermOf k) = 2
 size SignedAttest = 2
+size IakPairField = pairWidth
 
 abbrev pub AllPassed : File → List Field → ℕ → List ℕ → Type 0
 AllPassed f [] i bs = Unit {0}
@@ -71,6 +75,13 @@ is-kind : (f : File) (k t : ℕ) → refuseUnless 8 (isKind f k t) ≡ 0 → kin
 unfolding isKind
 is-kind f k t e = eqb-true (kind f t) k (refuse-zero 8 (isKind f k t) (omega arith) e)
 
+pair-passed : (f : File) (i : ℕ) (bs : List ℕ) (b : Bool) → emptyPair bs i ≡ b → cond b 0 (first (kindFault f credentialKind (word bs i)) (kindFault f certificateKind (word bs (i + 2)))) ≡ 0
+    → (emptyPair bs i ≡ true) ⊎ ((kind f (word bs i) ≡ credentialKind) × (kind f (word bs (i + 2)) ≡ certificateKind))
+pair-passed f i bs true b e = inl b
+pair-passed f i bs false b e =
+    let w = first-zero _ _ e in
+    inr (is-kind f credentialKind (word bs i) (first-zero _ _ (w .0) .1), is-kind f certificateKind (word bs (i + 2)) (first-zero _ _ (w .1) .1))
+
 field-passed : (f : File) (x : Field) (i : ℕ) (bs : List ℕ) → fieldFault f x i bs ≡ 0 → Passed f x i bs
 unfolding fieldFault
 field-passed f RoleField i bs e = tt
@@ -83,6 +94,7 @@ field-passed f (TermOf k) i bs e =
     (declared-below f (word bs i) (first-zero _ _ e .0), is-kind f k (word bs i) (first-zero _ _ e .1))
 field-passed f SignedAttest i bs e =
     (is-kind f signatureKind (word bs i) (first-zero _ _ (first-zero _ _ e .1) .0), is-kind f attestKind (message f (word bs i)) (first-zero _ _ (first-zero _ _ e .1) .1))
+field-passed f IakPairField i bs e = pair-passed f i bs (emptyPair bs i) refl e
 
 sized : (x : Field) → width x ≡ size x
 unfolding width
@@ -94,6 +106,7 @@ sized PartyField = refl
 sized AnyTerm = refl
 sized (TermOf k) = refl
 sized SignedAttest = refl
+sized IakPairField = refl
 
 pub passed : (f : File) (bs : List ℕ) (xs : List Field) (i : ℕ) → fieldsFault f xs i bs ≡ 0 → AllPassed f xs i bs
 unfolding fieldsFault

@@ -14,7 +14,7 @@ use Rattle.rules.specs.declared.Subject.the-variants.{Tpm, Device}
 use Rattle.rules.specs.declared.Term.{Term}
 use Rattle.rules.specs.declared.Term.the-variants.{PublicKey, PrivateKey, Hash, Signature, Attest, Credential, Number, IdevidRequest, LdevidRequest, Certificate, Pair}
 use Rattle.rules.specs.declared.Field.{Field}
-use Rattle.rules.specs.declared.Field.the-variants.{RoleField, IdentifierField, AttributesField, SubjectField, PartyField, AnyTerm, TermOf, SignedAttest}
+use Rattle.rules.specs.declared.Field.the-variants.{RoleField, IdentifierField, AttributesField, SubjectField, PartyField, AnyTerm, TermOf, SignedAttest, IakPairField}
 use Rattle.rules.specs.Term.{kindOf, fieldsIn, subjectFields, partsOf, namesOf, sameList, alike, anyAlike}
 use Rattle.rules.specs.Record.{fieldsOf, sectionOf}
 use Rattle.theorems.proofs.Booleans.{or-left, or-right}
@@ -36,6 +36,7 @@ span PartyField = 1
 span AnyTerm = 1
 span (TermOf k) = 1
 span SignedAttest = 1
+span IakPairField = 2
 
 -- what loading checked of a field of the term of number n
 abbrev NamesAt : List Term → ℕ → Field → ℕ → Type 0
@@ -47,6 +48,7 @@ NamesAt ts n PartyField x = Unit {0}
 NamesAt ts n AnyTerm x = x < n
 NamesAt ts n (TermOf k) x = (x < n) × (kindAt ts x ≡ k)
 NamesAt ts n SignedAttest x = Unit {0}
+NamesAt ts n IakPairField x = Unit {0}
 
 -- the same of the fields from the place i on
 abbrev pub Named : List Term → ℕ → List Field → ℕ → List ℕ → Type 0
@@ -104,6 +106,7 @@ module _ (ts : List Term) (t : Term) where
   field-stays n x AnyTerm l h = h
   field-stays n x (TermOf k) l h = let b = h .0 in (b, ap kindOf (at-before x (omega arith)) ∙ h .1)
   field-stays n x SignedAttest l h = tt
+  field-stays n x IakPairField l h = tt
 
   names-stay : (n : ℕ) (fs : List Field) (i : ℕ) (xs : List ℕ) → n ≤ length ts → Named ts n fs i xs → Named more n fs i xs
   names-stay n [] i xs l h = tt

@@ -3,7 +3,7 @@
 use mathlib.Core.Path.{_≡_, refl, sym, ap, subst, _∙_}
 use mathlib.Core.Logic.{⊎-elim}
 use mathlib.Core.Bool.{Bool, true, false, false≢true, cond, not, _&&_, _||_}
-use mathlib.Core.List.{List, [], _∷_}
+use mathlib.Core.List.{List, [], _∷_, _++_}
 use Prim.Native.Nat.{ℕ, _<_}
 use native.Mathlib.Omega.{arith}
 use lib.Dec.{eqb}
@@ -113,3 +113,45 @@ absent ns [] n o a = refl
 absent ns (x ∷ xs) n o a =
     let oo = and-true (among (x .refusal) ns) (ordered ns xs) o in
     rw (ne-eqb (x .refusal) n (λ e. false≢true (sym a ∙ ap (λ (m : ℕ). among m ns) (sym e) ∙ oo .0)), absent ns xs n (oo .1) a) refl
+
+pub none-fails : (ns : List ℕ) → firstOf ns [] ≡ 0
+unfolding firstOf applies
+none-fails [] = refl
+none-fails (n ∷ ns) = none-fails ns
+
+-- a test that passes is as if it were not there
+passes-clear : (n : ℕ) (x : Test) (xs : List Test) → x .passes ≡ true → applies n (x ∷ xs) ≡ applies n xs
+unfolding applies
+passes-clear n x xs e = rw e (go (eqb (x .refusal) n))
+  where
+    go : (b : Bool) → ((b && not true) || applies n xs) ≡ applies n xs
+    go true = refl
+    go false = refl
+
+pub passes-first : (ns : List ℕ) (x : Test) (xs : List Test) → x .passes ≡ true → firstOf ns (x ∷ xs) ≡ firstOf ns xs
+unfolding firstOf
+passes-first [] x xs e = refl
+passes-first (n ∷ ns) x xs e = rw (passes-clear n x xs e, passes-first ns x xs e) refl
+
+-- tests before others
+pub passed-both : (xs ys : List Test) → Passed (xs ++ ys) → Passed xs × Passed ys
+passed-both [] ys h = (tt, h)
+passed-both (x ∷ xs) ys h = let w = passed-both xs ys (h .1) in ((h .0, w .0), w .1)
+
+pub ordered-both : (ns : List ℕ) (xs ys : List Test) → ordered ns xs ≡ true → ordered ns ys ≡ true → ordered ns (xs ++ ys) ≡ true
+ordered-both ns [] ys a b = b
+ordered-both ns (x ∷ xs) ys a b = let w = and-true (among (x .refusal) ns) (ordered ns xs) a in rw (w .0, ordered-both ns xs ys (w .1) b) refl
+
+-- those that pass are as if they were not there
+pub passed-first : (ns : List ℕ) (xs ys : List Test) → Passed xs → firstOf ns (xs ++ ys) ≡ firstOf ns ys
+passed-first ns [] ys h = refl
+passed-first ns (x ∷ xs) ys h = passes-first ns x (xs ++ ys) (h .0) ∙ passed-first ns xs ys (h .1)
+
+pub applies-both : (n : ℕ) (xs ys : List Test) → applies n xs ≡ false → applies n ys ≡ false → applies n (xs ++ ys) ≡ false
+unfolding applies
+applies-both n [] ys a b = b
+applies-both n (x ∷ xs) ys a b = go (eqb (x .refusal) n && not (x .passes)) a (λ h. applies-both n xs ys h b)
+  where
+    go : (t : Bool) → (t || applies n xs) ≡ false → (applies n xs ≡ false → applies n (xs ++ ys) ≡ false) → (t || applies n (xs ++ ys)) ≡ false
+    go true a more = absurd (false≢true (sym a))
+    go false a more = more a

@@ -1,29 +1,39 @@
 -- Each command is a step or changes nothing, and so the invariant holds of every state that the first n commands leave.
 -- Assumes nothing.
 use mathlib.Core.Path.{_≡_, refl, ap, subst⁻¹, _∙_}
-use mathlib.Core.Logic.{_⊎_, inl, inr, ⊎-elim}
+use mathlib.Core.Logic.{⊎-elim}
 use mathlib.Core.Bool.{true}
-use mathlib.Core.List.{List·Memᴰ}
+use mathlib.Core.List.{List, [], _∷_, List·Memᴰ}
 use mathlib.Core.Option.{Option, none, some}
-use Prim.Native.Nat.{ℕ, zero, suc}
+use Prim.Native.Nat.{ℕ, zero, suc, _<_}
 use native.Mathlib.Omega.{arith}
 use native.Mathlib.Decide.{ℕ-discrete}
-use lib.ListN.{getElem?}
+use lib.ListN.{length, getElem?}
 use Rattle.rules.specs.Limits.{tpmMaker}
 use Rattle.rules.specs.Term.{certificateKind}
-use Rattle.rules.specs.File.{File, learns, signsWith, Command, hash, sign, certify, makeCredential, activateCredential, makeIdevidRequest, makeLdevidRequest, makePair, checkHash, checkSignature, checkCertificate, checkAttributes, send, selfIssue, challenge, issueIak, issue, roleOf, kind, certifiedKey, signer, signsForRole}
+use Rattle.rules.specs.File.{File, learns, signsWith, Command, hash, sign, certify, makeCredential, activateCredential, makeIdevidRequest, makeLdevidRequest, makePair, checkHash, checkSignature, checkCertificate, checkAttributes, send, selfIssue, challenge, issueIak, issue, issueIaks, IakPair, roleOf, kind, certifiedKey, signer, signsForRole}
 use Rattle.rules.specs.Load.{commandsOf}
 use Rattle.rules.specs.State.{State, start}
+use Rattle.rules.specs.Desk.{issueIakEffect, issueIaksEffect}
 use Rattle.rules.specs.Run.{effectOf, outcome, after, reached}
 use Rattle.theorems.specs.Residency.{Inside}
 use Rattle.theorems.proofs.Inside.{inside-none, inside-one}
 use Rattle.theorems.proofs.Learning.{taught-closed, taught-only}
-use Rattle.theorems.proofs.Loading.{Checked, Wellformed}
+use Rattle.theorems.proofs.Loading.{Checked, PairsFormed, Wellformed}
 use Rattle.theorems.proofs.Terms.{parts-publicKey, parts-number, parts-certificate, holds-given, signs-role-given}
 use Rattle.theorems.proofs.Running.{after-accepted, after-refused, reached-none, reached-next, reached-end, command-member}
 use Rattle.theorems.proofs.Invariant.{Good, Invariant, Step, invariant-next}
+use Rattle.theorems.proofs.Together.{PairsAccepted, pairs-accepted}
 use Rattle.theorems.proofs.DeviceSteps.{good-plain, number-good, certificate-good, signer-alone, hash-step, sign-step, certify-step, makeCredential-step, activateCredential-step, makeIdevidRequest-step, makeLdevidRequest-step, makePair-step, send-step, selfIssue-step}
 use Rattle.theorems.proofs.DeskSteps.{challenge-step, issueIak-step, issue-step}
+
+-- some steps, one after the other
+pub data Steps (f : File) : State → State → Type 0 where
+  still : {s : State} → Steps f s s
+  further : {s t u : State} → Step f s t → Steps f t u → Steps f s u
+
+one : {f : File} {s t : State} → Step f s t → Steps f s t
+one st = further st still
 
 module _ (f : File) (ck : Checked f) where
   -- a certificate that a 20 gave is signed by a TPM maker
@@ -58,54 +68,67 @@ module _ (f : File) (ck : Checked f) where
     oneEk = λ i j e g h. absurd (let z : _≡_ {A = ℕ} 0 1 = cc in omega arith);
   }
 
-  module _ (s : State) (inv : Invariant f s) where
-    -- an accepted command is a step, or changes nothing
-    effect-step : (c : Command) → Wellformed f c → outcome f s c ≡ 0 → (effectOf f s c ≡ s) ⊎ Step f s (effectOf f s c)
-    unfolding effectOf
-    effect-step (hash p r) w e = inr (hash-step f ck s inv p r w)
-    effect-step (sign p r) w e = inr (sign-step f ck s inv p r w e)
-    effect-step (certify p r) w e = inr (certify-step f ck s inv p r w e)
-    effect-step (makeCredential p r) w e = inr (makeCredential-step f ck s inv p r w e)
-    effect-step (activateCredential p r) w e = inr (activateCredential-step f ck s inv p r w e)
-    effect-step (makeIdevidRequest p r) w e = inr (makeIdevidRequest-step f ck s inv p r w e)
-    effect-step (makeLdevidRequest p r) w e = inr (makeLdevidRequest-step f ck s inv p r w e)
-    effect-step (makePair p r) w e = inr (makePair-step f ck s inv p r w e)
-    effect-step (checkHash p h t) w e = inl refl
-    effect-step (checkSignature p t k) w e = inl refl
-    effect-step (checkCertificate p c k) w e = inl refl
-    effect-step (checkAttributes p k a) w e = inl refl
-    effect-step (send p q t) w e = inr (send-step f ck s inv p q t w e)
-    effect-step (selfIssue p r) w e = inr (selfIssue-step f ck s inv p r w e)
-    effect-step (challenge p q r) w e = inr (challenge-step f ck s inv p q r w e)
-    effect-step (issueIak p q c r) w e = inr (issueIak-step f ck s inv p q c r w e)
-    effect-step (issue family p q r) w e = inr (issue-step f ck s inv family p q r w e)
+  steps-invariant : {s t : State} → Steps f s t → Invariant f s → Invariant f t
+  steps-invariant still inv = inv
+  steps-invariant (further {s} {t} st more) inv = steps-invariant more (invariant-next f ck s t inv st)
 
-    after-step : (c : Command) → Wellformed f c → (after f s c ≡ s) ⊎ Step f s (after f s c)
-    after-step c w = go (ℕ-discrete (outcome f s c) 0)
+  -- the pairs of a 43, each after those before it
+  pairs-steps :
+      (p q : ℕ) (xs : List IakPair) (s : State) → Invariant f s → p < length (f .roles) → q < length (f .roles) → PairsFormed f xs → PairsAccepted f s p q xs
+      → Steps f s (issueIaksEffect f s p q xs)
+  unfolding issueIaksEffect effectOf
+  pairs-steps p q [] s inv l m w a = still
+  pairs-steps p q (x ∷ xs) s inv l m w a =
+      let st = issueIak-step f ck s inv p q (x .credential) (x .certificate) (l, m, w .0, w .1) (a .0) in
+      further st (pairs-steps p q xs (issueIakEffect f s p q (x .credential) (x .certificate)) (invariant-next f ck s _ inv st) l m (w .2) (a .1))
+
+  module _ (s : State) (inv : Invariant f s) where
+    -- an accepted command is a step, or changes nothing; a 43 is a step for each pair
+    effect-steps : (c : Command) → Wellformed f c → outcome f s c ≡ 0 → Steps f s (effectOf f s c)
+    unfolding effectOf
+    effect-steps (hash p r) w e = one (hash-step f ck s inv p r w)
+    effect-steps (sign p r) w e = one (sign-step f ck s inv p r w e)
+    effect-steps (certify p r) w e = one (certify-step f ck s inv p r w e)
+    effect-steps (makeCredential p r) w e = one (makeCredential-step f ck s inv p r w e)
+    effect-steps (activateCredential p r) w e = one (activateCredential-step f ck s inv p r w e)
+    effect-steps (makeIdevidRequest p r) w e = one (makeIdevidRequest-step f ck s inv p r w e)
+    effect-steps (makeLdevidRequest p r) w e = one (makeLdevidRequest-step f ck s inv p r w e)
+    effect-steps (makePair p r) w e = one (makePair-step f ck s inv p r w e)
+    effect-steps (checkHash p h t) w e = still
+    effect-steps (checkSignature p t k) w e = still
+    effect-steps (checkCertificate p c k) w e = still
+    effect-steps (checkAttributes p k a) w e = still
+    effect-steps (send p q t) w e = one (send-step f ck s inv p q t w e)
+    effect-steps (selfIssue p r) w e = one (selfIssue-step f ck s inv p r w e)
+    effect-steps (challenge p q r) w e = one (challenge-step f ck s inv p q r w e)
+    effect-steps (issueIak p q c r) w e = one (issueIak-step f ck s inv p q c r w e)
+    effect-steps (issue family p q r) w e = one (issue-step f ck s inv family p q r w e)
+    effect-steps (issueIaks p q xs) w e = pairs-steps p q xs s inv (w .0) (w .1) (w .2) (pairs-accepted f s p q xs e)
+
+    after-steps : (c : Command) → Wellformed f c → Steps f s (after f s c)
+    after-steps c w = go (ℕ-discrete (outcome f s c) 0)
       where
-        go : Dec (outcome f s c ≡ 0) → (after f s c ≡ s) ⊎ Step f s (after f s c)
-        go (yes e) = subst⁻¹ (λ (x : State). (x ≡ s) ⊎ Step f s x) (after-accepted f s c e) (effect-step c w e)
-        go (no n) = inl (after-refused f s c n)
+        go : Dec (outcome f s c ≡ 0) → Steps f s (after f s c)
+        go (yes e) = subst⁻¹ (Steps f s) (after-accepted f s c e) (effect-steps c w e)
+        go (no n) = subst⁻¹ (Steps f s) (after-refused f s c n) still
 
     -- whatever the command, the invariant stays
     pub after-invariant : (c : Command) → Wellformed f c → Invariant f (after f s c)
-    after-invariant c w = ⊎-elim (λ e. subst⁻¹ (Invariant f) e inv) (λ st. invariant-next f ck s (after f s c) inv st) (after-step c w)
+    after-invariant c w = steps-invariant (after-steps c w) inv
 
-  next-step : (n : ℕ) → Invariant f (reached f n) → (reached f (suc n) ≡ reached f n) ⊎ Step f (reached f n) (reached f (suc n))
-  next-step n inv = go (getElem? (commandsOf f) n) refl
+  -- one command more is some steps
+  reached-next-steps : (n : ℕ) → Invariant f (reached f n) → Steps f (reached f n) (reached f (suc n))
+  reached-next-steps n inv = go (getElem? (commandsOf f) n) refl
     where
-      go : (o : Option Command) → getElem? (commandsOf f) n ≡ o → (reached f (suc n) ≡ reached f n) ⊎ Step f (reached f n) (reached f (suc n))
-      go none e = inl (reached-end f n e)
-      go (some c) e =
-          subst⁻¹ (λ (x : State). (x ≡ reached f n) ⊎ Step f (reached f n) x) (reached-next f n c e)
-          (after-step (reached f n) inv c (ck .wellformed c (command-member f n c e)))
+      go : (o : Option Command) → getElem? (commandsOf f) n ≡ o → Steps f (reached f n) (reached f (suc n))
+      go none e = subst⁻¹ (Steps f (reached f n)) (reached-end f n e) still
+      go (some c) e = subst⁻¹ (Steps f (reached f n)) (reached-next f n c e) (after-steps (reached f n) inv c (ck .wellformed c (command-member f n c e)))
 
   pub reached-invariant : (n : ℕ) → Invariant f (reached f n)
   reached-invariant zero = subst⁻¹ (Invariant f) (reached-none f) start-invariant
   reached-invariant (suc n) =
       let inv = reached-invariant n in
-      ⊎-elim (λ e. subst⁻¹ (Invariant f) e inv) (λ st. invariant-next f ck (reached f n) (reached f (suc n)) inv st) (next-step n inv)
+      steps-invariant (reached-next-steps n inv) inv
 
-  -- one command more is a step, or changes nothing
-  pub reached-step : (n : ℕ) → (reached f (suc n) ≡ reached f n) ⊎ Step f (reached f n) (reached f (suc n))
-  reached-step n = next-step n (reached-invariant n)
+  pub reached-steps : (n : ℕ) → Steps f (reached f n) (reached f (suc n))
+  reached-steps n = reached-next-steps n (reached-invariant n)

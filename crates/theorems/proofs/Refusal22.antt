@@ -14,7 +14,7 @@ use Rattle.rules.specs.Refusals.{Test, need, order, applies, firstOf, refusalOf
 use Rattle.rules.specs.declared.Family.{Family}
 use Rattle.rules.specs.Families.{requestFamilies}
 use Rattle.rules.specs.Term.{ldevidRequestKind, pairKind}
-use Rattle.rules.specs.File.{File, Command, hash, sign, certify, makeCredential, activateCredential, makeIdevidRequest, makeLdevidRequest, makePair, checkHash, checkSignature, checkCertificate, checkAttributes, send, selfIssue, challenge, issueIak, issue, leftOf}
+use Rattle.rules.specs.File.{File, Command, hash, sign, certify, makeCredential, activateCredential, makeIdevidRequest, makeLdevidRequest, makePair, checkHash, checkSignature, checkCertificate, checkAttributes, send, selfIssue, challenge, issueIak, issue, issueIaks, leftOf}
 use Rattle.rules.specs.Load.{Load, loaded, refused, load}
 use Rattle.rules.specs.State.{State, start, listed}
 use Rattle.rules.specs.Desk.{requestBody, formTests, proofTests, parentCertificateOf, issueTests}
@@ -125,6 +125,7 @@ module _ (f : File) (ck : Checked f) (s : State) (inv : Invariant f s) where
   same-outcome (challenge p q r) w = unchecked (challenge p q r) refl
   same-outcome (issueIak p q c r) w = unchecked (issueIak p q c r) refl
   same-outcome (issue family p q r) w = checked-issue family p q r (w .3)
+  same-outcome (issueIaks p q xs) w = unchecked (issueIaks p q xs) refl
 
   same-after : (c : Command) → Wellformed f c → afterWith22 f s c ≡ after f s c
   unfolding afterWith22 after

@@ -6,21 +6,22 @@
 -- Assumes nothing.
 use mathlib.Core.Path.{_≡_, refl, ap, _∙_}
 use mathlib.Core.Logic.{_⊎_, inl, inr, ⊎-elim}
-use mathlib.Core.Bool.{true}
+use mathlib.Core.Bool.{Bool, true, false, cond}
 use mathlib.Core.List.{List, [], _∷_, _++_, reverseAux, List·Memᴰ, List·Memᴰ·head, List·Memᴰ·tail, List·Memᴰ·cases-cons}
 use mathlib.Core.Option.{none, some}
 use Prim.Native.Nat.{ℕ, zero, suc}
 use native.Mathlib.Omega.{arith}
+use lib.Dec.{eqb}
 use lib.ListN.{take, getElem?}
 use borrow.Author.Tests.{eq-eqb, ne-eqb}
-use Rattle.rules.specs.Refusals.{order}
-use Rattle.rules.specs.File.{File, Command, hash, sign, certify, makeCredential, activateCredential, makeIdevidRequest, makeLdevidRequest, makePair, checkHash, checkSignature, checkCertificate, checkAttributes, send, selfIssue, challenge, issueIak, issue}
+use Rattle.rules.specs.Refusals.{Test, order, refusalOf}
+use Rattle.rules.specs.File.{File, Command, hash, sign, certify, makeCredential, activateCredential, makeIdevidRequest, makeLdevidRequest, makePair, checkHash, checkSignature, checkCertificate, checkAttributes, send, selfIssue, challenge, issueIak, issue, issueIaks, IakPair}
 use Rattle.rules.specs.Load.{commandsOf}
 use Rattle.rules.specs.State.{State, start}
 use Rattle.rules.specs.Device.{deviceRole, hashTests, signTests, certifyTests, makeCredentialTests, activateCredentialTests, bothKnownTests, sendTests, selfIssueTests, checkRole, checkTests}
-use Rattle.rules.specs.Desk.{formTests, proofTests, numberTests, challengeTests, calledFor, issueIakTests, issueTests}
+use Rattle.rules.specs.Desk.{formTests, proofTests, numberTests, challengeTests, calledFor, issueIakTests, issueIakEffect, issueTests, pairTests, issueIaksTests}
 use Rattle.rules.specs.Run.{testsOf, effectOf, outcome, after, run, firstCommands, reached}
-use Rattle.theorems.proofs.Passing.{ordered}
+use Rattle.theorems.proofs.Passing.{ordered, ordered-both}
 
 pub after-accepted : (f : File) (s : State) (c : Command) → outcome f s c ≡ 0 → after f s c ≡ effectOf f s c
 unfolding after
@@ -30,8 +31,23 @@ pub after-refused : (f : File) (s : State) (c : Command) → (outcome f s c ≡ 
 unfolding after
 after-refused f s c n = rw (ne-eqb (outcome f s c) 0 n)
 
+iak-ordered : (f : File) (s : State) (p q c r : ℕ) → ordered order (issueIakTests f s p q c r) ≡ true
+unfolding issueIakTests calledFor
+iak-ordered f s p q c r = refl
+
+pairs-ordered : (f : File) (s : State) (p q : ℕ) (xs : List IakPair) → ordered order (pairTests f s p q xs) ≡ true
+unfolding pairTests
+pairs-ordered f s p q [] = refl
+pairs-ordered f s p q (x ∷ xs) =
+    ordered-both order (issueIakTests f s p q (x .credential) (x .certificate)) _ (iak-ordered f s p q (x .credential) (x .certificate))
+    (go (eqb (refusalOf (issueIakTests f s p q (x .credential) (x .certificate))) 0) _ (pairs-ordered f (issueIakEffect f s p q (x .credential) (x .certificate)) p q xs))
+  where
+    go : (b : Bool) (ys : List Test) → ordered order ys ≡ true → ordered order (cond b ys []) ≡ true
+    go true ys h = h
+    go false ys h = refl
+
 pub tests-ordered : (f : File) (s : State) (c : Command) → ordered order (testsOf f s c) ≡ true
-unfolding testsOf deviceRole hashTests signTests certifyTests makeCredentialTests activateCredentialTests bothKnownTests sendTests selfIssueTests checkRole checkTests challengeTests formTests proofTests numberTests issueIakTests calledFor issueTests
+unfolding testsOf deviceRole hashTests signTests certifyTests makeCredentialTests activateCredentialTests bothKnownTests sendTests selfIssueTests checkRole checkTests challengeTests formTests proofTests numberTests issueIakTests calledFor issueTests issueIaksTests
 tests-ordered f s (hash p r) = refl
 tests-ordered f s (sign p r) = refl
 tests-ordered f s (certify p r) = refl
@@ -49,6 +65,7 @@ tests-ordered f s (selfIssue p r) = refl
 tests-ordered f s (challenge p q r) = refl
 tests-ordered f s (issueIak p q c r) = refl
 tests-ordered f s (issue family p q r) = refl
+tests-ordered f s (issueIaks p q xs) = pairs-ordered f s p q xs
 
 -- the commands in two parts
 pub run-append : (f : File) (xs ys : List Command) (s : State) → run f (xs ++ ys) s ≡ run f ys (run f xs s)
@@ -57,7 +74,7 @@ run-append f [] ys s = refl
 run-append f (x ∷ xs) ys s = run-append f xs ys (after f s x)
 
 module _ {A : Type 0} where
-  take-next : (xs : List A) (n : ℕ) (x : A) → getElem? xs n ≡ some x → take (suc n) xs ≡ take n xs ++ (x ∷ [])
+  pub take-next : (xs : List A) (n : ℕ) (x : A) → getElem? xs n ≡ some x → take (suc n) xs ≡ take n xs ++ (x ∷ [])
   take-next [] n x e = absurd (let z : _≡_ {A = ℕ} 0 1 = cc in omega arith)
   take-next (y ∷ xs) zero x e = let h : y ≡ x = cc in rw h
   take-next (y ∷ xs) (suc n) x e = ap (λ (l : List A). y ∷ l) (take-next xs n x e)

@@ -74,7 +74,7 @@ long-ran false x a r i e =
     absurd (let z : _≡_ {A = ℕ} 0 3 = ap (λ (y : Answer). length (y .values)) e in omega arith)
 
 -- a file that loads is not too long
-loaded-fits : (bytes : List ℕ) (f : File) → load bytes ≡ loaded f → leb (length bytes) fileLimit ≡ true
+pub loaded-fits : (bytes : List ℕ) (f : File) → load bytes ≡ loaded f → leb (length bytes) fileLimit ≡ true
 unfolding load
 loaded-fits bytes f e = go (leb (length bytes) fileLimit) _ e
   where

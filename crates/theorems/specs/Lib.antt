@@ -1,6 +1,10 @@
 pub mod Residency
 pub mod FamilyLaws
 pub mod SubjectLaws
+pub mod TogetherLaws
+pub mod Chain
+pub mod Judging
+pub mod CutLaws
 pub mod Written
 pub mod Decimal
 pub mod Refusal22

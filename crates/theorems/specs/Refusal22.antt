@@ -8,7 +8,7 @@ use lib.Dec.{eqb, leb}
 use lib.ListN.{length, drop}
 use Rattle.rules.specs.Limits.{fileLimit, pathPlaces}
 use Rattle.rules.specs.Refusals.{Test, need, firstOf}
-use Rattle.rules.specs.File.{File, Command, hash, sign, certify, makeCredential, activateCredential, makeIdevidRequest, makeLdevidRequest, makePair, checkHash, checkSignature, checkCertificate, checkAttributes, send, selfIssue, challenge, issueIak, issue}
+use Rattle.rules.specs.File.{File, Command, hash, sign, certify, makeCredential, activateCredential, makeIdevidRequest, makeLdevidRequest, makePair, checkHash, checkSignature, checkCertificate, checkAttributes, send, selfIssue, challenge, issueIak, issue, issueIaks}
 use Rattle.rules.specs.Load.{Load, loaded, refused, load}
 use Rattle.rules.specs.State.{State, start, listed, depthOf}
 use Rattle.rules.specs.Desk.{parentCertificateOf}
@@ -18,7 +18,7 @@ use Rattle.rules.specs.Lent.{Answer, success, refusal, Lent, rows, written, lon
 -- The order of refusals with 22 in its place.
 abbrev pub orderWith22 : List ℕ
 orderWith22 =
-    13 ∷ 14 ∷ 15 ∷ 16 ∷ 17 ∷ 18 ∷ 19 ∷ 20 ∷ 21 ∷ 22 ∷ 23
+    13 ∷ 32 ∷ 14 ∷ 15 ∷ 16 ∷ 17 ∷ 18 ∷ 19 ∷ 20 ∷ 21 ∷ 22 ∷ 23
     ∷ 24 ∷ 25 ∷ 26 ∷ 27 ∷ 28 ∷ 31 ∷ 29 ∷ []
 
 -- The check, which 40 made: the certificate in the request is in the ledger. Here the commands of its rule, 40, 41 and 42, all make it.
@@ -40,6 +40,7 @@ check22 f s (selfIssue p r) = []
 check22 f s (challenge p q r) = []
 check22 f s (issueIak p q c r) = []
 check22 f s (issue family p q r) = need 22 (listed (s .ledger) (parentCertificateOf f q)) ∷ []
+check22 f s (issueIaks p q xs) = []
 
 -- The commands with the check: what one has to pass, its outcome, what it leaves.
 unfoldable pub testsWith22 : File → State → Command → List Test

@@ -12,9 +12,9 @@ use Rattle.rules.specs.declared.Subject.the-variants.{Device}
 use Rattle.rules.specs.Limits.{device, depthLimit}
 use Rattle.rules.specs.Families.{iakFamily, families}
 use Rattle.rules.specs.Term.{privateKeyKind, certificateKind}
-use Rattle.rules.specs.File.{File, learns, holds, signsWith, Command, hash, sign, certify, makeCredential, activateCredential, makeIdevidRequest, makeLdevidRequest, makePair, checkHash, checkSignature, checkCertificate, checkAttributes, send, selfIssue, challenge, issueIak, issue, roleOf, kind, parts, subject, attributes, paired, certifiedKey, signer, credentialNumber, signsForSome}
+use Rattle.rules.specs.File.{File, learns, holds, signsWith, Command, hash, sign, certify, makeCredential, activateCredential, makeIdevidRequest, makeLdevidRequest, makePair, checkHash, checkSignature, checkCertificate, checkAttributes, send, selfIssue, challenge, issueIak, issue, issueIaks, IakPair, roleOf, kind, parts, subject, attributes, paired, certifiedKey, signer, credentialNumber, signsForSome}
 use Rattle.rules.specs.Load.{loaded, load, commandsOf}
-use Rattle.rules.specs.Desk.{ekCertificateOf, parentCertificateOf}
+use Rattle.rules.specs.Desk.{ekCertificateOf, parentCertificateOf, certificatesOf}
 use Rattle.rules.specs.Run.{outcome, reached}
 
 -- "everything in it": the second term is the first, or is in one of its parts
@@ -41,6 +41,7 @@ Teaches f (selfIssue p r) q t = (q ≡ p) × (t ≡ r)
 Teaches f (challenge p request r) q t = (q ≡ p) × (t ≡ r)
 Teaches f (issueIak p returning c r) q t = (q ≡ p) × (t ≡ r)
 Teaches f (issue family p request r) q t = (q ≡ p) × (t ≡ r)
+Teaches f (issueIaks p returning xs) q t = (q ≡ p) × List·Memᴰ t (certificatesOf xs)
 
 -- Accepted: the command of ordinal i is c, and its outcome is 0
 pub record Accepted (f : File) (i : ℕ) (c : Command) : Type 0 where
@@ -82,12 +83,15 @@ pub record Listed (f : File) (n t : ℕ) : Type 0 where
   pub here : EntryAt f n place entry
   pub same : entry .certificate ≡ t
 
--- Parent: the certificate in the 17 or 18 of the request; for 3F, of the request that its credential was opened with. The family is that
--- of the command that issued the certificate.
+-- Parent: the certificate in the 17 or 18 of the request; for 3F and for a pair of a 43, of the request that its credential was opened with.
+-- The family is that of the command that issued the certificate.
 pub data Parent (f : File) (n : ℕ) (family : Family) (t g : ℕ) : Type 0 where
   ofIak :
       (i j p returning c q : ℕ) → i < n → Accepted f i (issueIak p returning c t) → j < i → Accepted f j (challenge p q c) → family ≡ iakFamily → g ≡ ekCertificateOf f q
       → Parent f n family t g
+  ofPair :
+      (i j p returning c q : ℕ) (xs : List IakPair) → i < n → Accepted f i (issueIaks p returning xs) → List·Memᴰ (record { credential = c; certificate = t }) xs
+      → j < i → Accepted f j (challenge p q c) → family ≡ iakFamily → g ≡ ekCertificateOf f q → Parent f n family t g
   onRequest : (i p q : ℕ) → i < n → Accepted f i (issue family p q t) → g ≡ parentCertificateOf f q → Parent f n family t g
 
 -- Endorsement certificate of the set-up: a 19 that a 20 gave

@@ -13,6 +13,9 @@ pub const CA: u8 = 0x0A;
 /// Of an IDevID or LDevID.
 pub const ID: u8 = 0x0A;
 
+/// The empty pair of a 43.
+pub const EMPTY: (u16, u16) = (0xFFFF, 0xFFFF);
+
 /// The attributes of the new key of a 40, 41 or 42.
 pub fn new_key(kind: u8) -> u8 {
     if kind == 0x40 { AK } else { ID }
@@ -220,6 +223,15 @@ impl Build {
         self.check(kind, desk, request, r)
     }
 
+    /// 43.
+    pub fn issue_iaks(&mut self, desk: u8, returning: u8, pairs: [(u16, u16); 4]) -> usize {
+        let mut record = vec![0x43, desk, returning];
+        for (credential, r) in pairs {
+            record.extend([hi(credential), lo(credential), hi(r), lo(r)]);
+        }
+        self.raw(&record)
+    }
+
     /// Runs the first n commands.
     pub fn run_first(&self, n: usize) -> Ran {
         run_bytes(&self.bytes(), n)
@@ -302,6 +314,17 @@ impl Ran {
     }
 }
 
+/// A command is refused, and changes nothing but its outcome byte.
+pub fn refused_cleanly(b: &Build, ordinal: usize, number: u8) {
+    let before = b.run_first(ordinal);
+    let after = b.run_first(ordinal + 1);
+    let (accepted, refused, issued) = before.totals();
+    assert_eq!(after.outcomes[ordinal], number);
+    assert_eq!(after.totals(), (accepted, refused + 1, issued));
+    assert_eq!(before.state, after.state);
+    assert_eq!(before.ledger, after.ledger);
+}
+
 /// A device, a TPM maker, an OEM desk and an owner desk, with the terms of an
 /// honest IAK enrolment and its set-up, but no command.
 #[derive(Clone)]
@@ -329,6 +352,11 @@ pub struct Names {
 }
 
 impl Names {
+    /// The pair of a 43.
+    pub fn pair(&self) -> (u16, u16) {
+        (self.credential, self.iak_certificate)
+    }
+
     /// The desk that does a 40, 41 or 42, and its key.
     pub fn desk(&self, kind: u8) -> (u8, u16) {
         if kind == 0x41 {
@@ -430,11 +458,16 @@ pub fn honest() -> (Build, Names) {
     (b, n)
 }
 
-/// 3E, 3C, 34, 3F.
-pub fn finish_iak(b: &mut Build, n: &Names) {
+/// 3E, 3C, 34: the device knows the number.
+pub fn activate(b: &mut Build, n: &Names) {
     b.challenge(n.oem, n.request, n.credential);
     b.send(n.oem, n.device, n.credential);
     b.act(0x34, n.device, n.credential);
+}
+
+/// 3E, 3C, 34, 3F.
+pub fn finish_iak(b: &mut Build, n: &Names) {
+    activate(b, n);
     b.issue_iak(n.oem, n.device, n.credential, n.iak_certificate);
 }
 
@@ -609,4 +642,30 @@ pub fn two_boards() -> (Build, Names, Names, usize) {
     let second = another_iak(&mut b, &second, 500, 200);
     let at = last_iak(&b);
     (b, n, second, at)
+}
+
+/// One more IAK of a board, with that id, up to but not with its 3F or 43.
+pub fn ready_iak(b: &mut Build, n: &Names, id: u16, who: u16) -> Names {
+    let other = another_iak_terms(b, n, id, who);
+    make_request(b, &other);
+    activate(b, &other);
+    other
+}
+
+/// A board with four IAKs of Subject 200, each up to but not with its 3F or
+/// 43.
+pub fn four_iaks() -> (Build, [Names; 4]) {
+    let (mut b, n) = asked();
+    activate(&mut b, &n);
+    let others = [500, 501, 502].map(|id| ready_iak(&mut b, &n, id, 200));
+    let [second, third, fourth] = others;
+    (b, [n, second, third, fourth])
+}
+
+/// The four IAKs, issued by one 43. Gives its ordinal.
+pub fn together() -> (Build, [Names; 4], usize) {
+    let (mut b, iaks) = four_iaks();
+    let pairs = iaks.each_ref().map(Names::pair);
+    let at = b.issue_iaks(iaks[0].oem, iaks[0].device, pairs);
+    (b, iaks, at)
 }

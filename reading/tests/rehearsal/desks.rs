@@ -2,20 +2,9 @@
 //!
 //! 22 is no refusal any more. A 40, 41 or 42 whose parent is not in the ledger
 //! is 14 or 21 at the latest: a 19 signed by a desk's key first becomes known
-//! by an accepted 3F, 40, 41 or 42, which puts it in the ledger.
+//! by an accepted 3F, 40, 41, 42 or 43, which puts it in the ledger.
 
 use crate::builder::*;
-
-/// Changes nothing but the outcome byte.
-fn refused_cleanly(b: &Build, ordinal: usize, number: u8) {
-    let before = b.run_first(ordinal);
-    let after = b.run_first(ordinal + 1);
-    let (accepted, refused, issued) = before.totals();
-    assert_eq!(after.outcomes[ordinal], number);
-    assert_eq!(after.totals(), (accepted, refused + 1, issued));
-    assert_eq!(before.state, after.state);
-    assert_eq!(before.ledger, after.ledger);
-}
 
 #[test]
 fn challenge_role() {

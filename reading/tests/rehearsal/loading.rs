@@ -89,7 +89,7 @@ fn unknown_kinds() {
         .into_iter()
         .chain(0x10..=0x1A)
         .chain(0x20..=0x22)
-        .chain(0x30..=0x42)
+        .chain(0x30..=0x43)
         .collect();
     for kind in 0..=255u8 {
         let (number, place) = refused(&[0x01, 0x00, kind]);
@@ -135,6 +135,7 @@ fn body_lengths() {
         (0x40, 5),
         (0x41, 5),
         (0x42, 5),
+        (0x43, 18),
     ];
     for (kind, length) in lengths {
         let mut record = vec![kind];
@@ -157,7 +158,7 @@ fn body_lengths() {
 
 #[test]
 fn last_kinds() {
-    // 42 is the last kind; a body of 41 or 42 cut at any byte is 4.
+    // 43 is the last kind; a body of 41 to 43 cut at any byte is 4.
     let (b, n, [_, idevid, ldevid]) = board();
     let start = b.bytes().len() as u32;
     for (kind, desk, a) in [(0x41, n.oem, idevid), (0x42, n.owner, ldevid)] {
@@ -169,9 +170,23 @@ fn last_kinds() {
             assert_eq!(refused(&file[..file.len() - cut]), (4, start));
         }
     }
-    let mut b = b.clone();
-    b.issue(0x43, n.owner, ldevid.request, ldevid.certificate);
-    assert_eq!(refused(&b.bytes()), (3, start));
+    for pairs in [[n.pair(); 4], [EMPTY; 4]] {
+        let mut b = b.clone();
+        b.issue_iaks(n.oem, n.device, pairs);
+        let file = b.bytes();
+        loads(&file);
+        for cut in 1..=18 {
+            assert_eq!(refused(&file[..file.len() - cut]), (4, start));
+        }
+    }
+    let mut record = vec![0, n.oem, n.device];
+    record.extend([0xFF; 16]);
+    for kind in 0x44..=0xFF {
+        let mut b = b.clone();
+        record[0] = kind;
+        b.raw(&record);
+        assert_eq!(refused(&b.bytes()), (3, start));
+    }
 }
 
 #[test]
@@ -808,6 +823,115 @@ fn command_fields() {
         b.raw(record);
         assert_eq!(refused(&b.bytes()), (7, start));
     }
+}
+
+#[test]
+fn fields_of_pairs() {
+    let o = of_each();
+    let start = o.b.bytes().len() as u32;
+    let terms = o.b.terms();
+    let (credential, certificate) = (o.of[5], o.of[9]);
+    let good = (credential, certificate);
+    let load = |desk, returning, pairs, expected: Option<u32>| {
+        let mut b = o.b.clone();
+        b.issue_iaks(desk, returning, pairs);
+        match expected {
+            None => loads(&b.bytes()),
+            Some(number) => assert_eq!(refused(&b.bytes()), (number, start)),
+        }
+    };
+    // The parties.
+    load(0, 0, [good; 4], None);
+    for (desk, returning) in [(1, 0), (0, 1), (255, 255)] {
+        load(desk, returning, [good; 4], Some(7));
+        load(desk, returning, [EMPTY; 4], Some(7));
+    }
+    // Empty pairs in each place, also all.
+    for full in 0..16 {
+        let mut pairs = [EMPTY; 4];
+        for (place, pair) in pairs.iter_mut().enumerate() {
+            if full >> place & 1 == 1 {
+                *pair = good;
+            }
+        }
+        load(0, 0, pairs, None);
+    }
+    // One pair in each place, the others right or empty.
+    let one = |pair, expected| {
+        for other in [good, EMPTY] {
+            for place in 0..4 {
+                let mut pairs = [other; 4];
+                pairs[place] = pair;
+                load(0, 0, pairs, expected);
+            }
+        }
+    };
+    // Each field takes its kind alone; one FFFF alone is no empty pair, and
+    // no declared term.
+    for t in o.of {
+        one((t, certificate), (t != credential).then_some(8));
+        one((credential, t), (t != certificate).then_some(8));
+        one((t, 0xFFFF), Some(if t == credential { 7 } else { 8 }));
+        one((0xFFFF, t), Some(7));
+    }
+    for t in [terms, 0x00FF, 0xFF00, 0xFFFE] {
+        one((t, certificate), Some(7));
+        one((credential, t), Some(7));
+        one((t, 0xFFFF), Some(7));
+        one((0xFFFF, t), Some(7));
+        one((t, t), Some(7));
+    }
+    // The fields of the pairs in their order.
+    let public = o.of[0];
+    for (first, second, expected) in [
+        ((credential, public), (0xFFFF, certificate), 8),
+        ((credential, 0xFFFF), (public, public), 7),
+        ((0xFFFF, public), (public, public), 7),
+        ((public, 0xFFFF), (terms, terms), 8),
+        (good, (credential, 0xFFFF), 7),
+        (EMPTY, (public, 0xFFFF), 8),
+    ] {
+        for pairs in [
+            [first, second, EMPTY, EMPTY],
+            [EMPTY, first, good, second],
+            [good, good, first, second],
+        ] {
+            load(0, 0, pairs, Some(expected));
+        }
+        // The parties come before.
+        load(0, 1, [first, second, EMPTY, EMPTY], Some(7));
+        load(1, 0, [first, second, EMPTY, EMPTY], Some(7));
+    }
+    // FFFF is empty also where there are as many terms as can be; and across
+    // two pairs it is not.
+    let mut b = o.b.clone();
+    for id in 2..=1024 - terms + 1 {
+        b.number(id);
+    }
+    assert_eq!(b.terms(), 1024);
+    let full = b.bytes().len() as u32;
+    for (pairs, expected) in [
+        ([EMPTY; 4], None),
+        ([good, EMPTY, good, EMPTY], None),
+        ([good, (0xFFFF, certificate), EMPTY, EMPTY], Some(7)),
+        (
+            [(credential, 0xFFFF), (0xFFFF, certificate), EMPTY, EMPTY],
+            Some(7),
+        ),
+        ([(1023, 0xFFFF), EMPTY, EMPTY, EMPTY], Some(8)),
+        ([(1024, 0xFFFF), EMPTY, EMPTY, EMPTY], Some(7)),
+    ] {
+        let mut b = b.clone();
+        b.issue_iaks(0, 0, pairs);
+        match expected {
+            None => loads(&b.bytes()),
+            Some(number) => assert_eq!(refused(&b.bytes()), (number, full)),
+        }
+    }
+    // Anywhere else FFFF is 7.
+    let mut b = o.b.clone();
+    b.issue_iak(0, 0, 0xFFFF, 0xFFFF);
+    assert_eq!(refused(&b.bytes()), (7, start));
 }
 
 #[test]

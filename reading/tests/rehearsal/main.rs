@@ -8,3 +8,4 @@ mod loading;
 mod program;
 mod random;
 mod situations;
+mod together;

@@ -22,6 +22,7 @@ fn program_prints_the_listing() {
     let (b, ..) = chain(8);
     let (of_board, ..) = board();
     let (of_two, ..) = two_boards();
+    let (of_four, ..) = together();
     let long = vec![0x16; FILE_BYTES + 1];
     for file in [
         &[][..],
@@ -29,6 +30,7 @@ fn program_prints_the_listing() {
         &b.bytes(),
         &of_board.bytes(),
         &of_two.bytes(),
+        &of_four.bytes(),
         &long,
     ] {
         assert_eq!(printed(file), listing(file));

@@ -41,7 +41,7 @@ fn check_entry(file: &[u8], ran: &Ran, entry: &Entry) {
     let certificate = key_and_signer(file, ran, entry.certificate);
     let parent = key_and_signer(file, ran, entry.parent);
     match (certificate, parent) {
-        // 3F, 41.
+        // 3F and 43, 41.
         ((AK, 2), (EK, 1)) => assert_eq!(entry.depth, 1),
         ((ID, 2), (AK, 2)) => assert_eq!(entry.depth, 2),
         // 40, 42.
@@ -100,7 +100,7 @@ fn check(file: &[u8], n: usize) {
             assert_eq!((accepted + refused) as usize, count);
             assert_eq!(refusals, refused as usize);
             for outcome in &ran.outcomes {
-                assert!(matches!(outcome, 0 | 13..=29 | 31));
+                assert!(matches!(outcome, 0 | 13..=29 | 31 | 32));
                 // No refusal any more, and the number is never used again.
                 assert_ne!(*outcome, 22);
             }
@@ -136,7 +136,7 @@ fn noise() {
         .into_iter()
         .chain(0x10..=0x1A)
         .chain(0x20..=0x22)
-        .chain(0x30..=0x42)
+        .chain(0x30..=0x43)
         .collect();
     for _ in 0..2000 {
         let length = dice.roll(60);
@@ -154,7 +154,7 @@ fn noise() {
 #[test]
 fn honest_files_with_changed_bytes() {
     let mut dice = Dice(0xFEED_F00D_0000_0001);
-    for good in [chain(2).0, board().0, two_boards().0] {
+    for good in [chain(2).0, board().0, two_boards().0, together().0] {
         let good = good.bytes();
         check(&good, usize::MAX);
         for _ in 0..3000 {
@@ -163,7 +163,7 @@ fn honest_files_with_changed_bytes() {
                 let at = dice.roll(file.len() as u64) as usize;
                 file[at] = match dice.roll(3) {
                     0 => dice.roll(4) as u8,
-                    1 => dice.roll(0x44) as u8,
+                    1 => dice.roll(0x45) as u8,
                     _ => file[at] ^ (1 << dice.roll(8)),
                 };
             }
@@ -311,4 +311,142 @@ fn iaks_at_random_boards() {
     for (outcome, count) in seen.iter().enumerate() {
         assert_eq!(*count > 0, matches!(outcome, 0 | 25 | 27 | 31));
     }
+}
+
+/// What should come of 3F and 43, with the EK key that carries each Subject.
+#[derive(Clone, Default)]
+struct Expected {
+    closed: Vec<u16>,
+    carriers: HashMap<u16, u16>,
+    issued: Vec<u16>,
+}
+
+/// An IAK that waits for its certificate.
+struct Waiting {
+    iak: Names,
+    who: u16,
+    /// The devices that know the number.
+    knowing: Vec<u8>,
+}
+
+impl Expected {
+    /// The outcome of a 3F; it is issued if that is 0.
+    fn issue(&mut self, waiting: &Waiting, returning: u8, r: u16) -> u8 {
+        let Waiting { iak, who, knowing } = waiting;
+        if self.closed.contains(&iak.credential) {
+            25
+        } else if !knowing.contains(&returning) {
+            26
+        } else if r != iak.iak_certificate {
+            27
+        } else if *self.carriers.entry(*who).or_insert(iak.ek) != iak.ek {
+            31
+        } else {
+            self.closed.push(iak.credential);
+            self.issued.push(r);
+            0
+        }
+    }
+
+    /// The outcome of a 43.
+    fn issue_all(&mut self, pairs: &[(&Waiting, u16)], returning: u8) -> u8 {
+        let mut certificates: Vec<u16> = pairs.iter().map(|(_, r)| *r).collect();
+        certificates.sort();
+        certificates.dedup();
+        if pairs.is_empty() || certificates.len() < pairs.len() {
+            return 32;
+        }
+        let before = self.clone();
+        for (waiting, r) in pairs {
+            let outcome = self.issue(waiting, returning, *r);
+            if outcome != 0 {
+                *self = before;
+                return outcome;
+            }
+        }
+        0
+    }
+}
+
+#[test]
+fn iaks_together_at_random_boards() {
+    // Two EK keys in one TPM and one in another; of each, IAKs that ask for one
+    // of three Subjects. Some numbers go to the other board too. Then 3F and
+    // 43 of any of them, with any pairs empty.
+    let mut dice = Dice(0x4332_3125_2627_0809);
+    let mut seen = [0; 33];
+    let mut sizes = [0; 5];
+    for _ in 0..300 {
+        let mut b = Build::default();
+        let n = iak_terms(&mut b, AK, EK);
+        desk_set_up(&mut b, &n);
+        device_set_up(&mut b, &n);
+        let beside = another_ek(&mut b, &n, 11, 100);
+        let second = another_board(&mut b, &n, 12, 100);
+        let devices = [n.device, second.device];
+        let mut asked = Vec::new();
+        for id in 500..516 {
+            let board = [&n, &n, &beside, &second][dice.roll(4) as usize];
+            let who = 200 + dice.roll(3) as u16;
+            let iak = ready_iak(&mut b, board, id, who);
+            let mut knowing = vec![iak.device];
+            if dice.roll(4) > 0 {
+                for device in devices {
+                    b.send(iak.device, device, iak.number);
+                }
+                knowing = devices.to_vec();
+            }
+            asked.push(Waiting { iak, who, knowing });
+        }
+        let mut expected = Expected::default();
+        let mut outcomes = Vec::new();
+        for _ in 0..24 {
+            let returning = devices[dice.roll(8) as usize / 7];
+            if dice.roll(6) == 0 {
+                let waiting = &asked[dice.roll(16) as usize];
+                let (credential, r) = waiting.iak.pair();
+                let at = b.issue_iak(n.oem, returning, credential, r);
+                let outcome = expected.issue(waiting, returning, r);
+                outcomes.push((at, outcome));
+                continue;
+            }
+            let mut pairs = [EMPTY; 4];
+            let mut full = Vec::new();
+            for pair in &mut pairs {
+                if dice.roll(2) == 0 {
+                    continue;
+                }
+                let waiting = &asked[dice.roll(16) as usize];
+                *pair = waiting.iak.pair();
+                if dice.roll(16) == 0 {
+                    pair.1 = asked[dice.roll(16) as usize].iak.iak_certificate;
+                }
+                full.push((waiting, pair.1));
+            }
+            let at = b.issue_iaks(n.oem, returning, pairs);
+            let outcome = expected.issue_all(&full, returning);
+            if outcome == 0 {
+                sizes[full.len()] += 1;
+            }
+            outcomes.push((at, outcome));
+        }
+        check(&b.bytes(), usize::MAX);
+        let ran = b.run();
+        for (at, outcome) in outcomes {
+            assert_eq!(ran.outcomes[at], outcome);
+            seen[usize::from(outcome)] += 1;
+        }
+        let issued = ran.totals().2 as usize;
+        let ledger: Vec<u16> = ran.ledger[..issued]
+            .iter()
+            .map(|entry| entry.certificate)
+            .collect();
+        assert_eq!(ledger, expected.issued);
+    }
+    // These and no others, and 43 with each number of pairs.
+    for (outcome, count) in seen.iter().enumerate() {
+        assert_eq!(*count > 0, matches!(outcome, 0 | 25 | 26 | 27 | 31 | 32));
+    }
+    assert_eq!(sizes[0], 0);
+    assert!(sizes[1..].iter().all(|count| *count > 0));
 }

@@ -6,7 +6,7 @@ use denote.Ref.{now}
 use Rattle.state.specs.View.{view}
 use Rattle.state.proofs.Exact.{stateOf}
 use Rattle.loaded.specs.Loaded.{fileIn}
-use Rattle.loaded.proofs.Chain.{chain-passes, chain-fails, stops}
+use Rattle.theorems.proofs.Chain.{chain-passes, chain-fails, stops}
 use Rattle.loaded.proofs.Standing.{party-here, checked-here, term-here, kind-declared, left-declared, idevid-key-declared, idevid-certificate-declared, certified-key-declared, signer-declared, credential-term-declared, credential-number-declared}
 use Rattle.requests.proofs.Passing.{form-goes, proof-goes, has-form}
 use Rattle.challenge.proofs.Outcome.{endorsement-goes, number-goes, challenge-chain}

@@ -3,7 +3,7 @@ use borrow.Author.Tests.{not-true, not-false, eq-eqb, ne-eqb}
 use mathlib.Core.Path.{_≡_, sym, ap, _∙_}
 use mathlib.Core.Bool.{not}
 use Rattle.rules.specs.Desk.{numberTests}
-use Rattle.loaded.proofs.Chain.{chain-none, chain-passes, chain-fails}
+use Rattle.theorems.proofs.Chain.{chain-none, chain-passes, chain-fails}
 use Rattle.challenge.proofs.fresh_number.Statement.{statement}
 use Rattle.challenge.proofs.fresh_number.Tie as tie
 

@@ -56,6 +56,12 @@ enum-told-7 c = search needs
 field-fault-requires-6 : tie.Need-field-fault-requires-6
 field-fault-requires-6 c κs = search needs
 
+enum-told-8 : tie.Need-enum-told-8
+enum-told-8 c = search needs
+
+field-fault-requires-7 : tie.Need-field-fault-requires-7
+field-fault-requires-7 c κs = search needs
+
 returns : tie.Need-returns
 returns c = search needs
 
@@ -82,6 +88,9 @@ returns-7 c = rw (c .before .before .field .given .1) (c .kind-fault .ensures)
 returns-8 : tie.Need-returns-8
 returns-8 c = search needs
 
+returns-9 : tie.Need-returns-9
+returns-9 c = search needs
+
 pub command-fault-spec : {M : Type 1} → statement M
 command-fault-spec =
     tie.close
@@ -102,6 +111,8 @@ command-fault-spec =
     kind-fault-requires
     enum-told-7
     field-fault-requires-6
+    enum-told-8
+    field-fault-requires-7
     returns
     returns-2
     returns-3
@@ -109,4 +120,5 @@ command-fault-spec =
     returns-5
     returns-6
     returns-7
-    returns-8)
+    returns-8
+    returns-9)

@@ -58,6 +58,13 @@ attest-fault-requires : tie.Need-attest-fault-requires
 unfolding width
 attest-fault-requires c κs = (c .before .before .before .before .before .pre .0, omega (arith, ap width (c .enum-told7 .given .1)))
 
+enum-told-8 : tie.Need-enum-told-8
+enum-told-8 c = search needs
+
+pair-fault-requires : tie.Need-pair-fault-requires
+unfolding width
+pair-fault-requires c κs = (c .before .before .before .before .before .pre .0, omega (arith, ap width (c .enum-told8 .given .1)))
+
 returns : tie.Need-returns
 unfolding fieldFaultThere
 returns c = rw (c .before .enum-told .given .1) (c .byte-fault .ensures)
@@ -90,6 +97,10 @@ returns-8 : tie.Need-returns-8
 unfolding fieldFaultThere
 returns-8 c = rw (c .before .enum-told7 .given .1) (c .attest-fault .ensures)
 
+returns-9 : tie.Need-returns-9
+unfolding fieldFaultThere
+returns-9 c = rw (c .before .enum-told8 .given .1) (c .pair-fault .ensures)
+
 pub field-fault-spec : {M : Type 1} → statement M
 field-fault-spec =
     tie.close
@@ -109,6 +120,8 @@ field-fault-spec =
     kind-fault-requires
     enum-told-7
     attest-fault-requires
+    enum-told-8
+    pair-fault-requires
     returns
     returns-2
     returns-3
@@ -116,4 +129,5 @@ field-fault-spec =
     returns-5
     returns-6
     returns-7
-    returns-8)
+    returns-8
+    returns-9)

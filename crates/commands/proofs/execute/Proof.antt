@@ -2,7 +2,7 @@ use mathlib.Core.Path.{refl}
 use borrow.Author.Needs.{needs}
 use denote.Ref.{now}
 use Rattle.entries.specs.Words.{entriesIn}
-use Rattle.commands.proofs.Next.{open-requested, parents-entered, entered, zero-decided, accepts, refused-left, device-left, device-stands, desk-left, desk-stands}
+use Rattle.commands.proofs.Next.{open-requested, parents-entered, ledgered, some-ledger, zero-decided, accepts, accepts-ledgered, refused-left, device-left, device-stands, desk-left, desk-stands}
 use Rattle.commands.proofs.execute.Statement.{statement}
 use Rattle.commands.proofs.execute.Tie as tie
 
@@ -52,7 +52,7 @@ decide-requires-2 c κs =
     let o = c .before .before .before .before .before .before .before in
     let st = o .pre .0 in
     let w = o .pre .1 in
-    (st .holds, st .finds, o .pre .2, w, c .before .before .before .if1 .left, entered st, open-requested st, parents-entered st)
+    (st .holds, st .finds, o .pre .2, w, c .before .before .before .if1 .left, some-ledger st, open-requested st, parents-entered st)
 
 same-length-3 : tie.Need-same-length-3
 same-length-3 c = search needs
@@ -62,7 +62,7 @@ returns-3 c =
     let o = c .before .before .before .before .before .before .before .before .before in
     let st = o .pre .0 in
     let w = o .pre .1 in
-    let e = c .before .decide2 .ensures (o .args .entries) (entriesIn (now (o .args .words)) (o .args .entries)) (st .enters) (st .boards) (st .kept .sound .oneEk) in
+    let e = c .before .decide2 .ensures (o .args .entries) (entriesIn (now (o .args .words)) (o .args .entries)) (ledgered st) in
     (e, (refused-left st w e (c .if3 .taken), (st, refl)))
 
 effect-requires-2 : tie.Need-effect-requires-2
@@ -70,8 +70,8 @@ effect-requires-2 c κs =
     let o = c .before .before .before .before .before .before .before .before .before .before .before .before in
     let st = o .pre .0 in
     let w = o .pre .1 in
-    let e = c .before .before .before .before .decide2 .ensures (o .args .entries) (entriesIn (now (o .args .words)) (o .args .entries)) (st .enters) (st .boards) (st .kept .sound .oneEk) in
-    record { holds = st .holds; keys = st .finds .words; command = w; isDesk = c .before .before .before .before .before .before .before .before .if1 .left; opened = open-requested st; parents = parents-entered st; accepts = accepts st w e (c .before .before .before .if3 .left) }
+    let e = c .before .before .before .before .decide2 .ensures (o .args .entries) (entriesIn (now (o .args .words)) (o .args .entries)) (ledgered st) in
+    record { holds = st .holds; keys = st .finds .words; command = w; isDesk = c .before .before .before .before .before .before .before .before .if1 .left; opened = open-requested st; parents = parents-entered st; accepts = accepts st w e (c .before .before .before .if3 .left); ledgered = accepts-ledgered st w e (c .before .before .before .if3 .left) }
 
 same-length-4 : tie.Need-same-length-4
 same-length-4 c = search needs
@@ -81,7 +81,7 @@ returns-4 c =
     let o = c .before .before .before .before .before .before .before .before .before .before .before .before .before .before .before in
     let st = o .pre .0 in
     let w = o .pre .1 in
-    let e = c .before .before .before .before .before .before .before .decide2 .ensures (o .args .entries) (entriesIn (now (o .args .words)) (o .args .entries)) (st .enters) (st .boards) (st .kept .sound .oneEk) in
+    let e = c .before .before .before .before .before .before .before .decide2 .ensures (o .args .entries) (entriesIn (now (o .args .words)) (o .args .entries)) (ledgered st) in
     let z = c .before .before .before .before .before .before .if3 .left in
     let v = c .before .before .effect2 .ensures in
     (zero-decided st w e z, (desk-left st w e z v, (desk-stands st w e z v (same-length-4 c), v .places)))

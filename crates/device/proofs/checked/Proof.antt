@@ -1,7 +1,7 @@
 use mathlib.Core.Path.{sym, _∙_}
 use native.Mathlib.Omega.{arith}
 use borrow.Author.Tests.{not-true, not-false}
-use Rattle.loaded.proofs.Chain.{chain-none, chain-passes, chain-fails}
+use Rattle.theorems.proofs.Chain.{chain-none, chain-passes, chain-fails}
 use Rattle.loaded.proofs.Standing.{party-here, term-here}
 use Rattle.device.proofs.checked.Statement.{statement}
 use Rattle.device.proofs.checked.Tie as tie

@@ -13,7 +13,7 @@ use Rattle.theorems.proofs.Terms.{isKind-kind}
 use Rattle.state.specs.View.{view}
 use Rattle.state.proofs.Exact.{stateOf}
 use Rattle.loaded.specs.Loaded.{fileIn}
-use Rattle.loaded.proofs.Chain.{chain-none, chain-passes, chain-fails}
+use Rattle.theorems.proofs.Chain.{chain-none, chain-passes, chain-fails}
 use Rattle.loaded.proofs.Standing.{party-here, term-here, kind-declared, hashed-declared, credential-term-declared, credential-key-declared}
 use Rattle.loaded.proofs.Tested.{of-read}
 use Rattle.loaded.proofs.Halves.{half-asked, half-read}

@@ -11,7 +11,7 @@ use Rattle.rules.specs.Device.{keyHas}
 use Rattle.state.specs.View.{view}
 use Rattle.state.proofs.Exact.{stateOf}
 use Rattle.loaded.specs.Loaded.{fileIn}
-use Rattle.loaded.proofs.Chain.{chain-none, chain-passes, chain-fails}
+use Rattle.theorems.proofs.Chain.{chain-none, chain-passes, chain-fails}
 use Rattle.loaded.proofs.Standing.{party-here, term-here, kind-declared, message-declared, signing-key-declared, attested-key-declared}
 use Rattle.loaded.proofs.Tested.{of-read}
 use Rattle.loaded.proofs.Halves.{half-asked, half-read}

@@ -8,7 +8,7 @@ use Rattle.rules.specs.File.{isRole, credentialTerm, credentialNumber, credenti
 use Rattle.state.specs.View.{view}
 use Rattle.state.proofs.Exact.{stateOf}
 use Rattle.loaded.specs.Loaded.{fileIn}
-use Rattle.loaded.proofs.Chain.{chain-none, chain-passes, chain-fails}
+use Rattle.theorems.proofs.Chain.{chain-none, chain-passes, chain-fails}
 use Rattle.loaded.proofs.Standing.{party-here, term-here, kind-declared, credential-term-declared, credential-number-declared, credential-key-declared}
 use Rattle.loaded.proofs.Tested.{of-read}
 use Rattle.device.proofs.Outcomes.{make-credential-chain}

@@ -8,9 +8,9 @@ use Rattle.rules.specs.File.{isRole, subject}
 use Rattle.rules.specs.Desk.{formTests, proofTests}
 use Rattle.state.specs.View.{view}
 use Rattle.state.proofs.Exact.{stateOf}
-use Rattle.loaded.specs.Chain.{chain}
+use Rattle.theorems.specs.Chain.{chain}
 use Rattle.loaded.specs.Loaded.{fileIn}
-use Rattle.loaded.proofs.Chain.{chain-passes, chain-fails, stops}
+use Rattle.theorems.proofs.Chain.{chain-passes, chain-fails, stops}
 use Rattle.loaded.proofs.Standing.{party-here, checked-here, term-here, kind-declared, ldevid-message-declared}
 use Rattle.requests.specs.Tests.{calledTests, attestTests, parentageTests}
 use Rattle.requests.proofs.Passing.{form-goes, proof-goes, has-form}
@@ -25,7 +25,7 @@ is-role-requires c κs =
     party-here (p .0) (p .3 .0)
 
 returns : tie.Need-returns
-returns c n ledger e _ _ =
+returns c n ledger k₀ =
     let a = c .before .before .before .before .args in
     sym (issue-chain (fileIn (now (a .file))) (stateOf (view (now (a .state))) ledger) (a .family) (a .party) (a .q) (a .r)
     ∙ chain-fails 13 _ _ (sym (c .before .is-role .ensures) ∙ not-true _ (c .if1 .taken)))
@@ -40,7 +40,7 @@ knows-requires c κs =
     (omega (arith, p .0 .parties, p .3 .0), term-here (p .0) (p .3 .2) .row)
 
 returns-2 : tie.Need-returns-2
-returns-2 c n ledger e _ _ =
+returns-2 c n ledger k₀ =
     let a = c .before .before .before .before .before .before .args in
     sym (issue-chain (fileIn (now (a .file))) (stateOf (view (now (a .state))) ledger) (a .family) (a .party) (a .q) (a .r)
     ∙ chain-passes 13 _ _ (passes-1 (c .before .before))
@@ -56,7 +56,7 @@ form-requires c κs =
     (p .0, p .3 .2)
 
 returns-3 : tie.Need-returns-3
-returns-3 c n ledger e _ _ =
+returns-3 c n ledger k₀ =
     let a = c .before .before .before .before .before .before .before .before .before .args in
     sym (issue-chain (fileIn (now (a .file))) (stateOf (view (now (a .state))) ledger) (a .family) (a .party) (a .q) (a .r)
     ∙ chain-passes 13 _ _ (passes-1 (c .before .before .before .before .before))
@@ -80,7 +80,7 @@ attested-by-requires c κs =
     (p .0, rw (c .ldevid-request-of .ensures .0, c .before .before .before .form .ensures .1 (c .before .if3 .left) .named) (ldevid-message-declared (p .0) (kind-declared _ (m .1) (λ e. omega arith)) (m .1)))
 
 returns-4 : tie.Need-returns-4
-returns-4 c n ledger e _ _ =
+returns-4 c n ledger k₀ =
     let a = c .before .before .before .before .before .before .before .before .before .before .before .before .before .args in
     sym (issue-chain (fileIn (now (a .file))) (stateOf (view (now (a .state))) ledger) (a .family) (a .party) (a .q) (a .r)
     ∙ chain-passes 13 _ _ (passes-1 (c .before .before .before .before .before .before .before .before .before))
@@ -104,7 +104,7 @@ proof-of-key-requires c κs =
     (rw (c .before .before .attested-by .ensures .1 (c .if4 .left) .0, c .before .before .before .ldevid-request-of .ensures .0, c .before .before .before .before .before .before .form .ensures .1 (c .before .before .before .before .if3 .left) .named) (omega (arith, few, new-declared (p .0) w)), omega (arith, few, c .before .before .before .before .before .before .form .ensures .1 (c .before .before .before .before .if3 .left) .known))
 
 returns-5 : tie.Need-returns-5
-returns-5 c n ledger e _ _ =
+returns-5 c n ledger k₀ =
     let a = c .before .before .before .before .before .before .before .before .before .before .before .before .before .before .before .args in
     let p = c .before .before .before .before .before .before .before .before .before .before .before .before .before .before .before .pre in
     let w = asked-of (c .before .before) in
@@ -135,7 +135,7 @@ parentage-requires c κs =
     (p .0, p .1, p .2, rw (c .before .before .before .before .before .attested-by .ensures .1 (c .before .before .before .if4 .left) .1, c .before .before .before .before .before .before .ldevid-request-of .ensures .0, c .before .before .before .before .before .before .before .before .before .form .ensures .1 (c .before .before .before .before .before .before .before .if3 .left) .named) (half-declared (p .0) w), rw (c .before .before .before .before .before .attested-by .ensures .1 (c .before .before .before .if4 .left) .0, c .before .before .before .before .before .before .ldevid-request-of .ensures .0, c .before .before .before .before .before .before .before .before .before .form .ensures .1 (c .before .before .before .before .before .before .before .if3 .left) .named) (new-declared (p .0) w), rw (c .certificate-of .ensures .0, c .before .before .before .before .before .before .ldevid-request-of .ensures .1, c .before .before .before .before .before .before .before .before .before .form .ensures .1 (c .before .before .before .before .before .before .before .if3 .left) .named) (key-declared (p .0) w), rw (c .certificate-of .ensures .2, c .before .before .before .before .before .before .ldevid-request-of .ensures .1, c .before .before .before .before .before .before .before .before .before .form .ensures .1 (c .before .before .before .before .before .before .before .if3 .left) .named) (by-declared (p .0) w))
 
 returns-6 : tie.Need-returns-6
-returns-6 c n ledger e _ _ =
+returns-6 c n ledger k₀ =
     let a = c .before .before .before .before .before .before .before .before .before .before .before .before .before .before .before .before .before .before .args in
     sym (issue-chain (fileIn (now (a .file))) (stateOf (view (now (a .state))) ledger) (a .family) (a .party) (a .q) (a .r)
     ∙ chain-passes 13 _ _ (passes-1 (c .before .before .before .before .before .before .before .before .before .before .before .before .before .before))
@@ -156,7 +156,7 @@ called-for-requires c κs =
     (p .0, p .1, omega (arith, p .0 .parties, p .3 .0), p .3 .1)
 
 returns-7 : tie.Need-returns-7
-returns-7 c n ledger e _ _ =
+returns-7 c n ledger k₀ =
     let a = c .before .before .before .before .before .before .before .before .before .before .before .before .before .before .before .before .before .before .before .before .args in
     sym (issue-chain (fileIn (now (a .file))) (stateOf (view (now (a .state))) ledger) (a .family) (a .party) (a .q) (a .r)
     ∙ chain-passes 13 _ _ (passes-1 (c .before .before .before .before .before .before .before .before .before .before .before .before .before .before .before .before))
@@ -183,7 +183,7 @@ entry-allowed-requires c κs =
     rw (c .before .before .before .before .before .before .before .before .before .before .ldevid-request-of .ensures .1, c .before .before .before .before .before .before .before .before .before .before .before .before .before .form .ensures .1 (c .before .before .before .before .before .before .before .before .before .before .before .if3 .left) .named) (omega (arith, few, issued), omega (arith, few, known), m .0, m .1)
 
 returns-8 : tie.Need-returns-8
-returns-8 c n ledger e _ _ =
+returns-8 c n ledger k₀ =
     let a = c .before .before .before .before .before .before .before .before .before .before .before .before .before .before .before .before .before .before .before .before .before .args in
     sym (issue-chain (fileIn (now (a .file))) (stateOf (view (now (a .state))) ledger) (a .family) (a .party) (a .q) (a .r)
     ∙ chain-passes 13 _ _ (passes-1 (c .before .before .before .before .before .before .before .before .before .before .before .before .before .before .before .before .before))
@@ -193,7 +193,7 @@ returns-8 c n ledger e _ _ =
     ∙ proof-goes _ _ (passes-5 (c .before .before .before .before .before .before)) _ _ refl
     ∙ parentage-goes _ _ (a .family) _ _ _ _ (passes-6 (c .before .before .before))
     ∙ called-goes _ _ _ _ _ _ refl (passes-7 (c .before))
-    ∙ sym (entry-read (fileIn (now (a .file))) (a .q) (c .before .before .before .before .before .before .before .before .before .before .before .before .before .before .form .ensures .1 (c .before .before .before .before .before .before .before .before .before .before .before .before .if3 .left) .named) (c .before .before .before .before .before .before .before .before .before .before .before .ldevid-request-of .ensures .0) (c .before .before .before .before .before .before .before .before .before .before .attested-by .ensures .1 (c .before .before .before .before .before .before .before .before .if4 .left) .0) (c .before .before .before .before .before .before .before .before .before .before .before .ldevid-request-of .ensures .1) ledger (a .r) (c .entry-allowed .ensures n ledger e)))
+    ∙ sym (entry-read (fileIn (now (a .file))) (a .q) (c .before .before .before .before .before .before .before .before .before .before .before .before .before .before .form .ensures .1 (c .before .before .before .before .before .before .before .before .before .before .before .before .if3 .left) .named) (c .before .before .before .before .before .before .before .before .before .before .before .ldevid-request-of .ensures .0) (c .before .before .before .before .before .before .before .before .before .before .attested-by .ensures .1 (c .before .before .before .before .before .before .before .before .if4 .left) .0) (c .before .before .before .before .before .before .before .before .before .before .before .ldevid-request-of .ensures .1) ledger (a .r) (c .entry-allowed .ensures n ledger (k₀ .enters))))
 
 pub decide-issue-spec : {M : Type 1} → statement M
 decide-issue-spec =

@@ -6,7 +6,7 @@ use Prim.Native.Nat.{_+_}
 use native.Mathlib.Omega.{arith}
 use Rattle.rules.specs.Limits.{depthLimit}
 use Rattle.rules.specs.State.{depthOf}
-use Rattle.loaded.proofs.Chain.{chain-none, chain-passes, chain-fails}
+use Rattle.theorems.proofs.Chain.{chain-none, chain-passes, chain-fails}
 use Rattle.issuance.proofs.entry_allowed.Statement.{statement}
 use Rattle.issuance.proofs.entry_allowed.Tie as tie
 

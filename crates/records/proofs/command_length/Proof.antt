@@ -78,7 +78,11 @@ returns-18 c = sym (ap bodyLength (c .match .keys18))
 
 returns-19 : tie.Need-returns-19
 unfolding bodyLength fieldsOf sectionOf widths width
-returns-19 c = sym (ap bodyLength (last-arm (c .before .args .kind) 0x30 18 (c .match .rest) (c .before .pre .0) (c .before .pre .1)))
+returns-19 c = sym (ap bodyLength (c .match .keys19))
+
+returns-20 : tie.Need-returns-20
+unfolding bodyLength fieldsOf sectionOf widths width
+returns-20 c = sym (ap bodyLength (last-arm (c .before .args .kind) 0x30 19 (c .match .rest) (c .before .pre .0) (c .before .pre .1)))
 
 pub command-length-spec : {M : Type 1} → statement M
 command-length-spec =
@@ -102,4 +106,5 @@ command-length-spec =
     returns-16
     returns-17
     returns-18
-    returns-19)
+    returns-19
+    returns-20)

@@ -27,6 +27,9 @@ enum-told-7 c = search needs
 enum-told-8 : tie.Need-enum-told-8
 enum-told-8 c = search needs
 
+enum-told-9 : tie.Need-enum-told-9
+enum-told-9 c = search needs
+
 returns : tie.Need-returns
 unfolding width
 returns c = search needs
@@ -59,6 +62,10 @@ returns-8 : tie.Need-returns-8
 unfolding width
 returns-8 c = search needs
 
+returns-9 : tie.Need-returns-9
+unfolding width
+returns-9 c = search needs
+
 pub width-spec : {M : Type 1} → statement M
 width-spec =
     tie.close
@@ -71,6 +78,7 @@ width-spec =
     enum-told-6
     enum-told-7
     enum-told-8
+    enum-told-9
     returns
     returns-2
     returns-3
@@ -78,4 +86,5 @@ width-spec =
     returns-5
     returns-6
     returns-7
-    returns-8)
+    returns-8
+    returns-9)

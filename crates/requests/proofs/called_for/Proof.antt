@@ -9,7 +9,7 @@ use Rattle.rules.specs.Term.{sameSubject}
 use Rattle.rules.specs.File.{signer}
 use Rattle.setup.specs.Allowed.{noKey}
 use Rattle.loaded.specs.Loaded.{fileIn}
-use Rattle.loaded.proofs.Chain.{chain-none, chain-passes, chain-fails}
+use Rattle.theorems.proofs.Chain.{chain-none, chain-passes, chain-fails}
 use Rattle.loaded.proofs.Standing.{checked-here, term-here, kind-declared, signer-declared}
 use Rattle.requests.proofs.called_for.Statement.{statement}
 use Rattle.requests.proofs.called_for.Tie as tie

@@ -6,7 +6,7 @@ use denote.Ref.{now}
 use Rattle.rules.specs.declared.Term.the-variants.{Hash}
 use Rattle.rules.specs.File.{term}
 use Rattle.loaded.specs.Loaded.{fileIn}
-use Rattle.loaded.proofs.Chain.{chain-none, chain-passes, chain-fails}
+use Rattle.theorems.proofs.Chain.{chain-none, chain-passes, chain-fails}
 use Rattle.loaded.proofs.Standing.{term-here}
 use Rattle.requests.proofs.Read.{read, kind-is, kind-not, hash-kind, hash-content}
 use Rattle.requests.proofs.credential_names.Statement.{statement}

@@ -6,7 +6,7 @@ use denote.Ref.{now}
 use Rattle.rules.specs.Attributes.{sameAttributes}
 use Rattle.rules.specs.File.{attributes}
 use Rattle.loaded.specs.Loaded.{fileIn}
-use Rattle.loaded.proofs.Chain.{chain-none, chain-passes, chain-fails}
+use Rattle.theorems.proofs.Chain.{chain-none, chain-passes, chain-fails}
 use Rattle.loaded.proofs.Standing.{checked-here, party-here, term-here}
 use Rattle.requests.proofs.endorsement.Statement.{statement}
 use Rattle.requests.proofs.endorsement.Tie as tie

@@ -7,9 +7,9 @@ use denote.Ref.{now}
 use Rattle.rules.specs.Refusals.{Test, need}
 use Rattle.rules.specs.Attributes.{sameAttributes}
 use Rattle.rules.specs.File.{attributes, paired, signsForSome}
-use Rattle.loaded.specs.Chain.{chain}
+use Rattle.theorems.specs.Chain.{chain}
 use Rattle.loaded.specs.Loaded.{fileIn}
-use Rattle.loaded.proofs.Chain.{chain-none, chain-passes, chain-fails}
+use Rattle.theorems.proofs.Chain.{chain-none, chain-passes, chain-fails}
 use Rattle.loaded.proofs.Halves.{pair-read}
 use Rattle.loaded.proofs.Standing.{checked-here, party-here, term-here}
 use Rattle.requests.proofs.parentage.Statement.{statement}

@@ -9,7 +9,7 @@ use borrow.Author.Needs.{needs}
 use lib.ListN.{length, getD, drop}
 use Rattle.rules.specs.Record.{sectionOf, fieldsOf, commandSection}
 use Rattle.rules.specs.Load.{termAt}
-use Rattle.records.specs.Codes.{packed}
+use Rattle.records.specs.Codes.{fieldLimit, packed}
 use Rattle.records.proofs.Lengths.{few-fields}
 use Rattle.records.proofs.Packed.{field-left, field-next, none-left}
 use Rattle.state.specs.View.{view}
@@ -54,7 +54,7 @@ Inv-loop file state signers links keys tables table at n kind start own section 
     InFields file state signers n at body i offset × (fields ≡ packed (drop i (fieldsOf (getD file at 0))))
 
 abbrev μ-loop : tie.MeasureT-loop
-μ-loop file state signers links keys tables table at n kind start own section parties terms end head body fields₀ i₀ offset₀ fields i offset = 4 - i
+μ-loop file state signers links keys tables table at n kind start own section parties terms end head body fields₀ i₀ offset₀ fields i offset = fieldLimit - i
 
 abbrev Inv-records : tie.InvT-records
 Inv-records file state₀ signers₀ links₀ keys₀ tables₀ table at₀ n₀ state signers links keys tables at n =

@@ -6,7 +6,7 @@ use native.Mathlib.Omega.{arith}
 use borrow.Author.Needs.{needs}
 use lib.ListN.{length, getD, drop}
 use Rattle.rules.specs.Record.{fieldsOf}
-use Rattle.records.specs.Codes.{packed}
+use Rattle.records.specs.Codes.{fieldLimit, packed}
 use Rattle.records.proofs.Lengths.{few-fields}
 use Rattle.records.proofs.Packed.{field-left, field-next, none-left}
 use Rattle.reader.proofs.Places.{place-is, place-later}
@@ -22,7 +22,7 @@ Inv-loop table file state from n parties terms at commands kind start own end he
     AtField file state n from at commands body i offset × (fields ≡ packed (drop i (fieldsOf (getD file at 0))))
 
 abbrev μ-loop : tie.MeasureT-loop
-μ-loop table file state from n parties terms at commands kind start own end head body fields₀ i₀ offset₀ fields i offset = 4 - i
+μ-loop table file state from n parties terms at commands kind start own end head body fields₀ i₀ offset₀ fields i offset = fieldLimit - i
 
 abbrev Inv-records : tie.InvT-records
 Inv-records table file state from n parties terms at₀ commands₀ at commands = Standing file state n from at commands

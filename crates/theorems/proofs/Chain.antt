@@ -12,9 +12,9 @@ use native.Mathlib.Omega.{arith}
 use lib.Dec.{eqb}
 use borrow.Author.Tests.{eqb-true, eq-eqb, not-true}
 use Rattle.rules.specs.Refusals.{Test, need, order, applies, firstOf, refusalOf}
 use Rattle.theorems.proofs.Booleans.{and-true, or-right}
-use Rattle.theorems.proofs.Passing.{among, ordered, absent}
-use Rattle.loaded.specs.Chain.{chain}
+use Rattle.theorems.proofs.Passing.{among, ordered, absent, none-fails, passes-first}
+use Rattle.theorems.specs.Chain.{chain}
 
 -- the numbers of a list from n on
 abbrev from : ℕ → List ℕ → List ℕ
@@ -30,25 +30,6 @@ follows ns (x ∷ xs) = among (x .refusal) ns && follows (from (x .refusal) ns) 
 abbrev distinct : List ℕ → Bool
 distinct [] = true
 distinct (n ∷ ns) = not (among n ns) && distinct ns
-
-none-fails : (ns : List ℕ) → firstOf ns [] ≡ 0
-unfolding firstOf applies
-none-fails [] = refl
-none-fails (n ∷ ns) = none-fails ns
-
--- a test that passes is as if it were not there
-passes-clear : (n : ℕ) (x : Test) (xs : List Test) → x .passes ≡ true → applies n (x ∷ xs) ≡ applies n xs
-unfolding applies
-passes-clear n x xs e = rw e (go (eqb (x .refusal) n))
-  where
-    go : (b : Bool) → ((b && not true) || applies n xs) ≡ applies n xs
-    go true = refl
-    go false = refl
-
-passes-first : (ns : List ℕ) (x : Test) (xs : List Test) → x .passes ≡ true → firstOf ns (x ∷ xs) ≡ firstOf ns xs
-unfolding firstOf
-passes-first [] x xs e = refl
-passes-first (n ∷ ns) x xs e = rw (passes-clear n x xs e, passes-first ns x xs e) refl
 
 fails-here : (x : Test) (xs : List Test) → x .passes ≡ false → applies (x .refusal) (x ∷ xs) ≡ true
 unfolding applies
