@@ -7,12 +7,11 @@ use mathlib.Core.List.{List, [], _∷_, _++_}
 use mathlib.Core.Option.{some}
 use Prim.Native.Nat.{ℕ, zero, suc, _-_, _<_, min}
 use native.Mathlib.Omega.{arith}
-use lib.Dec.{leb}
 use lib.ListN.{length, length-append, length-take, take, drop, replicate, getElem?}
 use borrow.Author.Tests.{leb-true}
 use Rattle.rules.specs.Limits.{fileLimit, termLimit, commandLimit, stateBytes}
 use Rattle.rules.specs.File.{File, Command}
-use Rattle.rules.specs.Load.{Load, loaded, load, commandsOf}
+use Rattle.rules.specs.Load.{loaded, load, commandsOf}
 use Rattle.rules.specs.State.{State, start}
 use Rattle.rules.specs.Run.{outcome, after, run, outcomes, firstCommands, reached, outcomesOf}
 use Rattle.rules.specs.Lent.{Lent, rows, firstPart, noEntry, longEnough, written, leaves, runLeaves}

@@ -27,7 +27,7 @@ use Rattle.theorems.proofs.Loading.{Checked, checked}
 use Rattle.theorems.proofs.Terms.{declared, holds-given}
 use Rattle.theorems.proofs.Running.{after-refused, reached-none, reached-next, reached-end}
 use Rattle.theorems.proofs.Ledgers.{at-within}
-use Rattle.theorems.proofs.Invariant.{Invariant, Step}
+use Rattle.theorems.proofs.Invariant.{Invariant}
 use Rattle.theorems.proofs.Reaching.{Steps, still, further, reached-invariant, reached-steps}
 use Rattle.theorems.proofs.Pigeonhole.{pigeonhole}
 

@@ -15,7 +15,7 @@ use lib.ListN.{length, replicate}
 use borrow.Author.Tests.{eq-eqb, ne-eqb}
 use Rattle.rules.specs.declared.Entry.{Entry}
 use Rattle.rules.specs.Limits.{oemDesk}
-use Rattle.rules.specs.Refusals.{Test, need, order, applies, firstOf, refusalOf}
+use Rattle.rules.specs.Refusals.{Test, order, applies, firstOf, refusalOf}
 use Rattle.rules.specs.File.{File, IakPair, Command, issueIak, issueIaks, isRole}
 use Rattle.rules.specs.Load.{first}
 use Rattle.rules.specs.State.{State, learnt, closing, entered}

@@ -8,19 +8,17 @@
 use mathlib.Core.Path.{_≡_, refl, sym, ap, subst, subst⁻¹, _∙_}
 use mathlib.Core.Bool.{true, false}
 use mathlib.Core.List.{List, [], _∷_, _++_}
-use Prim.Native.Nat.{ℕ, _+_, _-_, _*_, _<_}
+use Prim.Native.Nat.{ℕ, _+_, _-_, _<_}
 use native.Mathlib.Omega.{arith}
 use native.Mathlib.Decide.{ℕ-discrete}
 use lib.ListN.{length}
 use Rattle.rules.specs.declared.Entry.{Entry}
-use Rattle.rules.specs.Limits.{pairCount, pairWidth}
-use Rattle.rules.specs.Record.{word}
+use Rattle.rules.specs.Limits.{pairCount}
 use Rattle.rules.specs.File.{IakPair, issueIak}
 use Rattle.rules.specs.Load.{emptyPair, pairsAt}
-use Rattle.rules.specs.State.{State, credentialOpen}
+use Rattle.rules.specs.State.{State}
 use Rattle.rules.specs.Desk.{issueIakEffect, issueIaksEffect}
-use Rattle.rules.specs.Run.{outcome, effectOf}
-use Rattle.theorems.proofs.Loading.{PairsFormed}
+use Rattle.rules.specs.Run.{effectOf}
 use Rattle.theorems.proofs.Invariant.{Invariant, invariant-next}
 use Rattle.theorems.proofs.DeskSteps.{issueIak-step}
 use Rattle.theorems.proofs.Together.{PairsAccepted, pairs-accepted}
@@ -28,8 +26,8 @@ use Rattle.theorems.proofs.History.{close-stays}
 use Rattle.state.specs.View.{view}
 use Rattle.state.proofs.Exact.{stateOf}
 use Rattle.tables.specs.Regions.{tablesIn}
-use Rattle.loaded.specs.Loaded.{fileIn, Holds}
-use Rattle.loaded.specs.Entries.{Ledgered, DeskLeaves, SameKeys}
+use Rattle.loaded.specs.Loaded.{fileIn}
+use Rattle.loaded.specs.Entries.{DeskLeaves, SameKeys}
 use Rattle.loaded.proofs.Standing.{checked-here, holds-kept}
 use Rattle.loaded.proofs.Ledger.{ledger-length}
 use Rattle.loaded.proofs.Room.{ledger-below}
@@ -37,7 +35,7 @@ use Rattle.requests.specs.Formed.{OpenRequested}
 use Rattle.issuance.specs.Issues.{IssuesIak}
 use Rattle.issuance.proofs.Issued.{iak-open, same-ledger}
 use Rattle.together.specs.Ready.{deskAt, returningAt, pairAt, togetherAt, TogetherDone, Issuing}
-use Rattle.together.proofs.Pairs.{one-empty, one-filled, pairs-none}
+use Rattle.together.proofs.Pairs.{one-empty, one-filled}
 
 same-keys : (tables : List ℕ) → SameKeys (tablesIn tables) (tablesIn tables)
 same-keys tables = record { words = refl; signer = refl; half = refl }

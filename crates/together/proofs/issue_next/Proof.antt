@@ -1,6 +1,5 @@
 use borrow.Author.Needs.{needs}
-use mathlib.Core.Path.{_≡_, sym, _∙_}
-use native.Mathlib.Omega.{arith}
+use mathlib.Core.Path.{sym, _∙_}
 use Rattle.together.proofs.Issuing.{issuing-empty, issuing-some, pair-ready, issuing-filled}
 use Rattle.together.proofs.issue_next.Statement.{statement}
 use Rattle.together.proofs.issue_next.Tie as tie

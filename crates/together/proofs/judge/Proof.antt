@@ -1,12 +1,11 @@
 use borrow.Author.Needs.{needs}
 use borrow.Author.Tests.{not-true, not-false}
-use mathlib.Core.Path.{_≡_, refl, sym, ap, _∙_}
-use mathlib.Core.Bool.{Bool}
-use Prim.Native.Nat.{ℕ, _+_, _*_}
+use mathlib.Core.Path.{sym, ap, _∙_}
+use Prim.Native.Nat.{_+_}
 use native.Mathlib.Omega.{arith}
 use denote.Ref.{now}
 use Rattle.rules.specs.declared.Subject.{Subject}
-use Rattle.rules.specs.Load.{refuseUnless, pairsAt}
+use Rattle.rules.specs.Load.{pairsAt}
 use Rattle.theorems.specs.Judging.{othersEnd}
 use Rattle.state.specs.View.{view}
 use Rattle.state.proofs.Exact.{stateOf}

@@ -1,10 +1,9 @@
 use borrow.Author.Needs.{needs}
-use mathlib.Core.Path.{_≡_, refl, sym, ap, subst, _∙_}
+use mathlib.Core.Path.{refl, sym, subst, _∙_}
 use mathlib.Core.Bool.{false≢true}
-use Prim.Native.Nat.{ℕ, _+_, _*_}
+use Prim.Native.Nat.{ℕ, _+_}
 use native.Mathlib.Omega.{arith}
 use denote.Ref.{now}
-use Rattle.rules.specs.File.{IakPair}
 use Rattle.rules.specs.Load.{pairsAt}
 use Rattle.theorems.specs.Judging.{judged}
 use Rattle.state.specs.View.{view}
