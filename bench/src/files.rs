@@ -329,14 +329,20 @@ fn maker(accepted: bool, shuffled: bool) -> Draft {
     f
 }
 
-/// An honest enrolment, and then its 3F again and again (25: the credential is closed).
-fn issuing() -> Draft {
-    let mut f = stored(include_bytes!("../../crates/cases/data/s_honest_iak"));
-    let last = f.bytes[f.bytes.len() - 7..].to_vec();
-    while f.bytes.len() + 7 <= FILE_LIMIT {
+/// A stored file, and then its last command, of so many bytes, again and again.
+fn again(file: &[u8], length: usize) -> Draft {
+    let mut f = stored(file);
+    let last = f.bytes[f.bytes.len() - length..].to_vec();
+    while f.bytes.len() + length <= FILE_LIMIT {
         f.bytes.extend(&last);
     }
     f
+}
+
+/// Four pairs, the last of which is refused for those before it (31), again and again. The stored file goes on after that 43: 31 bytes.
+fn refused_together() -> Draft {
+    let file = include_bytes!("../../crates/cases/data/c43_31_by_three_pairs_before");
+    again(&file[..file.len() - 31], 19)
 }
 
 /// A request of a device: its 17, the hash, the hash signed, the pair.
@@ -482,10 +488,12 @@ pub fn run() -> Vec<File> {
         ("accepted: commands 30 to 37, shuffled", maker(true, true)),
         ("refused: commands 30", maker(false, false)),
         ("refused: commands 30 to 37, shuffled", maker(false, true)),
-        ("commands 3F", issuing()),
+        ("commands 3F", again(include_bytes!("../../crates/cases/data/s_honest_iak"), 7)),
         ("commands 3F, Subjects in a row", subjects(in_a_row, 1)),
         ("commands 3F, made against the lists of serial numbers", subjects(in_one_bucket, 1)),
         ("commands 3F, the same by six desks", subjects(in_one_bucket, 6)),
+        ("four IAKs together", stored(include_bytes!("../../crates/cases/data/s_four_iaks_together"))),
+        ("commands 43, refused at the fourth pair", refused_together()),
         ("1,023 pairs inside each other, sent to seven parties", nested_and_sent()),
         ("set-up 20, of 1,022 certificates in turn to 8 parties", learning_in_turn()),
     ])

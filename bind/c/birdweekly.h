@@ -37,7 +37,7 @@ typedef struct {
 birdweekly_load_numbers birdweekly_load(const uint8_t *file, size_t file_len, uint8_t *state, size_t state_len);
 
 /* Loads a scenario file and executes its first n commands, or all if fewer: the state, the certificates issued, and one
-   byte a command, 0 or the refusal, 13 to 29 (22 is not used) or 31. */
+   byte a command, 0 or the refusal, 13 to 29 (22 is not used), 31 or 32. */
 birdweekly_run_numbers birdweekly_run(const uint8_t *file, size_t file_len, size_t n, uint8_t *state, size_t state_len,
                                       birdweekly_entry *ledger, size_t ledger_len, uint8_t *outcomes, size_t outcomes_len);
 

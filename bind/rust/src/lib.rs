@@ -263,7 +263,7 @@ impl Buffers {
         Some(issued.map(|entry| entry.certificate).chain([last]))
     }
 
-    /// One byte a command that was executed: 0, or the refusal, 13 to 29 (22 is not used) or 31.
+    /// One byte a command that was executed: 0, or the refusal, 13 to 29 (22 is not used), 31 or 32.
     pub fn outcomes(&self) -> &[u8] {
         &self.outcomes[..self.commands]
     }

@@ -11,7 +11,7 @@ use Rattle.rules.specs.State.{State, parentOf, endOf}
 use Rattle.rules.specs.Desk.{formTests, proofTests, calledFor, issueTests}
 use Rattle.rules.specs.Run.{testsOf, outcome, reached}
 use Rattle.rules.specs.Lent.{steps}
-use Rattle.theorems.specs.SubjectLaws.{EndsLast, OnlyAt3F, SubjectLaws}
+use Rattle.theorems.specs.SubjectLaws.{EndsLast, NotOnRequest, SubjectLaws}
 use Rattle.theorems.proofs.Loading.{checked}
 use Rattle.theorems.proofs.Passing.{ordered, applied, absent}
 use Rattle.theorems.proofs.Ends.{by-entry, by-none}
@@ -31,9 +31,9 @@ issue-numbers : (f : File) (s : State) (family : Family) (p q r : ℕ) → order
 unfolding testsOf issueTests formTests proofTests calledFor
 issue-numbers f s family p q r = refl
 
-only-at-3F : OnlyAt3F
+not-on-request : NotOnRequest
 unfolding outcome
-only-at-3F f s family p q r e =
+not-on-request f s family p q r e =
     false≢true
     (sym (absent issueNumbers (testsOf f s (issue family p q r)) 31 (issue-numbers f s family p q r) refl)
     ∙ applied (testsOf f s (issue family p q r)) 31 (omega arith) e)
@@ -45,5 +45,5 @@ subject-laws = record {
   noEntryAllows = λ bytes f loads n x none ek. by-none f (reached f n .ledger) x ek none;
   endsEndorsed = λ bytes f loads n. ends-endorsed f (checked bytes f loads) n;
   endsLast = ends-last;
-  onlyAt3F = only-at-3F;
+  notOnRequest = not-on-request;
 }

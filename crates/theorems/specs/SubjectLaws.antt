@@ -44,8 +44,8 @@ abbrev pub EndsLast : Type 0
 EndsLast = (ledger : List Entry) (n t : ℕ) → getD (steps ledger n t) n 0 ≡ endOf ledger n t
 
 -- no 40, 41 or 42 is refused with 31, in whatever state
-abbrev pub OnlyAt3F : Type 0
-OnlyAt3F = (f : File) (s : State) (family : Family) (p q r : ℕ) → outcome f s (issue family p q r) ≡ 31 → ⊥
+abbrev pub NotOnRequest : Type 0
+NotOnRequest = (f : File) (s : State) (family : Family) (p q r : ℕ) → outcome f s (issue family p q r) ≡ 31 → ⊥
 
 pub record SubjectLaws : Type 0 where
   pub oneEk : SubjectOneEk
@@ -53,4 +53,4 @@ pub record SubjectLaws : Type 0 where
   pub noEntryAllows : NoEntryAllows
   pub endsEndorsed : EndsEndorsed
   pub endsLast : EndsLast
-  pub onlyAt3F : OnlyAt3F
+  pub notOnRequest : NotOnRequest
