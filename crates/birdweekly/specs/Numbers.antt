@@ -1,10 +1,12 @@
--- What loading, Run and Path answer, as structs of numbers for C and Rust.
+-- What loading, Run, Path and the stock of numbers answer, as structs of numbers for C and Rust.
 use Prim.Native.Nat.{ℕ}
 use lib.ListN.{getD}
 use Rattle.rules.specs.Lent.{Answer}
 use Rattle.birdweekly.specs.declared.LoadNumbers.{LoadNumbers}
 use Rattle.birdweekly.specs.declared.RunNumbers.{RunNumbers}
 use Rattle.birdweekly.specs.declared.PathNumbers.{PathNumbers}
+use Rattle.birdweekly.specs.declared.StockNumbers.{StockNumbers}
+use Rattle.birdweekly.specs.declared.Numbers.{Numbers}
 
 -- an answer's value at a place of its list, 0 where there is none
 abbrev value : Answer → ℕ → ℕ
@@ -18,3 +20,10 @@ runNumbers a = record { number = a .number; place = a .place; accepted = value a
 
 abbrev pub pathNumbers : Answer → PathNumbers
 pathNumbers a = record { number = a .number; place = a .place; steps = value a 0 }
+
+abbrev pub stockNumbers : Answer → StockNumbers
+stockNumbers a = record { number = a .number; place = a .place; boards = value a 0; rest = value a 1 }
+
+-- any answer of at most three values
+abbrev pub numbersOf : Answer → Numbers
+numbersOf a = record { number = a .number; place = a .place; first = value a 0; second = value a 1; third = value a 2 }

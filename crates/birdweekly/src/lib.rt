@@ -1,13 +1,17 @@
 // The functions for C and Rust. Slices pass as a pointer and a length.
+use rules::AskAnswer;
 use rules::Entry;
 use rules::LoadAnswer;
 use rules::PathAnswer;
-use rules::RunAnswer;
+use rules::Question;
 ghost use mathlib.Core.Path.{_≡_};
 ghost use lib.ListN.{getD};
-ghost use Rattle.rules.specs.Lent.{noEntry, runInNumbers, loadAnswer, loadLeaves, runAnswer, runLeaves, pathInNumbers, pathAnswer, pathBuffers, pathLeaves};
+ghost use Rattle.rules.specs.Limits.{commandLimit};
+ghost use Rattle.rules.specs.Lent.{noEntry, loadAnswer, loadLeaves, runAnswer, runLeaves, pathInNumbers, pathAnswer, pathBuffers, pathLeaves};
+ghost use Rattle.rules.specs.Stock.{stockAnswer};
+ghost use Rattle.rules.specs.Questions.{askInNumbers};
 ghost use Rattle.engine.specs.Runs.{lentWith};
-ghost use Rattle.birdweekly.specs.Numbers.{loadNumbers, runNumbers, pathNumbers};
+ghost use Rattle.birdweekly.specs.Numbers.{numbersOf, loadNumbers, runNumbers, pathNumbers, stockNumbers};
 
 // What loading answers: number 0 with the parties, terms and commands, or the refusal with its place.
 #[repr(C)]
@@ -62,24 +66,74 @@ pub struct PathNumbers {
     pub steps: u32,
 }
 
-fn run_numbers(answer: RunAnswer) -> RunNumbers
-    ensures { λ r. ⌜ r ≡ runNumbers (runInNumbers answer) ⌝ }
+// What the stock of numbers answers: number 0 with whole boards and the numbers left over, or the refusal with its place.
+#[repr(C)]
+pub struct StockNumbers {
+    pub number: u32,
+    pub place: u32,
+    pub boards: u32,
+    pub rest: u32,
+}
+
+// An answer as numbers: its values in order, 0 where it has fewer.
+struct Numbers {
+    number: u32,
+    place: u32,
+    first: u32,
+    second: u32,
+    third: u32,
+}
+
+fn in_numbers(answer: AskAnswer) -> Numbers
+    ensures { λ r. ⌜ r ≡ numbersOf (askInNumbers answer) ⌝ }
 {
     match answer {
-        RunAnswer::Ran(accepted, refused, issued) => RunNumbers {
+        AskAnswer::Totals(accepted, refused, issued) => Numbers {
             number: 0,
             place: 0,
-            accepted: accepted,
-            refused: refused,
-            issued: issued,
+            first: accepted,
+            second: refused,
+            third: issued,
         },
-        RunAnswer::Refused(number, place) => RunNumbers {
+        AskAnswer::Boards(boards, rest) => Numbers {
+            number: 0,
+            place: 0,
+            first: boards,
+            second: rest,
+            third: 0,
+        },
+        AskAnswer::Refused(number, place) => Numbers {
             number: number,
             place: place,
-            accepted: 0,
-            refused: 0,
-            issued: 0,
+            first: 0,
+            second: 0,
+            third: 0,
         },
+    }
+}
+
+fn run_numbers(answer: AskAnswer) -> RunNumbers
+    ensures { λ r. ⌜ r ≡ runNumbers (askInNumbers answer) ⌝ }
+{
+    let n = in_numbers(answer);
+    RunNumbers {
+        number: n.number,
+        place: n.place,
+        accepted: n.first,
+        refused: n.second,
+        issued: n.third,
+    }
+}
+
+fn stock_numbers(answer: AskAnswer) -> StockNumbers
+    ensures { λ r. ⌜ r ≡ stockNumbers (askInNumbers answer) ⌝ }
+{
+    let n = in_numbers(answer);
+    StockNumbers {
+        number: n.number,
+        place: n.place,
+        boards: n.first,
+        rest: n.second,
     }
 }
 
@@ -114,11 +168,31 @@ pub extern "C" fn birdweekly_run(
         × (now (ledger .exit) ≡ runLeaves (now (file .entry)) n (lentWith (now (state .entry)) (now (ledger .entry)) (now (outcomes .entry))) .ledger)
         × (now (outcomes .exit) ≡ runLeaves (now (file .entry)) n (lentWith (now (state .entry)) (now (ledger .entry)) (now (outcomes .entry))) .outcomes) ⌝ }
 {
-    let answer = running::run(file, n, state, ledger, outcomes);
+    let answer = running::ask(file, Question::Totals(n), state, ledger, outcomes);
     run_numbers(answer)
 }
 
-// The same, and the path of a certificate after these commands, in a lent list.
+// Runs all commands of a scenario file of any bytes on lent buffers of any length, and answers how many boards the numbers in a party's stock are
+// enough for.
+#[no_mangle]
+pub extern "C" fn birdweekly_stock(
+    file: &[u8],
+    state: &mut [u8],
+    ledger: &mut [Entry],
+    outcomes: &mut [u8],
+    party: u8,
+    iaks: u32,
+) -> StockNumbers
+    ensures { λ r. ⌜ (r ≡ stockNumbers (stockAnswer (now (file .entry)) (lentWith (now (state .entry)) (now (ledger .entry)) (now (outcomes .entry))) party iaks))
+        × (now (state .exit) ≡ runLeaves (now (file .entry)) commandLimit (lentWith (now (state .entry)) (now (ledger .entry)) (now (outcomes .entry))) .state)
+        × (now (ledger .exit) ≡ runLeaves (now (file .entry)) commandLimit (lentWith (now (state .entry)) (now (ledger .entry)) (now (outcomes .entry))) .ledger)
+        × (now (outcomes .exit) ≡ runLeaves (now (file .entry)) commandLimit (lentWith (now (state .entry)) (now (ledger .entry)) (now (outcomes .entry))) .outcomes) ⌝ }
+{
+    let answer = running::ask(file, Question::Stock(party, iaks), state, ledger, outcomes);
+    stock_numbers(answer)
+}
+
+// Runs the first n commands of a scenario file of any bytes on lent buffers of any length, and gives the path of a certificate after them in a lent list.
 #[no_mangle]
 pub extern "C" fn birdweekly_path(
     file: &[u8],

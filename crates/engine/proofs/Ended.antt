@@ -180,10 +180,11 @@ module _ {bs s tables words : List ℕ} {r : Scanned} (w : Filled bs s tables r)
       ∙ ap (λ (y : State). rows y 0 (f .places) ++ replicate (stateBytes - rowWidth * length (f .places)) 0) run-is
       ∙ rows-part stateBytes (reached f n) (f .places)
 
-  ran : length bs ≤ fileLimit → Bytes s′ → PartsRan bs n s′ out′ words′ tables′ (Ran (t .accepted) (t .refused) (t .issued))
+  ran : length bs ≤ fileLimit → Bytes s′ → PartsRan bs n s′ out′ words′ tables′ (record { places = termLimit; parties = r .tally .parties; terms = r .tally .terms; answer = Ran (t .accepted) (t .refused) (t .issued) })
   ran short b =
       let h = x .stands .enters in
       record {
+        places = refl;
         answer = answered-loaded n f (t .accepted) (t .refused) (t .issued) accepted-is refused-is issued-is ∙ ap (answered n) (sym e);
         state = state-is (x .stands .holds .room) b ∙ sym (ap (λ (l : Load). part stateBytes (rowsAfter n l)) e ∙ ap (part stateBytes) (rows-loaded n f));
         outcomes =
@@ -192,7 +193,12 @@ module _ {bs s tables words : List ℕ} {r : Scanned} (w : Filled bs s tables r)
         words =
             ledger-words words′ (t .issued) (h .room) (h .few) (h .beyond) ∙ ap (λ (y : State). ledgerOf (y .ledger)) run-is
             ∙ sym (ap (λ (l : Load). ledgerOf (entriesAfter n l)) e ∙ ap ledgerOf (entries-loaded n f));
-        left = λ a c i q. let k : t .issued ≡ i = cc in subst (Stands bs s′ tables′ words′) k (x .stands);
+        left = λ a c i q. record {
+          stands = let k : t .issued ≡ i = cc in subst (Stands bs s′ tables′ words′) k (x .stands);
+          state = let k : t .issued ≡ i = cc in ap (stateIn s′ words′) (sym k) ∙ run-is;
+          partiesAre = sym (ap (λ (g : File). length (g .roles)) (file-is w) ∙ w .describes .partiesAre);
+          termsAre = sym (ap (λ (g : File). length (g .terms)) (file-is w) ∙ w .describes .termsAre);
+        };
       }
 
   counted : length bs ≤ fileLimit → t .accepted + t .refused ≤ commandLimit
@@ -207,12 +213,13 @@ module _ {bs s tables : List ℕ} {r : Scanned} (short : length bs ≤ fileLimit
       go (inr (m, z, e, k)) = omega (arith, near-refusal bs (suc m) (r .place) e)
 
   pub parts-refused : (n : ℕ) (out words tables′ : List ℕ) → (r .number ≡ 0 → ⊥) → out ≡ replicate commandLimit 0 → words ≡ replicate ledgerWords 0
-      → PartsRan bs n s out words tables′ (Refused (r .number) (r .place))
+      → PartsRan bs n s out words tables′ (record { places = termLimit; parties = 0; terms = 0; answer = Refused (r .number) (r .place) })
   parts-refused n out words tables′ h zo zw = go g
     where
-      go : FillResult bs s tables r → PartsRan bs n s out words tables′ (Refused (r .number) (r .place))
+      go : FillResult bs s tables r → PartsRan bs n s out words tables′ (record { places = termLimit; parties = 0; terms = 0; answer = Refused (r .number) (r .place) })
       go (inl (z, w)) = absurd (h z)
       go (inr (m, z, e, k)) = record {
+        places = refl;
         answer = ap (λ (x : ℕ). runInNumbers (Refused x (r .place))) z ∙ answered-refused n (suc m) (r .place) ∙ ap (answered n) (sym e);
         state = k ∙ part-none stateBytes ∙ sym (ap (λ (l : Load). part stateBytes (rowsAfter n l)) e ∙ ap (part stateBytes) (rows-refused n (suc m) (r .place)));
         outcomes = zo ∙ part-none commandLimit ∙ sym (ap (λ (l : Load). part commandLimit (outcomesAfter n l)) e ∙ ap (part commandLimit) (outcomes-refused n (suc m) (r .place)));
@@ -226,10 +233,10 @@ module _ {bs s tables : List ℕ} {r : Scanned} (short : length bs ≤ fileLimit
         subst (λ (l : List ℕ). Executes bs s words l (commandsFrom (length bs) bs 0) n s′ tables′ words′ out′ t) zo
         (subst (λ (k : ℕ). Executes bs s words out k n s′ tables′ words′ out′ t) (w .firstIs) x)
 
-    pub parts-ran : Bytes s′ → PartsRan bs n s′ out′ words′ tables′ (Ran (t .accepted) (t .refused) (t .issued))
+    pub parts-ran : Bytes s′ → PartsRan bs n s′ out′ words′ tables′ (record { places = termLimit; parties = r .tally .parties; terms = r .tally .terms; answer = Ran (t .accepted) (t .refused) (t .issued) })
     parts-ran b = go g
       where
-        go : FillResult bs s tables r → PartsRan bs n s′ out′ words′ tables′ (Ran (t .accepted) (t .refused) (t .issued))
+        go : FillResult bs s tables r → PartsRan bs n s′ out′ words′ tables′ (record { places = termLimit; parties = r .tally .parties; terms = r .tally .terms; answer = Ran (t .accepted) (t .refused) (t .issued) })
         go (inl (z, w)) = ran w n (from-first w) short b
         go (inr (m, z, e, k)) = absurd (omega arith)
 

@@ -15,13 +15,13 @@ use lib.ListN.{length, take, drop, replicate}
 use lib.Seq.{take-at}
 use borrow.Author.Tests.{le-leb, lt-leb, leb-true}
 use Rattle.rules.specs.declared.Entry.{Entry}
-use Rattle.rules.specs.declared.RunAnswer.{RunAnswer}
 use Rattle.rules.specs.declared.RunAnswer.the-variants.{Refused}
 use Rattle.rules.specs.Limits.{fileLimit, termLimit, commandLimit, stateBytes}
 use Rattle.rules.specs.Load.{Load, loaded, refused, load}
 use Rattle.rules.specs.Lent.{Lent, refusal, longEnough, firstPart, written, leaves, runInNumbers, answered, runAnswer, runLeaves}
 use Rattle.theorems.proofs.Booleans.{and-true}
 use Rattle.entries.specs.Words.{ledgerWords, ledgerOf}
+use Rattle.engine.specs.declared.Answered.{Answered}
 use Rattle.engine.specs.Runs.{roomy, lentWith, writes, rowsAfter, outcomesAfter, entriesAfter, gained, placesOf, part, PartsRan, Left, Ran}
 use Rattle.engine.proofs.Ended.{ledger-none, answered-refused}
 
@@ -93,7 +93,7 @@ module _ (bs : List ℕ) (n : ℕ) (state outcomes : List ℕ) (l : List Entry) 
   abbrev lent : Lent
   lent = lentWith state l outcomes
 
-  untouched : (number : ℕ) → writes bs lent ≡ false → runAnswer bs n lent ≡ refusal number 0 → Ran bs n lent state outcomes (replicate ledgerWords 0) (record { places = 0; answer = Refused number 0 })
+  untouched : (number : ℕ) → writes bs lent ≡ false → runAnswer bs n lent ≡ refusal number 0 → Ran bs n lent state outcomes (replicate ledgerWords 0) (record { places = 0; parties = 0; terms = 0; answer = Refused number 0 })
   untouched number none a =
       let same : runLeaves bs n lent ≡ lent = leaves-all bs n lent none in
       record {
@@ -104,16 +104,16 @@ module _ (bs : List ℕ) (n : ℕ) (state outcomes : List ℕ) (l : List Entry) 
         places = sym (no-places bs n lent none);
       }
 
-  pub refused-1 : longEnough lent ≡ false → Ran bs n lent state outcomes (replicate ledgerWords 0) (record { places = 0; answer = Refused 1 0 })
+  pub refused-1 : longEnough lent ≡ false → Ran bs n lent state outcomes (replicate ledgerWords 0) (record { places = 0; parties = 0; terms = 0; answer = Refused 1 0 })
   refused-1 e = untouched 1 (rw e refl) (answer-short bs n lent e)
 
-  pub refused-2 : longEnough lent ≡ true → fileLimit < length bs → Ran bs n lent state outcomes (replicate ledgerWords 0) (record { places = 0; answer = Refused 2 0 })
+  pub refused-2 : longEnough lent ≡ true → fileLimit < length bs → Ran bs n lent state outcomes (replicate ledgerWords 0) (record { places = 0; parties = 0; terms = 0; answer = Refused 2 0 })
   refused-2 e h =
       untouched 2 (second-fails (longEnough lent) (leb (length bs) fileLimit) (lt-leb (length bs) fileLimit h))
       (answer-long bs n lent e ∙ ap (answered n) (too-long bs h) ∙ sym (answered-refused n 2 0) ∙ in-numbers 2)
 
-pub refused-left : (bs s tables words : List ℕ) (number place : ℕ) → Left bs s tables words (Refused number place)
-refused-left bs s tables words number place a b i q = absurd (let y : _≡_ {A = ℕ} 0 1 = cc in omega arith)
+pub refused-left : (bs s tables words : List ℕ) (n number place : ℕ) → Left bs n s tables words (Refused number place) 0 0
+refused-left bs s tables words n number place a b i q = absurd (let y : _≡_ {A = ℕ} 0 1 = cc in omega arith)
 
 -- ---- the first parts, and what lies beyond them
 part-first : (m : ℕ) (new old : List ℕ) → part m new ++ drop m old ≡ firstPart m 0 new old
@@ -131,9 +131,9 @@ module _ (n : ℕ) (lent : Lent) where
   leaves-outcomes (loaded f) = refl
   leaves-outcomes (refused number place) = refl
 
-module _ {bs : List ℕ} {n : ℕ} {s out words tables : List ℕ} {r : RunAnswer} (w : PartsRan bs n s out words tables r) where
+module _ {bs : List ℕ} {n : ℕ} {s out words tables : List ℕ} {r : Answered} (w : PartsRan bs n s out words tables r) where
   pub ran-parts : (state outcomes : List ℕ) (l : List Entry) → longEnough (lentWith state l outcomes) ≡ true → length bs ≤ fileLimit
-      → Ran bs n (lentWith state l outcomes) (s ++ drop stateBytes state) (out ++ drop commandLimit outcomes) words (record { places = termLimit; answer = r })
+      → Ran bs n (lentWith state l outcomes) (s ++ drop stateBytes state) (out ++ drop commandLimit outcomes) words r
   ran-parts state outcomes l long h =
       let lent : Lent = lentWith state l outcomes in
       let yes : writes bs lent ≡ true = rw (long, le-leb (length bs) fileLimit h) refl in
@@ -143,8 +143,8 @@ module _ {bs : List ℕ} {n : ℕ} {s out words tables : List ℕ} {r : RunAnswe
         state = ap (λ (x : List ℕ). x ++ drop stateBytes state) (w .state) ∙ part-first stateBytes (rowsAfter n (load bs)) state ∙ leaves-state n lent (load bs) ∙ sym (ap (λ (y : Lent). y .state) left);
         outcomes = ap (λ (x : List ℕ). x ++ drop commandLimit outcomes) (w .outcomes) ∙ part-first commandLimit (outcomesAfter n (load bs)) outcomes ∙ leaves-outcomes n lent (load bs) ∙ sym (ap (λ (y : Lent). y .outcomes) left);
         words = w .words ∙ ap ledgerOf (sym (gains-some bs n lent yes));
-        places = sym (all-places bs n lent yes);
+        places = w .places ∙ sym (all-places bs n lent yes);
       }
 
-  pub left-parts : length s ≡ stateBytes → (rest : List ℕ) → Left bs (take stateBytes (s ++ rest)) tables words r
-  left-parts room rest a b i q = subst⁻¹ (λ (x : List ℕ). Left bs x tables words r) (take-at s rest stateBytes room) (w .left) a b i q
+  pub left-parts : length s ≡ stateBytes → (rest : List ℕ) → Left bs n (take stateBytes (s ++ rest)) tables words (r .answer) (r .parties) (r .terms)
+  left-parts room rest a b i q = subst⁻¹ (λ (x : List ℕ). Left bs n x tables words (r .answer) (r .parties) (r .terms)) (take-at s rest stateBytes room) (w .left) a b i q

@@ -13,7 +13,8 @@ use Rattle.rules.specs.Load.{Load, loaded, refused, load}
 use Rattle.rules.specs.Run.{reached, outcomesOf}
 use Rattle.rules.specs.Lent.{Lent, longEnough, rows, answered, runInNumbers, runAnswer, runLeaves}
 use Rattle.entries.specs.Words.{ledgerWords, ledgerOf}
-use Rattle.commands.specs.Standing.{Stands}
+use Rattle.loaded.specs.Loaded.{fileIn}
+use Rattle.commands.specs.Standing.{stateIn, Stands}
 use Rattle.engine.specs.declared.Answered.{Answered}
 
 abbrev pub roomy : ℕ → ℕ → ℕ → Bool
@@ -51,9 +52,16 @@ placesOf bs lent = cond (writes bs lent) termLimit 0
 unfoldable pub part : ℕ → List ℕ → List ℕ
 part n new = new ++ replicate (n - length new) 0
 
--- after a run that is not refused, what stands between commands
-abbrev pub Left : List ℕ → List ℕ → List ℕ → List ℕ → RunAnswer → Type 0
-Left bs s tables words answer = (accepted refusals issued : ℕ) → answer ≡ ran.Ran accepted refusals issued → Stands bs s tables words issued
+-- after a run of n commands that is not refused: what stands between commands, the rules' state in bytes and words, and how many parties and
+-- terms the file declares
+pub record LeftBy (bs : List ℕ) (n : ℕ) (s tables words : List ℕ) (issued parties terms : ℕ) : Type 0 where
+  pub stands : Stands bs s tables words issued
+  pub state : stateIn s words issued ≡ reached (fileIn bs) n
+  pub partiesAre : parties ≡ length (fileIn bs .roles)
+  pub termsAre : terms ≡ length (fileIn bs .terms)
+
+abbrev pub Left : List ℕ → ℕ → List ℕ → List ℕ → List ℕ → RunAnswer → ℕ → ℕ → Type 0
+Left bs n s tables words answer parties terms = (accepted refusals issued : ℕ) → answer ≡ ran.Ran accepted refusals issued → LeftBy bs n s tables words issued parties terms
 
 -- what a run needs of the first parts, and what it leaves in them
 pub record PartsReady (bs s out words : List ℕ) : Type 0 where
@@ -62,12 +70,13 @@ pub record PartsReady (bs s out words : List ℕ) : Type 0 where
   pub places : length out ≡ commandLimit
   pub clear : words ≡ replicate ledgerWords 0
 
-pub record PartsRan (bs : List ℕ) (n : ℕ) (s out w tables : List ℕ) (r : RunAnswer) : Type 0 where
-  pub answer : runInNumbers r ≡ answered n (load bs)
+pub record PartsRan (bs : List ℕ) (n : ℕ) (s out w tables : List ℕ) (r : Answered) : Type 0 where
+  pub answer : runInNumbers (r .answer) ≡ answered n (load bs)
+  pub places : r .places ≡ termLimit
   pub state : s ≡ part stateBytes (rowsAfter n (load bs))
   pub outcomes : out ≡ part commandLimit (outcomesAfter n (load bs))
   pub words : w ≡ ledgerOf (entriesAfter n (load bs))
-  pub left : Left bs s tables w r
+  pub left : Left bs n s tables w (r .answer) (r .parties) (r .terms)
 
 -- answer, state, outcomes, entries and places are those of the rules
 pub record Ran (bs : List ℕ) (n : ℕ) (lent : Lent) (s out w : List ℕ) (r : Answered) : Type 0 where

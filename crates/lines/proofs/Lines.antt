@@ -40,21 +40,21 @@ long-enough s out l es el eo =
 
 -- what a run leaves can be listed
 module _ (bs : List ℕ) (n : ℕ) (lent : Lent) where
-  listable-by : (y : RunAnswer) (s tables out w text : List ℕ) → runInNumbers y ≡ runAnswer bs n lent → Left bs s tables w y → commandLimit ≤ length out → listingBytes ≤ length text → AnswerListable y out text
-  listable-by (ran.Ran a r i) s tables out w text q stands places room =
+  listable-by : (y : RunAnswer) (parties terms : ℕ) (s tables out w text : List ℕ) → runInNumbers y ≡ runAnswer bs n lent → Left bs n s tables w y parties terms → commandLimit ≤ length out → listingBytes ≤ length text → AnswerListable y out text
+  listable-by (ran.Ran a r i) parties terms s tables out w text q stands places room =
       let ((f, l, ea, er, ei), e) = ran-loaded bs n lent a r i q in
       let h = few-counted bs f l (loaded-short bs f l) n in
       record {
         recorded = omega (arith, h, ea, er, places);
         fewCommands = omega (arith, h, ea, er);
-        fewEntries = stands a r i refl .enters .few;
+        fewEntries = stands a r i refl .stands .enters .few;
         room = room;
       }
-  listable-by (ran.Refused number place) s tables out w text q stands places room = room
+  listable-by (ran.Refused number place) parties terms s tables out w text q stands places room = room
 
-  pub answer-listable : {s′ out w : List ℕ} {r : Answered} → Ran bs n lent s′ out w r → (s tables text : List ℕ) → Left bs s tables w (r .answer) → commandLimit ≤ length out → listingBytes ≤ length text
+  pub answer-listable : {s′ out w : List ℕ} {r : Answered} → Ran bs n lent s′ out w r → (s tables text : List ℕ) → Left bs n s tables w (r .answer) (r .parties) (r .terms) → commandLimit ≤ length out → listingBytes ≤ length text
       → AnswerListable (r .answer) out text
-  answer-listable {s′} {out} {w} {r} x s tables text stands places room = listable-by (r .answer) s tables out w text (x .answer) stands places room
+  answer-listable {s′} {out} {w} {r} x s tables text stands places room = listable-by (r .answer) (r .parties) (r .terms) s tables out w text (x .answer) stands places room
 
 -- the lines of a file that loads, by any run of all its commands
 lines-of : (f : File) (n : ℕ) → firstCommands f n ≡ firstCommands f (length (f .commands))

@@ -21,7 +21,7 @@ use Rattle.rules.specs.Limits.{pathPlaces}
 use Rattle.rules.specs.File.{File}
 use Rattle.rules.specs.Load.{loaded, refused, load}
 use Rattle.rules.specs.Run.{reached, issued}
-use Rattle.rules.specs.Lent.{refusal, runInNumbers, pathInNumbers, Lent, longEnough, answered, runAnswer, runLeaves, found, pathAnswered, pathAnswer, pathBuffers, pathWritten, pathListed, pathLeaves}
+use Rattle.rules.specs.Lent.{refusal, runInNumbers, pathInNumbers, Lent, longEnough, answered, runAnswer, runLeaves, asked, stepsFrom, pathAnswer, pathBuffers, pathWritten, pathListed, pathLeaves}
 use Rattle.theorems.proofs.Ledgers.{listed-found}
 use Rattle.entries.specs.Words.{ledgerWords, entriesIn, ledgerOf}
 use Rattle.loaded.specs.Entries.{Enters}
@@ -39,8 +39,8 @@ second-fails true b e = e
 second-fails false b e = refl
 
 -- a refusal of loading is Path's
-refused-is : (n t number place : ℕ) (list : List ℕ) → (refusal number place ≡ pathAnswered n t (refused number place)) × (list ≡ pathListed n t list (refused number place))
-unfolding pathAnswered pathListed
+refused-is : (n t number place : ℕ) (list : List ℕ) → (refusal number place ≡ asked (stepsFrom t) n (refused number place)) × (list ≡ pathListed n t list (refused number place))
+unfolding asked pathListed
 refused-is n t number place list = (refl, refl)
 
 module _ (bs : List ℕ) (n : ℕ) (lent : Lent) (t : ℕ) (list : List ℕ) where
@@ -48,7 +48,7 @@ module _ (bs : List ℕ) (n : ℕ) (lent : Lent) (t : ℕ) (list : List ℕ) whe
   module _ (short : length list < pathPlaces) where
     no-answer : refusal 1 0 ≡ pathAnswer bs n lent t list
     unfolding pathAnswer
-    no-answer = sym (ap (λ (b : Bool). cond b (pathAnswered n t (load bs)) (refusal 1 0)) (second-fails (longEnough lent) (leb pathPlaces (length list)) (lt-leb pathPlaces (length list) short)))
+    no-answer = sym (ap (λ (b : Bool). cond b (asked (stepsFrom t) n (load bs)) (refusal 1 0)) (second-fails (longEnough lent) (leb pathPlaces (length list)) (lt-leb pathPlaces (length list) short)))
 
     no-buffers : lent ≡ pathBuffers bs n lent t list
     unfolding pathBuffers
@@ -78,7 +78,7 @@ module _ (bs : List ℕ) (n : ℕ) (lent : Lent) (t : ℕ) (list : List ℕ) whe
     unfolding pathBuffers
     buffers = rw long-is refl
 
-    answer-by : (b : Bool) → longEnough lent ≡ b → pathAnswer bs n lent t list ≡ cond b (pathAnswered n t (load bs)) (refusal 1 0)
+    answer-by : (b : Bool) → longEnough lent ≡ b → pathAnswer bs n lent t list ≡ cond b (asked (stepsFrom t) n (load bs)) (refusal 1 0)
     unfolding pathAnswer
     answer-by true e = rw (e, long-is) refl
     answer-by false e = rw e refl
@@ -94,7 +94,7 @@ module _ (bs : List ℕ) (n : ℕ) (lent : Lent) (t : ℕ) (list : List ℕ) whe
     refused-by true e number place q =
         let l = answered-refusal n (load bs) number place q in
         let w = refused-is n t number place list in
-        (w .0 ∙ sym (answer-by true e ∙ ap (pathAnswered n t) l), w .1 ∙ sym (list-by true e ∙ ap (pathListed n t list) l))
+        (w .0 ∙ sym (answer-by true e ∙ ap (asked (stepsFrom t) n) l), w .1 ∙ sym (list-by true e ∙ ap (pathListed n t list) l))
     refused-by false e number place q = (q ∙ sym (answer-by false e), sym (list-by false e))
 
     refused-path : (number place : ℕ) → runInNumbers (ran.Refused number place) ≡ runAnswer bs n lent → (refusal number place ≡ pathAnswer bs n lent t list) × (list ≡ pathLeaves bs n lent t list)
@@ -109,16 +109,16 @@ module _ (bs : List ℕ) (n : ℕ) (lent : Lent) (t : ℕ) (list : List ℕ) whe
       -- Path finds it there
       ran-path : {list′ : List ℕ} (x : PathAnswer) → ((m : ℕ) (ledger : List Entry) → Enters tables w m ledger → (pathInNumbers x ≡ foundIn ledger t) × (list′ ≡ listedIn ledger t list))
           → (pathInNumbers x ≡ pathAnswer bs n lent t list) × (list′ ≡ pathLeaves bs n lent t list)
-      unfolding pathAnswered found pathListed pathWritten
+      unfolding asked stepsFrom pathListed pathWritten
       ran-path x h =
           let ((f, l, _, _, k), e) = ran-loaded bs n lent a r i q in
           let d = h i (reached f n .ledger) (ledger-is f l k e) in
-          (d .0 ∙ sym (answer-by true e ∙ ap (pathAnswered n t) l), d .1 ∙ sym (list-by true e ∙ ap (pathListed n t list) l))
+          (d .0 ∙ sym (answer-by true e ∙ ap (asked (stepsFrom t) n) l), d .1 ∙ sym (list-by true e ∙ ap (pathListed n t list) l))
 
 -- a run's ledger is one in which paths are found
-pub askable : (x : RunAnswer) (bs s tables words list : List ℕ) → Left bs s tables words x → pathPlaces ≤ length list → Askable x tables words list
-askable (ran.Ran a r i) bs s tables words list w long =
-    let stands = w a r i refl in
+pub askable : (x : RunAnswer) (n parties terms : ℕ) (bs s tables words list : List ℕ) → Left bs n s tables words x parties terms → pathPlaces ≤ length list → Askable x tables words list
+askable (ran.Ran a r i) n parties terms bs s tables words list w long =
+    let stands = w a r i refl .stands in
     record {
       count = i;
       ledger = entriesIn words i;
@@ -126,7 +126,7 @@ askable (ran.Ran a r i) bs s tables words list w long =
       shallow = λ c l. let m = listed-found (entriesIn words i) c l in omega (arith, m .depth, stands .kept .sound .entries (m .place) (m .entry) (m .here) .most);
       room = long;
     }
-askable (ran.Refused number place) bs s tables words list w long = tt
+askable (ran.Refused number place) n parties terms bs s tables words list w long = tt
 
 pub refused-answers : (number place : ℕ) (list : List ℕ) → (pathInNumbers (path.Refused number place) ≡ refusal number place) × (list ≡ list)
 unfolding pathInNumbers
@@ -134,15 +134,15 @@ refused-answers number place list = (refl, refl)
 
 -- the whole
 module _ (bs : List ℕ) (n : ℕ) (lent : Lent) (t : ℕ) (list : List ℕ) (long : pathPlaces ≤ length list) where
-  by-answer : (y : RunAnswer) (s w tables : List ℕ) → runInNumbers y ≡ runAnswer bs n lent → w ≡ ledgerOf (gained bs n lent) → Left bs s tables w y
+  by-answer : (y : RunAnswer) (parties terms : ℕ) (s w tables : List ℕ) → runInNumbers y ≡ runAnswer bs n lent → w ≡ ledgerOf (gained bs n lent) → Left bs n s tables w y parties terms
       → (list′ : List ℕ) (x : PathAnswer) → Answers y tables w t list list′ x → (pathInNumbers x ≡ pathAnswer bs n lent t list) × (list′ ≡ pathLeaves bs n lent t list)
-  by-answer (ran.Ran a r i) s w tables q same left list′ x h = ran-path bs n lent t list long tables w s a r i q same (left a r i refl) x h
-  by-answer (ran.Refused number place) s w tables q same left list′ x h = let d = refused-path bs n lent t list long number place q in (h .0 ∙ d .0, h .1 ∙ d .1)
+  by-answer (ran.Ran a r i) parties terms s w tables q same left list′ x h = ran-path bs n lent t list long tables w s a r i q same (left a r i refl .stands) x h
+  by-answer (ran.Refused number place) parties terms s w tables q same left list′ x h = let d = refused-path bs n lent t list long number place q in (h .0 ∙ d .0, h .1 ∙ d .1)
 
-  pub path-ran : (s₁ s out w tables list′ : List ℕ) (r : Answered) (x : PathAnswer) → Ran bs n lent s out w r → Left bs s₁ tables w (r .answer) → Answers (r .answer) tables w t list list′ x
+  pub path-ran : (s₁ s out w tables list′ : List ℕ) (r : Answered) (x : PathAnswer) → Ran bs n lent s out w r → Left bs n s₁ tables w (r .answer) (r .parties) (r .terms) → Answers (r .answer) tables w t list list′ x
       → PathRan bs n lent t list s out list′ w (record { places = r .places; answer = x })
   path-ran s₁ s out w tables list′ r x run left h =
-      let d = by-answer (r .answer) s₁ w tables (run .answer) (run .words) left list′ x h in
+      let d = by-answer (r .answer) (r .parties) (r .terms) s₁ w tables (run .answer) (run .words) left list′ x h in
       let e = long-is bs n lent t list long in
       let b = buffers bs n lent t list long in
       record {

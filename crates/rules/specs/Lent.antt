@@ -117,21 +117,28 @@ leaves n lent (refused number place) = written [] [] [] lent
 unfoldable pub runLeaves : List ℕ → ℕ → Lent → Lent
 runLeaves bs n lent = cond (longEnough lent && leb (length bs) fileLimit) (leaves n lent (loadFile bs)) lent
 
+-- A call above Run (Path, and requests 9 and 11 to 14 of document 02): n commands are run, and of a file that loads something is asked, by the
+-- file and the state after them. Run's refusals come first; the buffers are left as Run leaves them, whatever is answered.
+unfoldable pub asked : (File → State → Answer) → ℕ → Load → Answer
+asked question n (loaded f) = question f (reached f n)
+asked question n (refused number place) = refusal number place
+
+-- the answer of such a call that is lent no more than Run's buffers
+unfoldable pub askAnswer : (File → State → Answer) → List ℕ → ℕ → Lent → Answer
+askAnswer question bs n lent = cond (longEnough lent) (asked question n (loadFile bs)) (refusal 1 0)
+
 -- a certificate and its parents, so many steps
 unfoldable pub steps : List Entry → ℕ → ℕ → List ℕ
 steps ledger zero c = c ∷ []
 steps ledger (suc n) c = c ∷ steps ledger n (parentOf ledger c)
 
-unfoldable pub found : File → ℕ → ℕ → Answer
-found f n t = cond (listed (reached f n .ledger) t) (success (depthOf (reached f n .ledger) t ∷ [])) (refusal 30 t)
-
-unfoldable pub pathAnswered : ℕ → ℕ → Load → Answer
-pathAnswered n t (loaded f) = found f n t
-pathAnswered n t (refused number place) = refusal number place
+-- the steps from a term; 30 where the ledger has no entry for it
+unfoldable pub stepsFrom : ℕ → File → State → Answer
+stepsFrom t f s = cond (listed (s .ledger) t) (success (depthOf (s .ledger) t ∷ [])) (refusal 30 t)
 
 -- Path's answer for a file, a count, buffers, a term and a list of places
 unfoldable pub pathAnswer : List ℕ → ℕ → Lent → ℕ → List ℕ → Answer
-pathAnswer bs n lent t list = cond (longEnough lent && leb pathPlaces (length list)) (pathAnswered n t (loadFile bs)) (refusal 1 0)
+pathAnswer bs n lent t list = cond (longEnough lent && leb pathPlaces (length list)) (asked (stepsFrom t) n (loadFile bs)) (refusal 1 0)
 
 -- the buffers after Path are those after Run, but for a list that is too short
 unfoldable pub pathBuffers : List ℕ → ℕ → Lent → ℕ → List ℕ → Lent

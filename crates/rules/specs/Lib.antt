@@ -12,4 +12,6 @@ pub mod Device
 pub mod Desk
 pub mod Run
 pub mod Lent
+pub mod Stock
+pub mod Questions
 pub mod Listing

@@ -10,6 +10,7 @@ use lib.Dec.{eqb}
 -- 27 r not the one called for; 28 issued already; 31 another EK carries this Subject (request 3 of document 02); 29 depth over 8;
 -- 32 all pairs are empty or two certificates alike (request 4 of document 02).
 -- 22 is no refusal any more and is never used again (request 5 of document 02).
+-- A call above Run: 30 term not in the ledger (Path); 39 no IAKs per board, or no OEM desk (request 12 of document 02).
 -- Loading: 3 unknown kind; 4 cut short; 5 section order; 6 ninth party or 1,025th term; 7 field out of range, undeclared or not lower;
 -- 8 wrong kind of term; 9 term alike an earlier one; 10, 11, 12 set-up 20, 21, 22 not allowed.
 

@@ -246,3 +246,18 @@ pub enum LoadAnswer {
     Loaded(u32, u32, u32),
     Refused(u32, u32),
 }
+
+// What is asked of a file and lent buffers: the totals of its first n commands (Run); the boards left in a party's stock of numbers, by the
+// IAKs per board.
+pub enum Question {
+    Totals(usize),
+    Stock(u8, u32),
+}
+
+// What is answered: the commands accepted and refused and the certificates issued; whole boards and the numbers left over; or a refusal with its
+// place.
+pub enum AskAnswer {
+    Totals(u32, u32, u32),
+    Boards(u32, u32),
+    Refused(u32, u32),
+}

@@ -1,18 +1,22 @@
-// Run and Path: the engine runs on plain slices, and its entries go to the ledger. `entry` reads one of them.
+// The calls on a lent slice of entries: Run and what is asked after it, and Path. The engine runs on plain slices, and its entries go to the ledger.
+// `entry` reads one of them.
+use rules::AskAnswer;
 use rules::Entry;
 use rules::PathAnswer;
-use rules::RunAnswer;
+use rules::Question;
 ghost use mathlib.Core.Path.{_≡_};
 ghost use lib.ListN.{getD};
-ghost use Rattle.rules.specs.Lent.{noEntry, runInNumbers, runAnswer, runLeaves, pathInNumbers, pathAnswer, pathBuffers, pathLeaves};
-ghost use Rattle.engine.specs.Runs.{lentWith, Runs};
+ghost use Rattle.rules.specs.Lent.{noEntry, pathInNumbers, pathAnswer, pathBuffers, pathLeaves};
+ghost use Rattle.rules.specs.Questions.{askInNumbers, answerOf, leavesOf};
+ghost use Rattle.engine.specs.Runs.{lentWith};
+ghost use Rattle.asking.specs.Asks.{Asks};
 ghost use Rattle.path.specs.Paths.{Paths};
 
-// What a run answers, with its entries in words and how many places of the ledger are to be written.
+// What is answered, with the entries of the run in words and how many places of the ledger are to be written.
 pub struct Core {
     pub words: [u16; entries::WORDS],
     pub places: usize,
-    pub answer: RunAnswer,
+    pub answer: AskAnswer,
 }
 
 // The same of Path.
@@ -22,13 +26,27 @@ pub struct PathCore {
     pub answer: PathAnswer,
 }
 
-// What Run calls: the entries come in the answer.
-pub fn execute(file: &[u8], n: usize, room: usize, state: &mut [u8], outcomes: &mut [u8]) -> Core
-    ensures { λ r. ⌜ Runs (now (file .entry)) n room (now (state .entry)) (now (outcomes .entry)) (now (state .exit)) (now (outcomes .exit)) (r .words) (record { places = r .places; answer = r .answer }) ⌝ }
+// What `ask` calls: the entries come in the answer.
+pub fn execute(
+    file: &[u8],
+    question: Question,
+    room: usize,
+    state: &mut [u8],
+    outcomes: &mut [u8],
+) -> Core
+    ensures { λ r. ⌜ Asks (now (file .entry)) question room (now (state .entry)) (now (outcomes .entry)) (now (state .exit)) (now (outcomes .exit)) (r .words) (r .places) (r .answer) ⌝ }
 {
     let mut words = [0u16; entries::WORDS];
     let mut tables = [0u16; tables::WORDS];
-    let done = engine::run(file, n, room, state, outcomes, &mut words, &mut tables);
+    let done = asking::ask(
+        file,
+        question,
+        room,
+        state,
+        outcomes,
+        &mut words,
+        &mut tables,
+    );
     let answer = done.answer;
     Core {
         words: words,
@@ -70,27 +88,28 @@ pub fn execute_path(
     }
 }
 
-// Loads a file and executes its first n commands, or all if fewer, on lent buffers of any length.
-pub fn run(
+// Loads a file, executes the commands that a question is asked after, on lent buffers of any length, and answers it. Run is the question for the
+// totals of the first n commands.
+pub fn ask(
     file: &[u8],
-    n: usize,
+    question: Question,
     state: &mut [u8],
     ledger: &mut [Entry],
     outcomes: &mut [u8],
-) -> RunAnswer
-    ensures { λ r. ⌜ (runInNumbers r ≡ runAnswer (now (file .entry)) n (lentWith (now (state .entry)) (now (ledger .entry)) (now (outcomes .entry))))
-        × (now (state .exit) ≡ runLeaves (now (file .entry)) n (lentWith (now (state .entry)) (now (ledger .entry)) (now (outcomes .entry))) .state)
-        × (now (ledger .exit) ≡ runLeaves (now (file .entry)) n (lentWith (now (state .entry)) (now (ledger .entry)) (now (outcomes .entry))) .ledger)
-        × (now (outcomes .exit) ≡ runLeaves (now (file .entry)) n (lentWith (now (state .entry)) (now (ledger .entry)) (now (outcomes .entry))) .outcomes) ⌝ }
+) -> AskAnswer
+    ensures { λ r. ⌜ (askInNumbers r ≡ answerOf question (now (file .entry)) (lentWith (now (state .entry)) (now (ledger .entry)) (now (outcomes .entry))))
+        × (now (state .exit) ≡ leavesOf question (now (file .entry)) (lentWith (now (state .entry)) (now (ledger .entry)) (now (outcomes .entry))) .state)
+        × (now (ledger .exit) ≡ leavesOf question (now (file .entry)) (lentWith (now (state .entry)) (now (ledger .entry)) (now (outcomes .entry))) .ledger)
+        × (now (outcomes .exit) ≡ leavesOf question (now (file .entry)) (lentWith (now (state .entry)) (now (ledger .entry)) (now (outcomes .entry))) .outcomes) ⌝ }
 {
     let room = ledger.len();
-    let done = execute(file, n, room, state, outcomes);
+    let done = execute(file, question, room, state, outcomes);
     let words = done.words;
     ledger::copy_out(ledger, &words, done.places);
     done.answer
 }
 
-// The same, and the path of a certificate after these commands, in a lent list.
+// Executes the first n commands as Run does, and gives the path of a certificate after them in a lent list.
 pub fn path(
     file: &[u8],
     n: usize,

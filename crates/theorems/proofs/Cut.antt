@@ -15,7 +15,7 @@ use Rattle.rules.specs.File.{File, Command}
 use Rattle.rules.specs.Load.{commandAt, loaded, refused, emptyFile, feed, load, commandsOf}
 use Rattle.rules.specs.State.{State, start}
 use Rattle.rules.specs.Run.{run, outcomes, firstCommands, reached, outcomesOf, accepted, refusals, issued}
-use Rattle.rules.specs.Lent.{Lent, answered, runAnswer, leaves, runLeaves, found, pathAnswered, pathAnswer, pathBuffers, pathWritten, pathListed, pathLeaves}
+use Rattle.rules.specs.Lent.{Lent, answered, runAnswer, leaves, runLeaves, asked, stepsFrom, pathAnswer, pathBuffers, pathWritten, pathListed, pathLeaves}
 use Rattle.theorems.specs.CutLaws.{CutTo, FirstOnly, FilesCovered, recordAfter, commandOfRecord, commandPlace, PlaceNamed, CutLoads, CutCovered, CutInside, SameAnswers, CutAnswers, CutLaws}
 use Rattle.theorems.proofs.Pieces.{from, bodyAt, load-from, feed-end, feed-short}
 use Rattle.theorems.proofs.Written.{loaded-fits}
@@ -122,8 +122,8 @@ module _
     unfolding leaves
     leaves-same lent = rw (state, came, places)
 
-    found-same : (t : ℕ) → pathAnswered m t (loaded g) ≡ pathAnswered n t (loaded f)
-    unfolding pathAnswered found
+    found-same : (t : ℕ) → asked (stepsFrom t) m (loaded g) ≡ asked (stepsFrom t) n (loaded f)
+    unfolding asked stepsFrom
     found-same t = rw state
 
     listed-same : (t : ℕ) (list : List ℕ) → pathListed m t list (loaded g) ≡ pathListed n t list (loaded f)

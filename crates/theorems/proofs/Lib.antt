@@ -36,3 +36,5 @@ pub mod LastArm
 pub mod OtherCommands
 pub mod CutLoading
 pub mod Cut
+pub mod Asking
+pub mod StockLaws

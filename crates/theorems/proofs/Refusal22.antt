@@ -19,7 +19,7 @@ use Rattle.rules.specs.Load.{Load, loaded, refused, load}
 use Rattle.rules.specs.State.{State, start, listed}
 use Rattle.rules.specs.Desk.{requestBody, formTests, proofTests, parentCertificateOf, issueTests}
 use Rattle.rules.specs.Run.{testsOf, outcome, after, run, outcomes, firstCommands, reached, outcomesOf, accepted, refusals, issued}
-use Rattle.rules.specs.Lent.{Lent, answered, runAnswer, leaves, runLeaves, found, pathAnswered, pathAnswer, pathBuffers, pathWritten, pathListed, pathLeaves}
+use Rattle.rules.specs.Lent.{Lent, answered, runAnswer, leaves, runLeaves, asked, stepsFrom, pathAnswer, pathBuffers, pathWritten, pathListed, pathLeaves}
 use Rattle.theorems.specs.Refusal22.{orderWith22, check22, testsWith22, outcomeWith22, afterWith22, runWith22, outcomesWith22, reachedWith22, outcomesOfWith22, answeredWith22, runAnswerWith22, leavesWith22, runLeavesWith22, pathAnsweredWith22, pathAnswerWith22, pathBuffersWith22, pathListedWith22, pathLeavesWith22, Never22, SameWithout22}
 use Rattle.theorems.proofs.Passing.{among, before, Clear, earlier-clear, absent}
 use Rattle.theorems.proofs.Loading.{Checked, checked, Wellformed}
@@ -168,8 +168,8 @@ module _ (bytes : List ℕ) (n : ℕ) where
   same-leaves lent (loaded f) e = let w = same-first f (checked bytes f e) n in rw (w .0, w .1) refl
   same-leaves lent (refused number place) e = refl
 
-  same-path : (t : ℕ) (l : Load) → load bytes ≡ l → pathAnsweredWith22 n t l ≡ pathAnswered n t l
-  unfolding pathAnsweredWith22 pathAnswered found
+  same-path : (t : ℕ) (l : Load) → load bytes ≡ l → pathAnsweredWith22 n t l ≡ asked (stepsFrom t) n l
+  unfolding pathAnsweredWith22 asked stepsFrom
   same-path t (loaded f) e = rw (same-first f (checked bytes f e) n .0) refl
   same-path t (refused number place) e = refl
 

@@ -6,5 +6,7 @@ pub mod Chain
 pub mod Judging
 pub mod CutLaws
 pub mod Written
+pub mod AskLaws
+pub mod StockLaws
 pub mod Decimal
 pub mod Refusal22

@@ -1,4 +1,4 @@
--- `birdweekly::birdweekly_run` meets its contract: a walk of its MIR, by hand, with no branch and no loop. Every parameter goes on to `running::run`, and its answer to `run_numbers`.
+-- `birdweekly::birdweekly_run` meets its contract: a walk of its MIR, by hand, with no branch and no loop. Every parameter goes on to `running::ask`, n as what is asked, and its answer to `run_numbers`.
 -- Assumes nothing.
 use mathlib.Core.Path.{_≡_, refl, ap, _∙_}
 use Prim.Native.Nat.{ℕ, _<_, _^_}
@@ -16,7 +16,7 @@ use ghost.Atoms.{Atoms, sem}
 use contract.Monad.{Fun, fact}
 use contract.Running.{givenOf, tables, tablesOf}
 use types.Kit.{Given, ‵, raw, _⊛_, ⋆, some, later, _$_, _∵_, !, qed, by, move, keep, drop, use1, use2, split, pick, fsplit, fjoin, feqL, suffices, frame, await, done}
-use types.Run.{look, init, forget, stop, hop, fld, from, load, addr, and-then, no-more, assigns, land, returns, enter, alloc1, alloc0, params1, pass1, pass0, free1, free0}
+use types.Run.{look, init, forget, stop, hop, fld, from, load, lit, addr, and-then, no-more, assigns, land, returns, enter, alloc1, alloc0, params1, pass1, pass0, free1, free0}
 use types.Part.{agg, whole, sub, look-in}
 use sound.WpLaws.{FmC, fmOf, WpFn-mono}
 use denote.RattleType.{RattleType, owns}
@@ -38,20 +38,26 @@ use denote.Triple.Table.{entered, cited}
 use denote.Triple.Walked.{says, Stays, stay-none, stay-none-slice, gave-slice, walkOf, goes-none, goes-none-slice, goes-gave-slice, Walks, ends-at, walked, walk-meets}
 use denote.Exit.{yes}
 use Rattle.rules.specs.declared.Entry.{Entry}
-use Rattle.rules.specs.declared.RunAnswer.{RunAnswer as Answer}
-use Rattle.rules.specs.Lent.{Lent, runInNumbers, runAnswer, runLeaves}
+use Rattle.rules.specs.declared.Question.{Question}
+use Rattle.rules.specs.declared.Question.the-variants.{Totals}
+use Rattle.rules.specs.declared.AskAnswer.{AskAnswer as Answer}
+use Rattle.rules.specs.Lent.{Lent, runAnswer, runLeaves}
 use Rattle.engine.specs.Runs.{lentWith}
+use Rattle.rules.specs.Questions.{askInNumbers, countOf, answerOf, leavesOf}
 use Rattle.birdweekly.specs.Numbers.{runNumbers}
 use Rattle.birdweekly.specs.declared.RunNumbers.{RunNumbers as Struct}
-use Rattle.rules.proofs.Entry as E
-use Rattle.rules.proofs.RunAnswer as N
-use Rattle.rules.proofs.RunAnswer.Laws as N′
+use Rattle.rules.proofs.Question as Q
+use Rattle.rules.proofs.Question.Laws as Q′
+use Rattle.rules.proofs.AskAnswer as N
+use Rattle.rules.proofs.AskAnswer.Laws as N′
 use Rattle.birdweekly.proofs.RunNumbers as S
 use Rattle.birdweekly.proofs.RunNumbers.Laws as S′
-use Rattle.running.proofs.run as inner
-use Rattle.running.proofs.run.Symbol as inner-def
-use Rattle.running.proofs.run.Symbol.{name as #inner}
-use Rattle.running.proofs.run.Met as inner-thm
+use Rattle.running.proofs.ask as inner
+use Rattle.running.proofs.ask.Symbol as inner-def
+use Rattle.running.proofs.ask.Symbol.{name as #inner}
+use Rattle.running.proofs.ask.Met as inner-thm
+use Rattle.birdweekly.proofs.Asked as Asked
+use Rattle.birdweekly.proofs.Asked.{R, put, Inner}
 use Rattle.birdweekly.proofs.run_numbers as numbers
 use Rattle.birdweekly.proofs.run_numbers.Symbol as numbers-def
 use Rattle.birdweekly.proofs.run_numbers.Symbol.{name as #numbers}
@@ -61,22 +67,22 @@ use Rattle.birdweekly.proofs.birdweekly_run as outer
 use Rattle.birdweekly.proofs.birdweekly_run.Statement as stated
 use Rattle.birdweekly.proofs.birdweekly_run.Code as code
 
-abbrev R : RattleType
-R = E.the-row
-
 abbrev stayed : Stays (outer.ended .signature .params) (outer.ended .kept)
 stayed = (stay-none-slice (0 ∷ []) tt (plain (λ _. u8)) yes, (stay-none (λ _. usize) yes, (gave-slice (1 ∷ []) tt (plain (λ _. u8)), (gave-slice (2 ∷ []) tt (plain (λ _. R)), (gave-slice (3 ∷ []) tt (plain (λ _. u8)), tt)))))
 
 -- ---- the contracts that the proof cites
 module _ {M : Type 1} (𝓤 : URA M) (H : Heap 𝓤) (A : Atoms 𝓤) (mem : Memory → SProp 𝓤) (run : Routine → Fun 𝓤) where
-  abbrev Inner : Contract 𝓤
-  Inner = tripleOf 𝓤 H A inner.signature (inner.spec 𝓤 H A mem run)
-
   abbrev Numbers : Contract 𝓤
   Numbers = tripleOf 𝓤 H A numbers.signature (numbers.spec 𝓤 H A mem run)
 
 module _ {M : Type 1} (𝓤 : URA M) (H : Heap 𝓤) (A : Atoms 𝓤) (W : Given 𝓤 H A) (mem : Memory → SProp 𝓤) (run : Routine → Fun 𝓤) (κf κs κl κo : Lft) (qf qs ql qo : Share) (xf : RefT (List ℕ)) (nn : ℕ) (xs : RefT (List ℕ)) (xl : RefT (List Entry)) (xo : RefT (List ℕ))
     (room-f : Room u8 (length (xf .now))) (nn-fits : nn < 2 ^ 64) (room-s : Room u8 (length (xs .now))) (room-l : Room R (length (xl .now))) (room-o : Room u8 (length (xo .now))) where
+  abbrev qn : Question
+  qn = Totals nn
+
+  is-qn : Is Q.the-row qn (put qn ∷ [])
+  is-qn = EL.owes Q.the-type Q′.the-laws qn ((refl, nn-fits), tt)
+
   abbrev sf : Val
   sf = sliceVal (xf .ptr) (length (xf .now))
 
@@ -110,16 +116,21 @@ module _ {M : Type 1} (𝓤 : URA M) (H : Heap 𝓤) (A : Atoms 𝓤) (W : Given
   abbrev Post : Val → SProp 𝓤
   Post = walkOf 𝓤 H A outer.ended stayed (outer.clauses 𝓤 H A mem run) .post y
 
-  -- what `running::run` ensures, of its result and of the last lists
+  -- what `running::ask` ensures, and that it is what Run promises
   abbrev Done : Answer → List ℕ → List Entry → List ℕ → Type 0
-  Done r zs zl zo = (runInNumbers r ≡ runAnswer (xf .now) nn lent) × (zs ≡ runLeaves (xf .now) nn lent .state) × (zl ≡ runLeaves (xf .now) nn lent .ledger) × (zo ≡ runLeaves (xf .now) nn lent .outcomes)
+  Done = Asked.Done 𝓤 H A W mem run κf κs κl κo qf qs ql qo xf xs xl xo qn
 
-  exits : (r : Answer) (m : Struct) (v : Val) (zs : List ℕ) (zl : List Entry) (zo : List ℕ) → Done r zs zl zo → m ≡ runNumbers (runInNumbers r) → length zs ≡ length (xs .now) → length zl ≡ length (xl .now) → length zo ≡ length (xo .now)
+  promised : (r : Answer) (zs : List ℕ) (zl : List Entry) (zo : List ℕ) → Done r zs zl zo
+      → (askInNumbers r ≡ runAnswer (xf .now) nn lent) × (zs ≡ runLeaves (xf .now) nn lent .state) × (zl ≡ runLeaves (xf .now) nn lent .ledger) × (zo ≡ runLeaves (xf .now) nn lent .outcomes)
+  unfolding countOf answerOf leavesOf
+  promised r zs zl zo ok = ok
+
+  exits : (r : Answer) (m : Struct) (v : Val) (zs : List ℕ) (zl : List Entry) (zo : List ℕ) → Done r zs zl zo → m ≡ runNumbers (askInNumbers r) → length zs ≡ length (xs .now) → length zl ≡ length (xl .now) → length zo ≡ length (xo .now)
       → ent 𝓤 (⋆ 𝓤 H A ((‵ (flft κf qf) ⊛ ‵ (flft κs qs) ⊛ ‵ (flft κl ql) ⊛ ‵ (flft κo qo) ⊛ ‵ ftrue) ∷ ‵ File ∷ ‵ (finally u8 (xs .name) zs) ∷ ‵ (finally R (xl .name) zl) ∷ ‵ (finally u8 (xo .name) zo) ∷ ‵ (S.the-row .own m (v ∷ [])) ∷ [])) (Post v)
   exits r m v zs zl zo ok said lens lenl leno =
       qed W ((‵ (flft κf qf) ⊛ ‵ (flft κs qs) ⊛ ‵ (flft κl ql) ⊛ ‵ (flft κo qo) ⊛ ‵ ftrue) ∷ ‵ File ∷ ‵ (finally u8 (xs .name) zs) ∷ ‵ (finally R (xl .name) zl) ∷ ‵ (finally u8 (xo .name) zo) ∷ ‵ (S.the-row .own m (v ∷ [])) ∷ []) ∵
       suffices ! _ (ends-at 𝓤 H A outer.ended stayed (outer.clauses 𝓤 H A mem run) W y v m (tt, (tt, (zs, (zl, (zo, tt))))) (tt, (tt, (lens, (lenl, (leno, tt)))))) $
-      says ! (said ∙ ap runNumbers (ok .0), ok .1, ok .2, ok .3) $
+      says ! (let w = promised r zs zl zo ok in (said ∙ ap runNumbers (w .0), w .1, w .2, w .3)) $
       frame ! $
       nothing ! $
       move ! (4 ∷ 0 ∷ []) $
@@ -134,12 +145,12 @@ module _ {M : Type 1} (𝓤 : URA M) (H : Heap 𝓤) (A : Atoms 𝓤) (W : Given
       fjoin ! $
       done !
 
-  -- ---- `running::run`: what its triple binds outside, and that the caller has what it asks
+  -- ---- `running::ask`
   abbrev to-inner : Inner 𝓤 H A mem run .Ghost
-  to-inner = (((κf, (κs, (κl, (κo, tt)))), (qf, (qs, (ql, (qo, tt)))), tt, a, vals), tt)
+  to-inner = Asked.to-inner 𝓤 H A W mem run κf κs κl κo qf qs ql qo xf xs xl xo qn
 
-  asks-inner : ent 𝓤 (onEntry 𝓤 H A inner.signature (κf, (κs, (κl, (κo, tt)))) (qf, (qs, (ql, (qo, tt)))) a vals) (Inner 𝓤 H A mem run .pre to-inner)
-  asks-inner = via 𝓤 (sep 𝓤 (emp 𝓤) (onEntry 𝓤 H A inner.signature (κf, (κs, (κl, (κo, tt)))) (qf, (qs, (ql, (qo, tt)))) a vals)) (emp∗ 𝓤 (onEntry 𝓤 H A inner.signature (κf, (κs, (κl, (κo, tt)))) (qf, (qs, (ql, (qo, tt)))) a vals)) (comm∗ 𝓤 (emp 𝓤) (onEntry 𝓤 H A inner.signature (κf, (κs, (κl, (κo, tt)))) (qf, (qs, (ql, (qo, tt)))) a vals))
+  abbrev asked : RefT (List ℕ) × (Question × (RefT (List ℕ) × (RefT (List Entry) × (RefT (List ℕ) × Unit {0}))))
+  asked = (xf, (qn, (xs, (xl, (xo, tt)))))
 
   goes-inner : ent 𝓤 (onEntry 𝓤 H A outer.signature (κf, (κs, (κl, (κo, tt)))) (qf, (qs, (ql, (qo, tt)))) a vals) (sep 𝓤 (Inner 𝓤 H A mem run .pre to-inner) (sem 𝓤 H A File))
   goes-inner =
@@ -148,27 +159,15 @@ module _ {M : Type 1} (𝓤 : URA M) (H : Heap 𝓤) (A : Atoms 𝓤) (W : Given
       fsplit ! $
       move ! (1 ∷ []) $
       fsplit ! $
-      move ! (1 ∷ []) $
+      drop ! $
       fsplit ! $
       move ! (1 ∷ []) $
       fsplit ! $
       move ! (1 ∷ []) $
       fsplit ! $
-      move ! (5 ∷ []) $
-      use1 W (‵ File ⊛ ‵ File) (shr-slice-copy 𝓤 H A W (named 0) κf u8 .twice xf (sf ∷ [])) $ split ! $
-      move ! (2 ∷ 3 ∷ []) $
-      fjoin ! $
-      move ! (3 ∷ 0 ∷ []) $
-      fjoin ! $
-      move ! (3 ∷ 0 ∷ []) $
-      fjoin ! $
-      move ! (3 ∷ 0 ∷ []) $
-      fjoin ! $
-      move ! (1 ∷ 0 ∷ []) $
-      fjoin ! $
-      move ! (2 ∷ 0 ∷ []) $
-      use2 W (raw (Inner 𝓤 H A mem run .pre to-inner)) asks-inner $ frame ! $
-      done !
+      -- [outcomes; nothing; ledger; state; file; the leases]
+      keep ! (5 ∷ 4 ∷ 3 ∷ 2 ∷ 0 ∷ []) $
+      by ! (Asked.goes 𝓤 H A W mem run κf κs κl κo qf qs ql qo xf xs xl xo qn is-qn)
 
   -- ---- `run_numbers`
   abbrev to-numbers : Answer → Val → Numbers 𝓤 H A mem run .Ghost
@@ -184,27 +183,28 @@ module _ {M : Type 1} (𝓤 : URA M) (H : Heap 𝓤) (A : Atoms 𝓤) (W : Given
     walk : ent 𝓤 (onEntry 𝓤 H A outer.signature (κf, (κs, (κl, (κo, tt)))) (qf, (qs, (ql, (qo, tt)))) a vals) (WpFn 𝓤 H C Λ code.function (sf ∷ vint w64 nn ∷ ss ∷ sl ∷ so ∷ []) Post)
     walk =
         qed W ((‵ (flft κf qf) ⊛ ‵ (flft κs qs) ⊛ ‵ (flft κl ql) ⊛ ‵ (flft κo qo) ⊛ ‵ ftrue) ∷ ‵ (owns (ShrSlice (named 0) κf u8 ∷ usize ∷ MutSlice (named 1) κs u8 ∷ MutSlice (named 2) κl R ∷ MutSlice (named 3) κo u8 ∷ []) a vals) ∷ []) ∵ enter ! C Λ code.function (sf ∷ vint w64 nn ∷ ss ∷ sl ∷ so ∷ []) _ $
-        alloc1 ! (λ l0. alloc1 ! (λ l1. alloc1 ! (λ l2. alloc1 ! (λ l3. alloc1 ! (λ l4. alloc1 ! (λ l5. alloc1 ! (λ l6. alloc1 ! (λ l7. alloc1 ! (λ l8. alloc1 ! (λ l9. alloc1 ! (λ l10. alloc1 ! (λ l11. alloc1 ! (λ l12. alloc0 ! $ params1 ! $
-        pass1 ! (init ! 22 refl (tt, (tt, (record { fits = room-f .0 }, tt)))) $
-        pass1 ! (init ! 20 refl (tt, record { fits = nn-fits })) $
-        pass1 ! (init ! 18 refl (tt, (tt, (record { fits = room-s .0 }, tt)))) $
-        pass1 ! (init ! 16 refl (tt, (tt, (record { fits = room-l .0 }, tt)))) $
-        pass1 ! (init ! 14 refl (tt, (tt, (record { fits = room-o .0 }, tt)))) $
+        alloc1 ! (λ l0. alloc1 ! (λ l1. alloc1 ! (λ l2. alloc1 ! (λ l3. alloc1 ! (λ l4. alloc1 ! (λ l5. alloc1 ! (λ l6. alloc1 ! (λ l7. alloc1 ! (λ l8. alloc1 ! (λ l9. alloc1 ! (λ l10. alloc1 ! (λ l11. alloc1 ! (λ l12. alloc1 ! (λ l13. alloc0 ! $ params1 ! $
+        pass1 ! (init ! 24 refl (tt, (tt, (record { fits = room-f .0 }, tt)))) $
+        pass1 ! (init ! 22 refl (tt, record { fits = nn-fits })) $
+        pass1 ! (init ! 20 refl (tt, (tt, (record { fits = room-s .0 }, tt)))) $
+        pass1 ! (init ! 18 refl (tt, (tt, (record { fits = room-l .0 }, tt)))) $
+        pass1 ! (init ! 16 refl (tt, (tt, (record { fits = room-o .0 }, tt)))) $
         pass0 ! $
-        assigns ! (addr ! (from ! (fld ! refl (hop ! (look-in ! 18 (sub ! 0 refl (whole !))) (stop !))))) (from ! (stop !)) (init ! 10 refl (tt, tt)) $
-        assigns ! (agg ! (and-then ! (load ! (from ! (stop !)) (look ! 10 refl)) (and-then ! (load ! (from ! (fld ! refl (stop !))) (look-in ! 18 (sub ! 1 refl (whole !)))) (no-more !)))) (from ! (stop !)) (init ! 8 refl (tt, (tt, (record { fits = room-s .0 }, tt)))) $
-        assigns ! (addr ! (from ! (fld ! refl (hop ! (look-in ! 16 (sub ! 0 refl (whole !))) (stop !))))) (from ! (stop !)) (init ! 6 refl (tt, tt)) $
-        assigns ! (agg ! (and-then ! (load ! (from ! (stop !)) (look ! 6 refl)) (and-then ! (load ! (from ! (fld ! refl (stop !))) (look-in ! 16 (sub ! 1 refl (whole !)))) (no-more !)))) (from ! (stop !)) (init ! 4 refl (tt, (tt, (record { fits = room-l .0 }, tt)))) $
-        assigns ! (addr ! (from ! (fld ! refl (hop ! (look-in ! 14 (sub ! 0 refl (whole !))) (stop !))))) (from ! (stop !)) (init ! 2 refl (tt, tt)) $
-        assigns ! (agg ! (and-then ! (load ! (from ! (stop !)) (look ! 2 refl)) (and-then ! (load ! (from ! (fld ! refl (stop !))) (look-in ! 14 (sub ! 1 refl (whole !)))) (no-more !)))) (from ! (stop !)) (init ! 0 refl (tt, (tt, (record { fits = room-o .0 }, tt)))) $
-        -- `run`
-        move ! (26 ∷ 27 ∷ []) $
+        assigns ! (agg ! (and-then ! (lit ! tt) (and-then ! (load ! (from ! (stop !)) (look ! 22 refl)) (no-more !)))) (from ! (stop !)) (init ! 12 refl (EL.lawful Q.the-type Q′.the-laws 𝓤 H A W tt .typed qn (put qn ∷ []) is-qn .0)) $
+        assigns ! (addr ! (from ! (fld ! refl (hop ! (look-in ! 20 (sub ! 0 refl (whole !))) (stop !))))) (from ! (stop !)) (init ! 10 refl (tt, tt)) $
+        assigns ! (agg ! (and-then ! (load ! (from ! (stop !)) (look ! 10 refl)) (and-then ! (load ! (from ! (fld ! refl (stop !))) (look-in ! 20 (sub ! 1 refl (whole !)))) (no-more !)))) (from ! (stop !)) (init ! 8 refl (tt, (tt, (record { fits = room-s .0 }, tt)))) $
+        assigns ! (addr ! (from ! (fld ! refl (hop ! (look-in ! 18 (sub ! 0 refl (whole !))) (stop !))))) (from ! (stop !)) (init ! 6 refl (tt, tt)) $
+        assigns ! (agg ! (and-then ! (load ! (from ! (stop !)) (look ! 6 refl)) (and-then ! (load ! (from ! (fld ! refl (stop !))) (look-in ! 18 (sub ! 1 refl (whole !)))) (no-more !)))) (from ! (stop !)) (init ! 4 refl (tt, (tt, (record { fits = room-l .0 }, tt)))) $
+        assigns ! (addr ! (from ! (fld ! refl (hop ! (look-in ! 16 (sub ! 0 refl (whole !))) (stop !))))) (from ! (stop !)) (init ! 2 refl (tt, tt)) $
+        assigns ! (agg ! (and-then ! (load ! (from ! (stop !)) (look ! 2 refl)) (and-then ! (load ! (from ! (fld ! refl (stop !))) (look-in ! 16 (sub ! 1 refl (whole !)))) (no-more !)))) (from ! (stop !)) (init ! 0 refl (tt, (tt, (record { fits = room-o .0 }, tt)))) $
+        -- `ask`
+        move ! (28 ∷ 29 ∷ []) $
         use2 W (raw (Inner 𝓤 H A mem run .pre to-inner) ⊛ ‵ File) goes-inner $ split ! $
-        calls-at ! fm (Inner 𝓤 H A mem run) known-inner to-inner (and-then ! (load ! (from ! (stop !)) (look ! 24 refl)) (and-then ! (load ! (from ! (stop !)) (look ! 22 refl)) (and-then ! (load ! (from ! (stop !)) (look ! 10 refl)) (and-then ! (load ! (from ! (stop !)) (look ! 6 refl)) (and-then ! (load ! (from ! (stop !)) (look ! 2 refl)) (no-more !)))))) (λ w₀.
-        use1 W (later (some (λ (r : Answer). ((‵ (flft κf qf) ⊛ ‵ (flft κs qs) ⊛ ‵ (flft κl ql) ⊛ ‵ (flft κo qo) ⊛ ‵ ftrue) ⊛ ‵ (N.the-row .own r (w₀ ∷ []))) ⊛ raw (ensured 𝓤 H A inner.ended (inner.clauses 𝓤 H A mem run) (κf, (κs, (κl, (κo, tt)))) a tt r)))) (id⊢ 𝓤 _) $ await ! tt $ pick ! (λ r.
+        calls-at ! fm (Inner 𝓤 H A mem run) known-inner to-inner (and-then ! (load ! (from ! (stop !)) (look ! 26 refl)) (and-then ! (load ! (from ! (stop !)) (look ! 14 refl)) (and-then ! (load ! (from ! (stop !)) (look ! 10 refl)) (and-then ! (load ! (from ! (stop !)) (look ! 6 refl)) (and-then ! (load ! (from ! (stop !)) (look ! 2 refl)) (no-more !)))))) (λ w₀.
+        use1 W (later (some (λ (r : Answer). ((‵ (flft κf qf) ⊛ ‵ (flft κs qs) ⊛ ‵ (flft κl ql) ⊛ ‵ (flft κo qo) ⊛ ‵ ftrue) ⊛ ‵ (N.the-row .own r (w₀ ∷ []))) ⊛ raw (ensured 𝓤 H A inner.ended (inner.clauses 𝓤 H A mem run) (κf, (κs, (κl, (κo, tt)))) asked tt r)))) (id⊢ 𝓤 _) $ await ! tt $ pick ! (λ r.
         split ! $
         move ! (1 ∷ []) $
-        use1 W (some (λ (zs : Unit {0} × (Unit {0} × (List ℕ × (List Entry × (List ℕ × Unit {0}))))). ‵ (lasts inner.ended (κf, (κs, (κl, (κo, tt)))) a zs) ⊛ raw (fact 𝓤 (Done r (zs .1 .1 .0) (zs .1 .1 .1 .0) (zs .1 .1 .1 .1 .0))))) (id⊢ 𝓤 _) $ pick ! (λ zs.
+        use1 W (some (λ (zs : Unit {0} × (Unit {0} × (List ℕ × (List Entry × (List ℕ × Unit {0}))))). ‵ (lasts inner.ended (κf, (κs, (κl, (κo, tt)))) asked zs) ⊛ raw (fact 𝓤 (Done r (zs .1 .1 .0) (zs .1 .1 .1 .0) (zs .1 .1 .1 .1 .0))))) (id⊢ 𝓤 _) $ pick ! (λ zs.
         split ! $
         move ! (1 ∷ []) $
         heard ! (Done r (zs .1 .1 .0) (zs .1 .1 .1 .0) (zs .1 .1 .1 .1 .0)) (λ ok.
@@ -232,26 +232,26 @@ module _ {M : Type 1} (𝓤 : URA M) (H : Heap 𝓤) (A : Atoms 𝓤) (W : Given
         split ! $
         move ! (1 ∷ []) $
         peeks ! N.the-row (Is N.the-row) (shows 𝓤 H A N.the-row) r (w₀ ∷ []) (λ is₀.
-        land ! (from ! (stop !)) (init ! 18 refl (EL.lawful N.the-type N′.the-laws 𝓤 H A W tt .typed r _ is₀ .0)) $
+        land ! (from ! (stop !)) (init ! 20 refl (EL.lawful N.the-type N′.the-laws 𝓤 H A W tt .typed r _ is₀ .0)) $
         -- `run_numbers`
         use1 W (raw (Numbers 𝓤 H A mem run .pre (to-numbers r w₀))) (goes-numbers r w₀) $
-        calls-at ! fm (Numbers 𝓤 H A mem run) known-numbers (to-numbers r w₀) (and-then ! (load ! (from ! (stop !)) (look ! 18 refl)) (no-more !)) (λ w₁.
+        calls-at ! fm (Numbers 𝓤 H A mem run) known-numbers (to-numbers r w₀) (and-then ! (load ! (from ! (stop !)) (look ! 20 refl)) (no-more !)) (λ w₁.
         use1 W (later (some (λ (m : Struct). (‵ ftrue ⊛ ‵ (S.the-row .own m (w₁ ∷ []))) ⊛ raw (ensured 𝓤 H A numbers.ended (numbers.clauses 𝓤 H A mem run) tt (r, tt) tt m)))) (id⊢ 𝓤 _) $ await ! tt $ pick ! (λ m.
         split ! $
         move ! (1 ∷ []) $
-        use1 W (some (λ (us : Unit {0} × Unit {0}). ‵ (lasts numbers.ended tt (r, tt) us) ⊛ raw (fact 𝓤 (m ≡ runNumbers (runInNumbers r))))) (id⊢ 𝓤 _) $ pick ! (λ us.
+        use1 W (some (λ (us : Unit {0} × Unit {0}). ‵ (lasts numbers.ended tt (r, tt) us) ⊛ raw (fact 𝓤 (m ≡ runNumbers (askInNumbers r))))) (id⊢ 𝓤 _) $ pick ! (λ us.
         split ! $
         move ! (1 ∷ []) $
-        heard ! (m ≡ runNumbers (runInNumbers r)) (λ said.
+        heard ! (m ≡ runNumbers (askInNumbers r)) (λ said.
         drop ! $
         split ! $
         move ! (1 ∷ []) $
         peeks ! S.the-row (Is S.the-row) (shows 𝓤 H A S.the-row) m (w₁ ∷ []) (λ is₁.
-        land ! (from ! (stop !)) (init ! 31 refl (LL.lawful S.the-type S′.the-laws 𝓤 H A W .typed m _ is₁ .0)) $
-        returns ! (look ! 31 refl) $ forget ! 31 refl $ forget ! 29 refl $ forget ! 27 refl $ forget ! 25 refl $ forget ! 23 refl $ forget ! 21 refl $ forget ! 19 refl $ forget ! 17 refl $ forget ! 15 refl $ forget ! 13 refl $ forget ! 11 refl $ forget ! 9 refl $ forget ! 7 refl $
-        move ! (31 ∷ 32 ∷ []) $ free1 ! $ move ! (29 ∷ 30 ∷ []) $ free1 ! $ move ! (27 ∷ 28 ∷ []) $ free1 ! $ move ! (25 ∷ 26 ∷ []) $ free1 ! $ move ! (23 ∷ 24 ∷ []) $ free1 ! $ move ! (21 ∷ 22 ∷ []) $ free1 ! $ move ! (19 ∷ 20 ∷ []) $ free1 ! $ move ! (17 ∷ 18 ∷ []) $ free1 ! $ move ! (15 ∷ 16 ∷ []) $ free1 ! $ move ! (13 ∷ 14 ∷ []) $ free1 ! $ move ! (11 ∷ 12 ∷ []) $ free1 ! $ move ! (9 ∷ 10 ∷ []) $ free1 ! $ move ! (7 ∷ 8 ∷ []) $ free1 ! $ free0 ! $
+        land ! (from ! (stop !)) (init ! 33 refl (LL.lawful S.the-type S′.the-laws 𝓤 H A W .typed m _ is₁ .0)) $
+        returns ! (look ! 33 refl) $ forget ! 33 refl $ forget ! 31 refl $ forget ! 29 refl $ forget ! 27 refl $ forget ! 25 refl $ forget ! 23 refl $ forget ! 21 refl $ forget ! 19 refl $ forget ! 17 refl $ forget ! 15 refl $ forget ! 13 refl $ forget ! 11 refl $ forget ! 9 refl $ forget ! 7 refl $
+        move ! (33 ∷ 34 ∷ []) $ free1 ! $ move ! (31 ∷ 32 ∷ []) $ free1 ! $ move ! (29 ∷ 30 ∷ []) $ free1 ! $ move ! (27 ∷ 28 ∷ []) $ free1 ! $ move ! (25 ∷ 26 ∷ []) $ free1 ! $ move ! (23 ∷ 24 ∷ []) $ free1 ! $ move ! (21 ∷ 22 ∷ []) $ free1 ! $ move ! (19 ∷ 20 ∷ []) $ free1 ! $ move ! (17 ∷ 18 ∷ []) $ free1 ! $ move ! (15 ∷ 16 ∷ []) $ free1 ! $ move ! (13 ∷ 14 ∷ []) $ free1 ! $ move ! (11 ∷ 12 ∷ []) $ free1 ! $ move ! (9 ∷ 10 ∷ []) $ free1 ! $ move ! (7 ∷ 8 ∷ []) $ free1 ! $ free0 ! $
         keep ! (2 ∷ 6 ∷ 5 ∷ 4 ∷ 3 ∷ 0 ∷ []) $
-        by ! (exits r m w₁ (zs .1 .1 .0) (zs .1 .1 .1 .0) (zs .1 .1 .1 .1 .0) ok said lens lenl leno)))))))))))))))))))))))))))
+        by ! (exits r m w₁ (zs .1 .1 .0) (zs .1 .1 .1 .0) (zs .1 .1 .1 .1 .0) ok said lens lenl leno))))))))))))))))))))))))))))
 
 module _ {M : Type 1} (𝓤 : URA M) (H : Heap 𝓤) (A : Atoms 𝓤) (W : Given 𝓤 H A) (mem : Memory → SProp 𝓤) (run : Routine → Fun 𝓤) where
   walks : (C : Calls 𝓤 H) (Λ : Loops 𝓤 H) → FmC 𝓤 H (W .laws) C → Triple 𝓤 (C #inner) (Inner 𝓤 H A mem run) → Triple 𝓤 (C #numbers) (Numbers 𝓤 H A mem run)
@@ -276,5 +276,5 @@ birdweekly-run-spec 𝓤 H 𝓜 𝓖 𝓡 =
     entered 𝓤 H (tripleOf 𝓤 H (𝓖 .A) outer.signature (outer.spec 𝓤 H (𝓖 .A) (𝓜 .mem) (𝓡 .run)))
     (tables 𝓤 H 𝓜 𝓡 code.env .C) (tables 𝓤 H 𝓜 𝓡 code.env .Λ) #outer code.function (code.unfolded 𝓤 H 𝓜 𝓡)
     (meets 𝓤 H (𝓖 .A) (givenOf 𝓤 H 𝓜 𝓖) (𝓜 .mem) (𝓡 .run) (tablesOf 𝓤 H 𝓜 (tables 𝓤 H 𝓜 𝓡 code.env))
-    (cited 𝓤 H (Inner 𝓤 H (𝓖 .A) (𝓜 .mem) (𝓡 .run)) 𝓜 𝓡 code.env #inner inner-def.routine code.calls-running·run (inner-thm.met 𝓤 H 𝓜 𝓖 𝓡))
+    (cited 𝓤 H (Inner 𝓤 H (𝓖 .A) (𝓜 .mem) (𝓡 .run)) 𝓜 𝓡 code.env #inner inner-def.routine code.calls-running·ask (inner-thm.met 𝓤 H 𝓜 𝓖 𝓡))
     (cited 𝓤 H (Numbers 𝓤 H (𝓖 .A) (𝓜 .mem) (𝓡 .run)) 𝓜 𝓡 code.env #numbers numbers-def.routine code.calls-birdweekly·run-numbers (numbers-thm.met 𝓤 H 𝓜 𝓖 𝓡)))

@@ -20,7 +20,7 @@ returns c =
     let a = c .before .before .before .before .before .before .args in
     let x = c .before .enough in (
       (λ l e. refused-1 (now (a .file)) (a .n) (now (a .state)) (now (a .outcomes)) l (enough-is (now (a .state)) (now (a .outcomes)) l (a .room) e ∙ sym (x .ensures) ∙ not-true (x .result) (c .if1 .taken))),
-      refused-left _ _ _ _ 1 0,
+      refused-left _ _ _ _ _ 1 0,
     )
 
 returns-2 : tie.Need-returns-2
@@ -28,7 +28,7 @@ returns-2 c =
     let a = c .before .before .before .before .before .before .before .args in
     let x = c .before .before .enough in (
       (λ l e. refused-2 (now (a .file)) (a .n) (now (a .state)) (now (a .outcomes)) l (enough-is (now (a .state)) (now (a .outcomes)) l (a .room) e ∙ sym (x .ensures) ∙ not-false (x .result) (c .before .if1 .left)) (c .if2 .taken)),
-      refused-left _ _ _ _ 2 0,
+      refused-left _ _ _ _ _ 2 0,
     )
 
 slice-relend-prefix-run-parts : tie.Need-slice-relend-prefix-run-parts

@@ -40,18 +40,18 @@ run-commands-requires c κs =
     let y = c .before .before .before .before .before .before .before .before .before .before .before .before .before .clear in
     run-ready (x .ensures) (c .before .before .before .before .before .if1 .left) (p .short) (x .kept .1 .0 ∙ p .room) (now (c .before .before .before .before .before .before .before .before .before .before .before .before .before .before .before .before .before .before .args .words)) (p .clear) (y .last .0) (omega (arith, y .kept .0, p .places))
 
-cast-t28 : tie.Need-cast-t28
-cast-t28 c =
+cast-t29 : tie.Need-cast-t29
+cast-t29 c =
     let p = c .before .before .before .before .before .before .before .before .before .before .before .before .before .before .before .before .before .before .before .before .before .before .before .before .pre in
     omega (arith, counts-fit (p .short) (c .before .before .before .before .before .before .before .before .before .before .before .before .before .before .fill .ensures) (c .before .before .before .before .before .before .before .before .before .before .before .if1 .left) (c .before .before .before .before .before .before .before .before .before .before .before .before .before .before .before .before .before .before .before .before .before .before .before .before .args .n) (c .before .before .before .before .before .before .before .before .before .before .before .before .before .before .before .before .before .before .before .clear .ensures ∙ ap (λ (k : ℕ). replicate {A = ℕ} k 0) (p .places)) (c .before .before .before .before .before .run-commands .ensures))
 
-cast-t29 : tie.Need-cast-t29
-cast-t29 c =
+cast-t30 : tie.Need-cast-t30
+cast-t30 c =
     let p = c .before .before .before .before .before .before .before .before .before .before .before .before .before .before .before .before .before .before .before .before .before .before .before .before .before .pre in
     omega (arith, counts-fit (p .short) (c .before .before .before .before .before .before .before .before .before .before .before .before .before .before .before .fill .ensures) (c .before .before .before .before .before .before .before .before .before .before .before .before .if1 .left) (c .before .before .before .before .before .before .before .before .before .before .before .before .before .before .before .before .before .before .before .before .before .before .before .before .before .args .n) (c .before .before .before .before .before .before .before .before .before .before .before .before .before .before .before .before .before .before .before .before .clear .ensures ∙ ap (λ (k : ℕ). replicate {A = ℕ} k 0) (p .places)) (c .before .before .before .before .before .before .run-commands .ensures))
 
-cast-t30 : tie.Need-cast-t30
-cast-t30 c = search needs
+cast-t31 : tie.Need-cast-t31
+cast-t31 c = search needs
 
 same-length-3 : tie.Need-same-length-3
 same-length-3 c = search needs
@@ -77,9 +77,9 @@ run-parts-spec =
     same-length-2
     returns
     run-commands-requires
-    cast-t28
     cast-t29
     cast-t30
+    cast-t31
     same-length-3
     same-length-4
     returns-2)

@@ -16,7 +16,7 @@ run-requires c κs = search needs
 answer-requires : tie.Need-answer-requires
 answer-requires c κs =
     let u = c .before .before .before .before .before .before .before .run in
-    askable (u .result .answer) _ _ _ _ _ (u .ensures .1) (c .before .before .before .before .before .before .before .before .before .before .before .before .if1 .left)
+    askable (u .result .answer) _ (u .result .parties) (u .result .terms) _ _ _ _ _ (u .ensures .1) (c .before .before .before .before .before .before .before .before .before .before .before .before .if1 .left)
 
 same-length : tie.Need-same-length
 same-length c = search needs

@@ -1,4 +1,4 @@
--- `running::run` meets its contract: a walk of its MIR, by hand, with no branch and no loop. The engine is called on the plain slices; its words are copied into a local, which is lent to `copy_out` with the ledger.
+-- `running::ask` meets its contract: a walk of its MIR, by hand, with no branch and no loop. `asking::ask` is called on the plain slices; its words are copied into a local, which is lent to `copy_out` with the ledger.
 -- The `&mut` slices are given to the callees for good (`gave-slice`). What is known of the two callees is that they meet their contracts.
 -- Assumes nothing.
 use mathlib.Core.Path.{_≡_, refl, _∙_, ap}
@@ -44,16 +44,20 @@ use denote.Triple.Table.{entered, cited}
 use denote.Triple.Walked.{says, Stays, stay-none, stay-none-slice, gave-slice, walkOf, goes-none, goes-none-slice, goes-gave-slice, Walks, ends-at, walked, walk-meets}
 use denote.Exit.{yes}
 use Rattle.rules.specs.declared.Entry.{Entry}
+use Rattle.rules.specs.declared.Question.{Question}
 use Rattle.ledger.specs.Filled.{filled}
 use Rattle.running.specs.declared.Core.{Core as Core}
 use Rattle.rules.specs.Limits.{termLimit}
-use Rattle.rules.specs.Lent.{runLeaves}
-use Rattle.engine.specs.Runs.{lentWith, Runs}
+use Rattle.rules.specs.Questions.{countOf, leavesOf}
+use Rattle.engine.specs.Runs.{lentWith}
+use Rattle.asking.specs.Asks.{Asks}
 use Rattle.running.proofs.Local.{Words, part-of, room-of}
 use Rattle.running.proofs.Ledger.{ledger-left}
 use Rattle.rules.proofs.Entry as E
-use Rattle.rules.proofs.RunAnswer as N
-use Rattle.rules.proofs.RunAnswer.Laws as N′
+use Rattle.rules.proofs.Question as Q
+use Rattle.rules.proofs.Question.Laws as Q′
+use Rattle.rules.proofs.AskAnswer as N
+use Rattle.rules.proofs.AskAnswer.Laws as N′
 use Rattle.running.proofs.Core as K
 use Rattle.running.proofs.Core.Laws as K′
 use Rattle.running.proofs.execute as execute
@@ -64,16 +68,16 @@ use Rattle.ledger.proofs.copy_out as copy-out
 use Rattle.ledger.proofs.copy_out.Symbol as copy-out-def
 use Rattle.ledger.proofs.copy_out.Symbol.{name as #copy-out}
 use Rattle.ledger.proofs.copy_out.Met as copy-out-thm
-use Rattle.running.proofs.run.Key.{name as #run}
-use Rattle.running.proofs.run as run′
-use Rattle.running.proofs.run.Statement as stated
-use Rattle.running.proofs.run.Code as code
+use Rattle.running.proofs.ask.Key.{name as #ask}
+use Rattle.running.proofs.ask as ask′
+use Rattle.running.proofs.ask.Statement as stated
+use Rattle.running.proofs.ask.Code as code
 
 abbrev R : RattleType
 R = E.the-row
 
-abbrev stayed : Stays (run′.ended .signature .params) (run′.ended .kept)
-stayed = (stay-none-slice (0 ∷ []) tt (plain (λ _. u8)) yes, (stay-none (λ _. usize) yes, (gave-slice (1 ∷ []) tt (plain (λ _. u8)), (gave-slice (2 ∷ []) tt (plain (λ _. R)), (gave-slice (3 ∷ []) tt (plain (λ _. u8)), tt)))))
+abbrev stayed : Stays (ask′.ended .signature .params) (ask′.ended .kept)
+stayed = (stay-none-slice (0 ∷ []) tt (plain (λ _. u8)) yes, (stay-none (λ _. Q.the-row) yes, (gave-slice (1 ∷ []) tt (plain (λ _. u8)), (gave-slice (2 ∷ []) tt (plain (λ _. R)), (gave-slice (3 ∷ []) tt (plain (λ _. u8)), tt)))))
 
 -- ---- the contracts that the proof cites
 module _ {M : Type 1} (𝓤 : URA M) (H : Heap 𝓤) (A : Atoms 𝓤) (mem : Memory → SProp 𝓤) (run : Routine → Fun 𝓤) where
@@ -83,8 +87,8 @@ module _ {M : Type 1} (𝓤 : URA M) (H : Heap 𝓤) (A : Atoms 𝓤) (mem : Mem
   abbrev CopyOut : Contract 𝓤
   CopyOut = tripleOf 𝓤 H A copy-out.signature (copy-out.spec 𝓤 H A mem run)
 
-module _ {M : Type 1} (𝓤 : URA M) (H : Heap 𝓤) (A : Atoms 𝓤) (W : Given 𝓤 H A) (mem : Memory → SProp 𝓤) (run : Routine → Fun 𝓤) (κf κs κl κo : Lft) (qf qs ql qo : Share) (xf : RefT (List ℕ)) (nn : ℕ) (xs : RefT (List ℕ)) (xl : RefT (List Entry)) (xo : RefT (List ℕ))
-    (room-f : Room u8 (length (xf .now))) (nn-fits : nn < 2 ^ 64) (room-s : Room u8 (length (xs .now))) (room-l : Room R (length (xl .now))) (room-o : Room u8 (length (xo .now))) where
+module _ {M : Type 1} (𝓤 : URA M) (H : Heap 𝓤) (A : Atoms 𝓤) (W : Given 𝓤 H A) (mem : Memory → SProp 𝓤) (run : Routine → Fun 𝓤) (κf κs κl κo : Lft) (qf qs ql qo : Share) (xf : RefT (List ℕ)) (qn : Question) (xs : RefT (List ℕ)) (xl : RefT (List Entry)) (xo : RefT (List ℕ))
+    (room-f : Room u8 (length (xf .now))) (is-qn : Is Q.the-row qn (EL.val Q.the-type Q′.the-laws qn ∷ [])) (room-s : Room u8 (length (xs .now))) (room-l : Room R (length (xl .now))) (room-o : Room u8 (length (xo .now))) where
   abbrev es : List Entry
   es = xl .now
 
@@ -100,14 +104,17 @@ module _ {M : Type 1} (𝓤 : URA M) (H : Heap 𝓤) (A : Atoms 𝓤) (W : Given
   abbrev so : Val
   so = sliceVal (xo .ptr) (length (xo .now))
 
+  abbrev sq : Val
+  sq = EL.val Q.the-type Q′.the-laws qn
+
   abbrev Arg : Type 0
-  Arg = RefT (List ℕ) × (ℕ × (RefT (List ℕ) × (RefT (List Entry) × (RefT (List ℕ) × Unit {0}))))
+  Arg = RefT (List ℕ) × (Question × (RefT (List ℕ) × (RefT (List Entry) × (RefT (List ℕ) × Unit {0}))))
 
   abbrev a : Arg
-  a = (xf, (nn, (xs, (xl, (xo, tt)))))
+  a = (xf, (qn, (xs, (xl, (xo, tt)))))
 
   abbrev vals : List Val × (List Val × (List Val × (List Val × (List Val × Unit {0}))))
-  vals = (sf ∷ [], (vint w64 nn ∷ [], (ss ∷ [], (sl ∷ [], (so ∷ [], tt)))))
+  vals = (sf ∷ [], (sq ∷ [], (ss ∷ [], (sl ∷ [], (so ∷ [], tt)))))
 
   abbrev File : Fml
   File = ShrSlice (named 0) κf u8 .own xf (sf ∷ [])
@@ -115,11 +122,11 @@ module _ {M : Type 1} (𝓤 : URA M) (H : Heap 𝓤) (A : Atoms 𝓤) (W : Given
   abbrev Ledger : Fml
   Ledger = MutSlice (named 2) κl R .own xl (sl ∷ [])
 
-  abbrev y : walkOf 𝓤 H A run′.ended stayed (run′.clauses 𝓤 H A mem run) .Ghost
+  abbrev y : walkOf 𝓤 H A ask′.ended stayed (ask′.clauses 𝓤 H A mem run) .Ghost
   y = (((κf, (κs, (κl, (κo, tt)))), (qf, (qs, (ql, (qo, tt)))), tt, a, vals), tt)
 
   abbrev Post : Val → SProp 𝓤
-  Post = walkOf 𝓤 H A run′.ended stayed (run′.clauses 𝓤 H A mem run) .post y
+  Post = walkOf 𝓤 H A ask′.ended stayed (ask′.clauses 𝓤 H A mem run) .post y
 
   -- the machine value of the answer
   abbrev said : Core → Val
@@ -127,17 +134,18 @@ module _ {M : Type 1} (𝓤 : URA M) (H : Heap 𝓤) (A : Atoms 𝓤) (W : Given
 
   -- what the engine ensures, of its result and of the last lists
   abbrev Done : Core → List ℕ → List ℕ → Type 0
-  Done r zs zo = Runs (xf .now) nn (length es) (xs .now) (xo .now) zs zo (r .words) (record { places = r .places; answer = r .answer })
+  Done r zs zo = Asks (xf .now) qn (length es) (xs .now) (xo .now) zs zo (r .words) (r .places) (r .answer)
 
   -- the ledger that is filled from its words
-  left : (r : Core) {zs zo : List ℕ} → Done r zs zo → (filled (r .words) (r .places) es ≡ runLeaves (xf .now) nn (lentWith (xs .now) es (xo .now)) .ledger) × (r .places ≤ length es) × (r .places ≤ termLimit)
-  left r ok = ledger-left (xf .now) nn (lentWith (xs .now) es (xo .now)) (r .words) (r .places) (ok es refl .words) (ok es refl .places)
+  left : (r : Core) {zs zo : List ℕ} → Done r zs zo → (filled (r .words) (r .places) es ≡ leavesOf qn (xf .now) (lentWith (xs .now) es (xo .now)) .ledger) × (r .places ≤ length es) × (r .places ≤ termLimit)
+  unfolding leavesOf
+  left r ok = ledger-left (xf .now) (countOf qn) (lentWith (xs .now) es (xo .now)) (r .words) (r .places) (ok es refl .words) (ok es refl .places)
 
   exits : (r : Core) (zs : List ℕ) (zl : List Entry) (zo : List ℕ) → Done r zs zo → zl ≡ filled (r .words) (r .places) es → length zs ≡ length (xs .now) → length zl ≡ length (xl .now) → length zo ≡ length (xo .now) → Is N.the-row (r .answer) (said r ∷ [])
       → ent 𝓤 (⋆ 𝓤 H A ((‵ (flft κf qf) ⊛ ‵ (flft κs qs) ⊛ ‵ (flft κo qo) ⊛ ‵ ftrue) ∷ ‵ (flft κl ql) ∷ ‵ File ∷ ‵ (finally u8 (xs .name) zs) ∷ ‵ (finally R (xl .name) zl) ∷ ‵ (finally u8 (xo .name) zo) ∷ [])) (Post (said r))
   exits r zs zl zo ok put lens lenl leno fits =
       qed W ((‵ (flft κf qf) ⊛ ‵ (flft κs qs) ⊛ ‵ (flft κo qo) ⊛ ‵ ftrue) ∷ ‵ (flft κl ql) ∷ ‵ File ∷ ‵ (finally u8 (xs .name) zs) ∷ ‵ (finally R (xl .name) zl) ∷ ‵ (finally u8 (xo .name) zo) ∷ []) ∵
-      suffices ! _ (ends-at 𝓤 H A run′.ended stayed (run′.clauses 𝓤 H A mem run) W y (said r) (r .answer) (tt, (tt, (zs, (zl, (zo, tt))))) (tt, (tt, (lens, (lenl, (leno, tt)))))) $
+      suffices ! _ (ends-at 𝓤 H A ask′.ended stayed (ask′.clauses 𝓤 H A mem run) W y (said r) (r .answer) (tt, (tt, (zs, (zl, (zo, tt))))) (tt, (tt, (lens, (lenl, (leno, tt)))))) $
       says ! (ok es refl .answer, ok es refl .state, put ∙ left r ok .0, ok es refl .outcomes) $
       split ! $
       move ! (1 ∷ []) $
@@ -159,18 +167,18 @@ module _ {M : Type 1} (𝓤 : URA M) (H : Heap 𝓤) (A : Atoms 𝓤) (W : Given
       fjoin ! $
       move ! (2 ∷ 0 ∷ []) $
       fjoin ! $
-      owned ! usize (Is usize) (uint-makes 𝓤 H A W w64) nn _ (refl, nn-fits) $
+      owned ! Q.the-row (Is Q.the-row) (EL.makes Q.the-type Q′.the-plain 𝓤 H A) qn _ is-qn $
       fjoin ! $
       move ! (1 ∷ 0 ∷ []) $
       fjoin ! $
       owned ! N.the-row (Is N.the-row) (EL.makes N.the-type N′.the-plain 𝓤 H A) (r .answer) _ fits $ move ! (1 ∷ 0 ∷ []) $ done !
 
   -- ---- the engine: what its triple binds outside, and that the caller has what it asks
-  abbrev a-execute : RefT (List ℕ) × (ℕ × (ℕ × (RefT (List ℕ) × (RefT (List ℕ) × Unit {0}))))
-  a-execute = (xf, (nn, (length es, (xs, (xo, tt)))))
+  abbrev a-execute : RefT (List ℕ) × (Question × (ℕ × (RefT (List ℕ) × (RefT (List ℕ) × Unit {0}))))
+  a-execute = (xf, (qn, (length es, (xs, (xo, tt)))))
 
   abbrev vals-execute : List Val × (List Val × (List Val × (List Val × (List Val × Unit {0}))))
-  vals-execute = (sf ∷ [], (vint w64 nn ∷ [], (vint w64 (length es) ∷ [], (ss ∷ [], (so ∷ [], tt)))))
+  vals-execute = (sf ∷ [], (sq ∷ [], (vint w64 (length es) ∷ [], (ss ∷ [], (so ∷ [], tt)))))
 
   abbrev to-execute : Execute 𝓤 H A mem run .Ghost
   to-execute = (((κf, (κs, (κo, tt))), (qf, (qs, (qo, tt))), tt, a-execute, vals-execute), tt)
@@ -178,9 +186,9 @@ module _ {M : Type 1} (𝓤 : URA M) (H : Heap 𝓤) (A : Atoms 𝓤) (W : Given
   asks-execute : ent 𝓤 (onEntry 𝓤 H A execute.signature (κf, (κs, (κo, tt))) (qf, (qs, (qo, tt))) a-execute vals-execute) (Execute 𝓤 H A mem run .pre to-execute)
   asks-execute = via 𝓤 (sep 𝓤 (emp 𝓤) (onEntry 𝓤 H A execute.signature (κf, (κs, (κo, tt))) (qf, (qs, (qo, tt))) a-execute vals-execute)) (emp∗ 𝓤 (onEntry 𝓤 H A execute.signature (κf, (κs, (κo, tt))) (qf, (qs, (qo, tt))) a-execute vals-execute)) (comm∗ 𝓤 (emp 𝓤) (onEntry 𝓤 H A execute.signature (κf, (κs, (κo, tt))) (qf, (qs, (qo, tt))) a-execute vals-execute))
 
-  goes-execute : ent 𝓤 (onEntry 𝓤 H A run′.signature (κf, (κs, (κl, (κo, tt)))) (qf, (qs, (ql, (qo, tt)))) a vals) (sep 𝓤 (Execute 𝓤 H A mem run .pre to-execute) (sep 𝓤 (A .lft κl ql) (sep 𝓤 (sem 𝓤 H A Ledger) (sem 𝓤 H A File))))
+  goes-execute : ent 𝓤 (onEntry 𝓤 H A ask′.signature (κf, (κs, (κl, (κo, tt)))) (qf, (qs, (ql, (qo, tt)))) a vals) (sep 𝓤 (Execute 𝓤 H A mem run .pre to-execute) (sep 𝓤 (A .lft κl ql) (sep 𝓤 (sem 𝓤 H A Ledger) (sem 𝓤 H A File))))
   goes-execute =
-      qed W ((‵ (flft κf qf) ⊛ ‵ (flft κs qs) ⊛ ‵ (flft κl ql) ⊛ ‵ (flft κo qo) ⊛ ‵ ftrue) ∷ ‵ (owns (ShrSlice (named 0) κf u8 ∷ usize ∷ MutSlice (named 1) κs u8 ∷ MutSlice (named 2) κl R ∷ MutSlice (named 3) κo u8 ∷ []) a vals) ∷ []) ∵
+      qed W ((‵ (flft κf qf) ⊛ ‵ (flft κs qs) ⊛ ‵ (flft κl ql) ⊛ ‵ (flft κo qo) ⊛ ‵ ftrue) ∷ ‵ (owns (ShrSlice (named 0) κf u8 ∷ Q.the-row ∷ MutSlice (named 1) κs u8 ∷ MutSlice (named 2) κl R ∷ MutSlice (named 3) κo u8 ∷ []) a vals) ∷ []) ∵
       split ! $
       move ! (1 ∷ []) $
       split ! $
@@ -243,12 +251,12 @@ module _ {M : Type 1} (𝓤 : URA M) (H : Heap 𝓤) (A : Atoms 𝓤) (W : Given
       split ! $ nothing ! $ owned ! usize (Is usize) (uint-makes 𝓤 H A W w64) (r .places) _ (refl, fits) $ fjoin ! $ move ! (2 ∷ 0 ∷ []) $ fjoin ! $ move ! (1 ∷ 0 ∷ []) $ fjoin ! $ done !
 
   module _ (C : Calls 𝓤 H) (Λ : Loops 𝓤 H) (fm : FmC 𝓤 H (W .laws) C) (known-execute : Triple 𝓤 (C #execute) (Execute 𝓤 H A mem run)) (known-copy : Triple 𝓤 (C #copy-out) (CopyOut 𝓤 H A mem run)) where
-    walk : ent 𝓤 (onEntry 𝓤 H A run′.signature (κf, (κs, (κl, (κo, tt)))) (qf, (qs, (ql, (qo, tt)))) a vals) (WpFn 𝓤 H C Λ code.function (sf ∷ vint w64 nn ∷ ss ∷ sl ∷ so ∷ []) Post)
+    walk : ent 𝓤 (onEntry 𝓤 H A ask′.signature (κf, (κs, (κl, (κo, tt)))) (qf, (qs, (ql, (qo, tt)))) a vals) (WpFn 𝓤 H C Λ code.function (sf ∷ sq ∷ ss ∷ sl ∷ so ∷ []) Post)
     walk =
-        qed W ((‵ (flft κf qf) ⊛ ‵ (flft κs qs) ⊛ ‵ (flft κl ql) ⊛ ‵ (flft κo qo) ⊛ ‵ ftrue) ∷ ‵ (owns (ShrSlice (named 0) κf u8 ∷ usize ∷ MutSlice (named 1) κs u8 ∷ MutSlice (named 2) κl R ∷ MutSlice (named 3) κo u8 ∷ []) a vals) ∷ []) ∵ enter ! C Λ code.function (sf ∷ vint w64 nn ∷ ss ∷ sl ∷ so ∷ []) _ $
+        qed W ((‵ (flft κf qf) ⊛ ‵ (flft κs qs) ⊛ ‵ (flft κl ql) ⊛ ‵ (flft κo qo) ⊛ ‵ ftrue) ∷ ‵ (owns (ShrSlice (named 0) κf u8 ∷ Q.the-row ∷ MutSlice (named 1) κs u8 ∷ MutSlice (named 2) κl R ∷ MutSlice (named 3) κo u8 ∷ []) a vals) ∷ []) ∵ enter ! C Λ code.function (sf ∷ sq ∷ ss ∷ sl ∷ so ∷ []) _ $
         alloc1 ! (λ l0. alloc1 ! (λ l1. alloc1 ! (λ l2. alloc1 ! (λ l3. alloc1 ! (λ l4. alloc1 ! (λ l5. alloc1 ! (λ l6. alloc1 ! (λ l7. alloc1 ! (λ l8. alloc1 ! (λ l9. alloc1 ! (λ l10. alloc1 ! (λ l11. alloc1 ! (λ l12. alloc1 ! (λ l13. alloc1 ! (λ l14. alloc1 ! (λ l15. alloc1 ! (λ l16. alloc0 ! $ params1 ! $
         pass1 ! (init ! 30 refl (tt, (tt, (record { fits = room-f .0 }, tt)))) $
-        pass1 ! (init ! 28 refl (tt, record { fits = nn-fits })) $
+        pass1 ! (init ! 28 refl (EL.lawful Q.the-type Q′.the-laws 𝓤 H A W tt .typed qn _ is-qn .0)) $
         pass1 ! (init ! 26 refl (tt, (tt, (record { fits = room-s .0 }, tt)))) $
         pass1 ! (init ! 24 refl (tt, (tt, (record { fits = room-l .0 }, tt)))) $
         pass1 ! (init ! 22 refl (tt, (tt, (record { fits = room-o .0 }, tt)))) $
@@ -348,26 +356,26 @@ module _ {M : Type 1} (𝓤 : URA M) (H : Heap 𝓤) (A : Atoms 𝓤) (W : Given
 
 module _ {M : Type 1} (𝓤 : URA M) (H : Heap 𝓤) (A : Atoms 𝓤) (W : Given 𝓤 H A) (mem : Memory → SProp 𝓤) (run : Routine → Fun 𝓤) where
   walks : (C : Calls 𝓤 H) (Λ : Loops 𝓤 H) → FmC 𝓤 H (W .laws) C → Triple 𝓤 (C #execute) (Execute 𝓤 H A mem run) → Triple 𝓤 (C #copy-out) (CopyOut 𝓤 H A mem run)
-      → Walks 𝓤 H A run′.ended stayed (WpFn 𝓤 H C Λ code.function) (run′.clauses 𝓤 H A mem run)
-  walks C Λ fm known-execute known-copy = walked 𝓤 H A run′.ended stayed (run′.clauses 𝓤 H A mem run) (WpFn 𝓤 H C Λ code.function)
-      (λ κs. (slice-vals, (uint-vals w64, (slice-vals, (slice-vals, (slice-vals, tt))))))
-      (λ κs. (shr-slice-tells (named 0) (κs .0) u8, (uint-tells w64, (mut-slice-tells (named 1) (κs .1 .0) u8, (mut-slice-tells (named 2) (κs .1 .1 .0) R, (mut-slice-tells (named 3) (κs .1 .1 .1 .0) u8, tt))))))
+      → Walks 𝓤 H A ask′.ended stayed (WpFn 𝓤 H C Λ code.function) (ask′.clauses 𝓤 H A mem run)
+  walks C Λ fm known-execute known-copy = walked 𝓤 H A ask′.ended stayed (ask′.clauses 𝓤 H A mem run) (WpFn 𝓤 H C Λ code.function)
+      (λ κs. (slice-vals, (EL.vals Q.the-type Q′.the-laws, (slice-vals, (slice-vals, (slice-vals, tt))))))
+      (λ κs. (shr-slice-tells (named 0) (κs .0) u8, (EL.tells Q.the-type Q′.the-laws, (mut-slice-tells (named 1) (κs .1 .0) u8, (mut-slice-tells (named 2) (κs .1 .1 .0) R, (mut-slice-tells (named 3) (κs .1 .1 .1 .0) u8, tt))))))
       (λ κs qs bounds a g are. via 𝓤 _ (fst∗ 𝓤 _ (emp 𝓤)) (
       walk 𝓤 H A W mem run (κs .0) (κs .1 .0) (κs .1 .1 .0) (κs .1 .1 .1 .0) (qs .0) (qs .1 .0) (qs .1 .1 .0) (qs .1 .1 .1 .0) (a .0) (a .1 .0) (a .1 .1 .0) (a .1 .1 .1 .0) (a .1 .1 .1 .1 .0)
-      (are .0 .0 .1) (are .1 .0 .1) (are .1 .1 .0 .0 .1) (are .1 .1 .1 .0 .0 .1) (are .1 .1 .1 .1 .0 .0 .1) C Λ fm known-execute known-copy))
+      (are .0 .0 .1) (are .1 .0) (are .1 .1 .0 .0 .1) (are .1 .1 .1 .0 .0 .1) (are .1 .1 .1 .1 .0 .0 .1) C Λ fm known-execute known-copy))
 
 meets : {M : Type 1} (𝓤 : URA M) (H : Heap 𝓤) (A : Atoms 𝓤) → Given 𝓤 H A → (mem : Memory → SProp 𝓤) (run : Routine → Fun 𝓤) (𝓣 : Tables 𝓤 H)
     → Triple 𝓤 (𝓣 .C #execute) (Execute 𝓤 H A mem run) → Triple 𝓤 (𝓣 .C #copy-out) (CopyOut 𝓤 H A mem run)
-    → Meets 𝓤 H A run′.signature (WpFn 𝓤 H (𝓣 .C) (𝓣 .Λ) code.function) (run′.spec 𝓤 H A mem run)
+    → Meets 𝓤 H A ask′.signature (WpFn 𝓤 H (𝓣 .C) (𝓣 .Λ) code.function) (ask′.spec 𝓤 H A mem run)
 meets 𝓤 H A W mem run 𝓣 known-execute known-copy =
-    walk-meets 𝓤 H A run′.ended stayed W (goes-none-slice 𝓤 H A W 4 (0 ∷ []) tt (plain (λ _. u8)) yes, (goes-none 𝓤 H A W 4 (λ _. usize) yes (λ κs x f. refl), (goes-gave-slice 𝓤 H A W 4 1 tt (plain (λ _. u8)), (goes-gave-slice 𝓤 H A W 4 2 tt (plain (λ _. R)), (goes-gave-slice 𝓤 H A W 4 3 tt (plain (λ _. u8)), tt))))) (run′.clauses 𝓤 H A mem run)
+    walk-meets 𝓤 H A ask′.ended stayed W (goes-none-slice 𝓤 H A W 4 (0 ∷ []) tt (plain (λ _. u8)) yes, (goes-none 𝓤 H A W 4 (λ _. Q.the-row) yes (λ κs x f. refl), (goes-gave-slice 𝓤 H A W 4 1 tt (plain (λ _. u8)), (goes-gave-slice 𝓤 H A W 4 2 tt (plain (λ _. R)), (goes-gave-slice 𝓤 H A W 4 3 tt (plain (λ _. u8)), tt))))) (ask′.clauses 𝓤 H A mem run)
     (WpFn 𝓤 H (𝓣 .C) (𝓣 .Λ) code.function) (WpFn-mono 𝓤 H (W .laws) 𝓣 code.function) (walks 𝓤 H A W mem run (𝓣 .C) (𝓣 .Λ) (fmOf 𝓤 H (W .laws) 𝓣) known-execute known-copy)
 
-pub run-spec : {M : Type 1} → stated.statement M
+pub ask-spec : {M : Type 1} → stated.statement M
 unfolding code.routine tablesOf
-run-spec 𝓤 H 𝓜 𝓖 𝓡 =
-    entered 𝓤 H (tripleOf 𝓤 H (𝓖 .A) run′.signature (run′.spec 𝓤 H (𝓖 .A) (𝓜 .mem) (𝓡 .run)))
-    (tables 𝓤 H 𝓜 𝓡 code.env .C) (tables 𝓤 H 𝓜 𝓡 code.env .Λ) #run code.function (code.unfolded 𝓤 H 𝓜 𝓡)
+ask-spec 𝓤 H 𝓜 𝓖 𝓡 =
+    entered 𝓤 H (tripleOf 𝓤 H (𝓖 .A) ask′.signature (ask′.spec 𝓤 H (𝓖 .A) (𝓜 .mem) (𝓡 .run)))
+    (tables 𝓤 H 𝓜 𝓡 code.env .C) (tables 𝓤 H 𝓜 𝓡 code.env .Λ) #ask code.function (code.unfolded 𝓤 H 𝓜 𝓡)
     (meets 𝓤 H (𝓖 .A) (givenOf 𝓤 H 𝓜 𝓖) (𝓜 .mem) (𝓡 .run) (tablesOf 𝓤 H 𝓜 (tables 𝓤 H 𝓜 𝓡 code.env))
     (cited 𝓤 H (Execute 𝓤 H (𝓖 .A) (𝓜 .mem) (𝓡 .run)) 𝓜 𝓡 code.env #execute execute-def.routine code.calls-running·execute (execute-thm.met 𝓤 H 𝓜 𝓖 𝓡))
     (cited 𝓤 H (CopyOut 𝓤 H (𝓖 .A) (𝓜 .mem) (𝓡 .run)) 𝓜 𝓡 code.env #copy-out copy-out-def.routine code.calls-ledger·copy-out (copy-out-thm.met 𝓤 H 𝓜 𝓖 𝓡)))
