@@ -1,8 +1,8 @@
 #!/usr/bin/env python3
-"""Writes the stored scenario files of commands into data/: the situations of document 01 and of change requests 1, 3 and 4, for each command each refusal
-alone and beside the next one of its order, and what loading refuses of a 43. A name says what is expected: c31_15_16 is a 31 to which 15 and 16 apply, and
-15 is its outcome; f07_43_... does not load, by 7.
-Usage: make.py [DIRECTORY [--expected]]"""
+"""Writes the stored scenario files of commands into data/: the situations of document 01 and of change requests 1, 3, 4 and 12, for each command each
+refusal alone and beside the next one of its order, and what loading refuses of a 43. A name says what is expected: c31_15_16 is a 31 to which 15 and 16
+apply, and 15 is its outcome; f07_43_... does not load, by 7.
+Usage: make.py [DIRECTORY [--expected | --stock]]: --expected prints the outcomes, --stock the questions on stocks of numbers with their answers."""
 import os
 import sys
 from collections import namedtuple
@@ -15,7 +15,7 @@ IAK, EK, DESK, DEVID = 0x0B, 0x0D, 0x0A, 0x0A
 class World:
     def __init__(self, *roles):
         self.roles, self.terms, self.setup, self.commands = list(roles), [], [], []
-        self.expected, self.fault = [], None
+        self.expected, self.fault, self.asked = [], None, []
 
     def term(self, kind, *body):
         record = bytes([kind, *body])
@@ -63,6 +63,11 @@ class World:
         """The last record does not load."""
         self.fault = number, len(self.file()) - len(self.commands[-1])
         return self
+
+    def stock(self, desk, iaks, boards=None, rest=None):
+        """What is answered on a desk's stock of numbers after all commands; without boards it is refused, Run's refusal first."""
+        refusal = self.fault or (39, 0)
+        self.asked.append((desk, iaks, "refused with %d at %d" % refusal if boards is None else "boards %d, numbers left over %d" % (boards, rest)))
 
     def file(self):
         return b"".join([bytes([0x01, r]) for r in self.roles] + self.terms + self.setup + self.commands)
@@ -705,6 +710,119 @@ def s_together_of_two_boards():
     w.issue_iaks(D, B2, b, a, gives=26)
     w.send(B2, B, w.nonce)
     w.issue_iaks(D, B, a, b)
+    return w
+
+
+# ---- situations of change request 12: boards left in the stock of numbers
+
+def stocked(w, desk, *ids):
+    """Numbers that a desk has from set-up."""
+    numbers = [w.number(id) for id in ids]
+    for t in numbers:
+        w.learns(desk, t)
+    return numbers
+
+
+@case
+def s_stock_of_a_line():
+    """An OEM desk has numbers for a line of boards with four IAKs each. One board is enrolled; two numbers of the rest were typed into the sheets of
+    another desk and of a board as well, so that the desk cannot use them."""
+    w, pairs = several(4)
+    rest = stocked(w, D, *range(200, 211))
+    w.learns(D2, rest[0])
+    w.learns(B2, rest[1])
+    w.issue_iaks(D, B, *pairs)
+    for _, c in pairs:
+        w.send(D, B, c)
+    w.stock(D, 4, 2, 1)
+    w.stock(D, 1, 9, 0)
+    w.stock(D, 2, 4, 1)
+    w.stock(D, 3, 3, 0)
+    w.stock(D, 9, 1, 0)
+    w.stock(D, 10, 0, 9)
+    w.stock(D, 2 ** 32 - 1, 0, 9)
+    w.stock(D2, 4, 0, 0)
+    for desk, iaks in (D, 0), (B, 4), (M, 4), (O, 4), (B2, 4), (6, 4), (7, 4), (255, 4), (6, 0):
+        w.stock(desk, iaks)
+    return w
+
+
+@case
+def s_stock_before_the_line():
+    """The same desk before its first command."""
+    w = shop()
+    stocked(w, D, *range(200, 211))
+    w.stock(D, 4, 2, 3)
+    w.stock(D2, 4, 0, 0)
+    return w
+
+
+@case
+def s_stock_of_two_desks():
+    """Each desk has its own numbers, and one that both have, which neither can use."""
+    w = shop()
+    both, *_ = stocked(w, D, *range(200, 205))
+    stocked(w, D2, *range(300, 307))
+    w.learns(D2, both)
+    w.stock(D, 4, 1, 0)
+    w.stock(D2, 4, 1, 3)
+    return w
+
+
+@case
+def s_stock_with_a_credential_not_sent():
+    """After a challenge the desk alone knows the credential, which is no number; its number is used."""
+    w = shop()
+    stocked(w, D, 200, 201)
+    request(w)
+    challenge(w)
+    w.stock(D, 1, 2, 0)
+    w.stock(D, 3, 0, 2)
+    return w
+
+
+@case
+def s_stock_after_a_refused_challenge():
+    """A refused challenge uses no number."""
+    w = shop()
+    stocked(w, D, 200)
+    request(w)
+    challenge(w, name=w.hash(w.ek), gives=27)
+    challenge(w, number=10)
+    w.stock(D, 1, 2, 0)
+    return w
+
+
+@case
+def s_stock_of_a_number_that_a_board_sends():
+    """A number that comes from a board is known to two."""
+    w = shop()
+    n, = stocked(w, B, 200)
+    w.send(B, D, n)
+    w.stock(D, 1, 0, 0)
+    return w
+
+
+@case
+def s_stock_of_an_owner_desk():
+    """An owner desk's numbers are nobody's stock."""
+    w = shop()
+    stocked(w, O, 200, 201, 202, 203)
+    w.stock(O, 4)
+    w.stock(D, 4, 0, 0)
+    return w
+
+
+@case
+def f03_stock_of_a_file_that_does_not_load():
+    """Run's refusal comes before 39."""
+    w = shop()
+    stocked(w, D, 200)
+    w.commands.append(bytes([0x44]))
+    w.refuses(3)
+    w.stock(D, 1)
+    w.stock(D, 0)
+    w.stock(B, 1)
     return w
 
 
@@ -2271,6 +2389,10 @@ def main():
         for name, make in sorted(CASES.items()):
             w = make()
             print(name, *("F", *w.fault) if w.fault else w.expected)
+    if "--stock" in sys.argv:
+        for name, make in sorted(CASES.items()):
+            for question in make().asked:
+                print(name, *question)
 
 
 if __name__ == "__main__":

@@ -18,7 +18,7 @@ use Rattle.rules.specs.Limits.{commandLimit, stateBytes}
 use Rattle.rules.specs.Lent.{success, refusal, runInNumbers, Lent, runAnswer, runLeaves}
 use Rattle.rules.specs.Stock.{boardsLeft, stockAnswer}
 use Rattle.rules.specs.Questions.{askInNumbers, countOf, answerOf, leavesOf}
-use Rattle.theorems.proofs.Asking.{refused-first, asked-loaded}
+use Rattle.theorems.proofs.Asking.{refused-first, asked-loaded, left-as-run}
 use Rattle.entries.specs.Words.{entriesIn}
 use Rattle.loaded.specs.Loaded.{fileIn}
 use Rattle.engine.specs.declared.Answered.{Answered}
@@ -67,13 +67,13 @@ module _ (bs : List ℕ) (lent : Lent) where
 
   pub ask-ran : (question : Question) (n : ℕ) → n ≡ countOf question → (s out w tables : List ℕ) (r : Answered) (x : AskAnswer) → Ran bs n lent s out w r
       → Left bs n (take stateBytes s) tables w (r .answer) (r .parties) (r .terms) → Answers (r .answer) question bs s x → AskRan bs question lent s out w (r .places) x
-  unfolding leavesOf
   ask-ran question n e s out w tables r x run left h =
       let run′ : Ran bs (countOf question) lent s out w r = subst (λ (m : ℕ). Ran bs m lent s out w r) e run in
+      let left′ : runLeaves bs (countOf question) lent ≡ leavesOf question bs lent = sym (left-as-run question bs lent) in
       record {
         answer = by-answer question (r .answer) (r .parties) (r .terms) s tables w x (run′ .answer) (subst (λ (m : ℕ). Left bs m (take stateBytes s) tables w (r .answer) (r .parties) (r .terms)) e left) h;
-        state = run′ .state;
-        outcomes = run′ .outcomes;
+        state = run′ .state ∙ ap (λ (y : Lent). y .state) left′;
+        outcomes = run′ .outcomes ∙ ap (λ (y : Lent). y .outcomes) left′;
         words = run′ .words;
         places = run′ .places;
       }

@@ -6,9 +6,8 @@ use rules::PathAnswer;
 use rules::Question;
 ghost use mathlib.Core.Path.{_≡_};
 ghost use lib.ListN.{getD};
-ghost use Rattle.rules.specs.Limits.{commandLimit};
 ghost use Rattle.rules.specs.Lent.{noEntry, loadAnswer, loadLeaves, runAnswer, runLeaves, pathInNumbers, pathAnswer, pathBuffers, pathLeaves};
-ghost use Rattle.rules.specs.Stock.{stockAnswer};
+ghost use Rattle.rules.specs.Stock.{stockAnswer, stockLeaves};
 ghost use Rattle.rules.specs.Questions.{askInNumbers};
 ghost use Rattle.engine.specs.Runs.{lentWith};
 ghost use Rattle.birdweekly.specs.Numbers.{numbersOf, loadNumbers, runNumbers, pathNumbers, stockNumbers};
@@ -184,9 +183,9 @@ pub extern "C" fn birdweekly_stock(
     iaks: u32,
 ) -> StockNumbers
     ensures { λ r. ⌜ (r ≡ stockNumbers (stockAnswer (now (file .entry)) (lentWith (now (state .entry)) (now (ledger .entry)) (now (outcomes .entry))) party iaks))
-        × (now (state .exit) ≡ runLeaves (now (file .entry)) commandLimit (lentWith (now (state .entry)) (now (ledger .entry)) (now (outcomes .entry))) .state)
-        × (now (ledger .exit) ≡ runLeaves (now (file .entry)) commandLimit (lentWith (now (state .entry)) (now (ledger .entry)) (now (outcomes .entry))) .ledger)
-        × (now (outcomes .exit) ≡ runLeaves (now (file .entry)) commandLimit (lentWith (now (state .entry)) (now (ledger .entry)) (now (outcomes .entry))) .outcomes) ⌝ }
+        × (now (state .exit) ≡ stockLeaves (now (file .entry)) (lentWith (now (state .entry)) (now (ledger .entry)) (now (outcomes .entry))) party iaks .state)
+        × (now (ledger .exit) ≡ stockLeaves (now (file .entry)) (lentWith (now (state .entry)) (now (ledger .entry)) (now (outcomes .entry))) party iaks .ledger)
+        × (now (outcomes .exit) ≡ stockLeaves (now (file .entry)) (lentWith (now (state .entry)) (now (ledger .entry)) (now (outcomes .entry))) party iaks .outcomes) ⌝ }
 {
     let answer = running::ask(file, Question::Stock(party, iaks), state, ledger, outcomes);
     stock_numbers(answer)

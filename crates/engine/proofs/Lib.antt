@@ -3,3 +3,4 @@ pub mod Ended
 pub mod Written
 pub mod Answers
 pub mod Refused
+pub mod All

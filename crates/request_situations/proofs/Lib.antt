@@ -1,3 +1,4 @@
 pub mod OfFamilies
 pub mod OfSubjects
 pub mod OfTogether
+pub mod OfStock

@@ -10,3 +10,7 @@ pub fn of_subjects() -> u64 {
 pub fn of_together() -> u64 {
     22
 }
+
+pub fn of_stock() -> u64 {
+    14
+}

@@ -16,6 +16,9 @@ use Rattle.rules.specs.State.{State, credentialOpen, nothing, taught, st
 use Rattle.rules.specs.Device.{deviceRole, keyHas, holdsHalf, hashTests, hashEffect, signTests, certifyTests, makeCredentialTests, activateCredentialTests, bothKnownTests, mayBeSentByDesk, maySend, sendTests, selfIssueTests, checkRole, checkTests}
 use Rattle.rules.specs.Desk.{requestBody, requestSignature, formTests, proofTests, knowers, numberTests, iakOf, ekCertificateOf, ekOf, challengeTests, challengeEffect, calledFor, endEk, allEndAt, issueIakTests, issueIakEffect, attestSignatureOf, newKeyOf, parentCertificateOf, issueTests, issueEffect, pairTests, certificatesOf, isAmong, anyTwice, issueIaksTests, issueIaksEffect}
 use Rattle.rules.specs.Run.{testsOf, effectOf, outcome, after, run, outcomes, firstCommands, reached, outcomesOf, zeros, others, accepted, refusals, issued}
+use Rattle.rules.specs.Limits.{commandLimit}
+use Rattle.rules.specs.Lent.{Answer, asked}
+use Rattle.rules.specs.Stock.{inStock, stockAmong, stock, boardsLeft}
 use Rattle.rules.specs.Listing.{digits, decimal, numbers, line, refusalLines, entryLines, lines, listing}
 
 pub data Result : Type 0 where
@@ -62,3 +65,8 @@ allOpen f = record { knows = λ p t. true; table = start f .table; mark = λ t. 
 unfoldable pub resultOpen : Load → List ℕ × List (ℕ × ℕ × ℕ)
 resultOpen (loaded f) = (outcomes f (commandsOf f) (allOpen f), triples (run f (commandsOf f) (allOpen f) .ledger))
 resultOpen (refused number place) = (number ∷ [], [])
+
+-- the boards left after all commands, by a party and the IAKs per board; "unfolding result boards" opens the rules
+unfoldable pub boards : List ℕ → ℕ → ℕ → Answer
+unfolding asked inStock stockAmong stock boardsLeft
+boards bytes party iaks = asked (boardsLeft party iaks) commandLimit (load bytes)

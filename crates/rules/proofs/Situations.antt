@@ -3,9 +3,12 @@ use mathlib.Core.Path.{_≡_, refl}
 use mathlib.Core.List.{List, [], _∷_, _++_}
 use Prim.Native.Nat.{ℕ, zero, suc, _+_, _*_}
 use Rattle.rules.specs.declared.Entry.{Entry}
+use Rattle.rules.specs.Limits.{commandLimit}
 use Rattle.rules.specs.Load.{load}
+use Rattle.rules.specs.Lent.{Lent, success, refusal, longEnough, runLeaves, askAnswer}
+use Rattle.rules.specs.Stock.{stockAnswer, stockLeaves}
 use Rattle.rules.specs.Listing.{listing}
-use Rattle.rules.proofs.Computed.{Result, ran, notLoaded, result, withLedger, outcomesWith, outcomesKnowing, allOpen, resultOpen}
+use Rattle.rules.proofs.Computed.{Result, ran, notLoaded, result, withLedger, outcomesWith, outcomesKnowing, allOpen, resultOpen, boards}
 use Rattle.rules.proofs.Records.{Bytes, written, aDevice, aTpmMaker, anOemDesk, anOwnerDesk, tpm, device, publicKey, privateKey, hash, signature, attest, credential, number, idevidRequest, ldevidRequest, certificate, pair, learns, holds, signsWith, makeHash, sign, certify, makeCredential, activateCredential, makeIdevidRequest, makeLdevidRequest, makePair, send, challenge, issueIak, issue, issueIaks, noPair}
 
 -- A file and what it gives.
@@ -74,13 +77,13 @@ bodyHash = 9
 abbrev bodySignature : ℕ
 bodySignature = 10
 
-abbrev request : ℕ
+abbrev pub request : ℕ
 request = 11
 
 abbrev pub iakHash : ℕ
 iakHash = 12
 
-abbrev theCredential : ℕ
+abbrev pub theCredential : ℕ
 theCredential = 13
 
 abbrev pub iakCertificate : ℕ
@@ -119,7 +122,7 @@ abbrev pub setup : List Bytes
 setup = signingKeys ++ (holds dev ekPrivate ∷ given)
 
 -- The commands. 35, 30, 31, 37, 3C: the request goes to the desk.
-abbrev ask : List Bytes
+abbrev pub ask : List Bytes
 ask = makeIdevidRequest dev body ∷ makeHash dev bodyHash ∷ sign dev bodySignature ∷ makePair dev request ∷ send dev oem request ∷ []
 
 -- 3E, 3C: the challenge goes to the device
@@ -662,3 +665,33 @@ deviceSigner = record { file = written (aDevice ∷ privateKey 5 0x0A ∷ holds 
 deviceSigner-holds : Holds deviceSigner
 unfolding result
 deviceSigner-holds = refl
+
+-- The desk's stock of numbers (request 12 of document 02), after a challenge whose credential it has not sent: of terms 15 to 17, numbers that it
+-- knows, the device knows 16 too; of 7 it knows that it is used. Two numbers are no whole board of three IAKs.
+abbrev pub stocked : Bytes
+stocked =
+    written
+    (parties
+    ++ terms
+    ++ (number 20 ∷ number 21 ∷ number 22 ∷ [])
+    ++ setup
+    ++ (learns oem 15 ∷ learns oem 16 ∷ learns dev 16 ∷ learns oem 17 ∷ [])
+    ++ ask
+    ++ (challenge oem request theCredential ∷ []))
+
+stocked-gives : boards stocked oem 3 ≡ success (0 ∷ 2 ∷ [])
+unfolding result boards
+stocked-gives = refl
+
+-- No buffers and no IAKs per board: 1 and not 39.
+unlent : Lent
+unlent = record { state = []; ledger = []; outcomes = [] }
+
+unlent-refused : stockAnswer [] unlent 0 0 ≡ refusal 1 0
+unfolding unlent longEnough askAnswer stockAnswer
+unlent-refused = refl
+
+-- At 39, too, the buffers are as Run leaves them.
+left-at-39 : (bytes : Bytes) (lent : Lent) → stockLeaves bytes lent 0 0 ≡ runLeaves bytes commandLimit lent
+unfolding stockLeaves
+left-at-39 bytes lent = refl

@@ -7,7 +7,7 @@ use Rattle.rules.specs.declared.AskAnswer.{AskAnswer}
 use Rattle.rules.specs.declared.AskAnswer.the-variants as told
 use Rattle.rules.specs.Limits.{commandLimit}
 use Rattle.rules.specs.Lent.{Answer, success, refusal, Lent, runAnswer, runLeaves}
-use Rattle.rules.specs.Stock.{stockAnswer}
+use Rattle.rules.specs.Stock.{stockAnswer, stockLeaves}
 
 -- what an answer of the code is in numbers
 unfoldable pub askInNumbers : AskAnswer → Answer
@@ -25,6 +25,7 @@ unfoldable pub answerOf : Question → List ℕ → Lent → Answer
 answerOf (Totals n) bs lent = runAnswer bs n lent
 answerOf (Stock party iaks) bs lent = stockAnswer bs lent party iaks
 
--- the buffers are left as Run leaves them
+-- the buffers after it
 unfoldable pub leavesOf : Question → List ℕ → Lent → Lent
-leavesOf question bs lent = runLeaves bs (countOf question) lent
+leavesOf (Totals n) bs lent = runLeaves bs n lent
+leavesOf (Stock party iaks) bs lent = stockLeaves bs lent party iaks

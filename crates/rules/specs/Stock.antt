@@ -9,7 +9,7 @@ use Rattle.rules.specs.Term.{numberKind}
 use Rattle.rules.specs.File.{File, isRole, isKind}
 use Rattle.rules.specs.State.{State, numberUsed}
 use Rattle.rules.specs.Desk.{knowers}
-use Rattle.rules.specs.Lent.{Answer, success, refusal, Lent, askAnswer}
+use Rattle.rules.specs.Lent.{Answer, success, refusal, Lent, runLeaves, askAnswer}
 
 -- "the unused numbers that this desk alone knows"
 unfoldable pub inStock : File → State → ℕ → ℕ → Bool
@@ -32,3 +32,7 @@ boardsLeft party iaks f s =
 -- The call's answer for a file, buffers, a party and the IAKs per board: all commands are run, and no file has more than commandLimit.
 unfoldable pub stockAnswer : List ℕ → Lent → ℕ → ℕ → Answer
 stockAnswer bs lent party iaks = askAnswer (boardsLeft party iaks) bs commandLimit lent
+
+-- the buffers after it: as Run leaves them, also at 39
+unfoldable pub stockLeaves : List ℕ → Lent → ℕ → ℕ → Lent
+stockLeaves bs lent party iaks = runLeaves bs commandLimit lent

@@ -1,6 +1,6 @@
 -- Laws of the calls above Run (`specs/AskLaws.antt`), proved.
---     refused-first, asked-after     the laws
---     asked-loaded                   what is answered of a file that loads
+--     refused-first, asked-after, left-as-run     the laws
+--     asked-loaded                                what is answered of a file that loads
 -- Assumes nothing.
 use mathlib.Core.Path.{_≡_, refl, sym, ap, _∙_}
 use mathlib.Core.Bool.{Bool, true, false, cond}
@@ -8,12 +8,15 @@ use mathlib.Core.List.{List, [], _∷_}
 use Prim.Native.Nat.{ℕ}
 use native.Mathlib.Omega.{arith}
 use lib.ListN.{length}
+use Rattle.rules.specs.declared.Question.the-variants.{Totals, Stock}
 use Rattle.rules.specs.File.{File}
 use Rattle.rules.specs.Load.{Load, loaded, refused, load}
 use Rattle.rules.specs.State.{State}
 use Rattle.rules.specs.Run.{reached}
 use Rattle.rules.specs.Lent.{Answer, success, refusal, Lent, longEnough, answered, runAnswer, asked, askAnswer}
-use Rattle.theorems.specs.AskLaws.{RefusedFirst, AskedAfter, AskLaws}
+use Rattle.rules.specs.Stock.{stockLeaves}
+use Rattle.rules.specs.Questions.{countOf, leavesOf}
+use Rattle.theorems.specs.AskLaws.{RefusedFirst, AskedAfter, LeftAsRun, AskLaws}
 
 -- an answer with values is no refusal
 no-values : {x : ℕ} {xs : List ℕ} (number place : ℕ) → success (x ∷ xs) ≡ refusal number place → ⊥
@@ -52,5 +55,10 @@ pub asked-after : AskedAfter
 unfolding runAnswer askAnswer
 asked-after question bytes n lent a r i e = totals-long question n bytes lent (longEnough lent) a r i e
 
+pub left-as-run : LeftAsRun
+unfolding countOf leavesOf stockLeaves
+left-as-run (Totals n) bytes lent = refl
+left-as-run (Stock party iaks) bytes lent = refl
+
 pub ask-laws : AskLaws
-ask-laws = record { refusedFirst = refused-first; askedAfter = asked-after }
+ask-laws = record { refusedFirst = refused-first; askedAfter = asked-after; leftAsRun = left-as-run }

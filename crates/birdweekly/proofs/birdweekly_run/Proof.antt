@@ -43,7 +43,7 @@ use Rattle.rules.specs.declared.Question.the-variants.{Totals}
 use Rattle.rules.specs.declared.AskAnswer.{AskAnswer as Answer}
 use Rattle.rules.specs.Lent.{Lent, runAnswer, runLeaves}
 use Rattle.engine.specs.Runs.{lentWith}
-use Rattle.rules.specs.Questions.{askInNumbers, countOf, answerOf, leavesOf}
+use Rattle.rules.specs.Questions.{askInNumbers, answerOf, leavesOf}
 use Rattle.birdweekly.specs.Numbers.{runNumbers}
 use Rattle.birdweekly.specs.declared.RunNumbers.{RunNumbers as Struct}
 use Rattle.rules.proofs.Question as Q
@@ -122,7 +122,7 @@ module _ {M : Type 1} (𝓤 : URA M) (H : Heap 𝓤) (A : Atoms 𝓤) (W : Given
 
   promised : (r : Answer) (zs : List ℕ) (zl : List Entry) (zo : List ℕ) → Done r zs zl zo
       → (askInNumbers r ≡ runAnswer (xf .now) nn lent) × (zs ≡ runLeaves (xf .now) nn lent .state) × (zl ≡ runLeaves (xf .now) nn lent .ledger) × (zo ≡ runLeaves (xf .now) nn lent .outcomes)
-  unfolding countOf answerOf leavesOf
+  unfolding answerOf leavesOf
   promised r zs zl zo ok = ok
 
   exits : (r : Answer) (m : Struct) (v : Val) (zs : List ℕ) (zl : List Entry) (zo : List ℕ) → Done r zs zl zo → m ≡ runNumbers (askInNumbers r) → length zs ≡ length (xs .now) → length zl ≡ length (xl .now) → length zo ≡ length (xo .now)

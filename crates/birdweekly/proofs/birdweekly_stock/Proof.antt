@@ -41,11 +41,10 @@ use Rattle.rules.specs.declared.Entry.{Entry}
 use Rattle.rules.specs.declared.Question.{Question}
 use Rattle.rules.specs.declared.Question.the-variants.{Stock}
 use Rattle.rules.specs.declared.AskAnswer.{AskAnswer as Answer}
-use Rattle.rules.specs.Limits.{commandLimit}
-use Rattle.rules.specs.Lent.{Lent, runLeaves}
-use Rattle.rules.specs.Stock.{stockAnswer}
+use Rattle.rules.specs.Lent.{Lent}
+use Rattle.rules.specs.Stock.{stockAnswer, stockLeaves}
 use Rattle.engine.specs.Runs.{lentWith}
-use Rattle.rules.specs.Questions.{askInNumbers, countOf, answerOf, leavesOf}
+use Rattle.rules.specs.Questions.{askInNumbers, answerOf, leavesOf}
 use Rattle.birdweekly.specs.Numbers.{stockNumbers}
 use Rattle.birdweekly.specs.declared.StockNumbers.{StockNumbers as Struct}
 use Rattle.rules.proofs.Question as Q
@@ -123,8 +122,8 @@ module _ {M : Type 1} (𝓤 : URA M) (H : Heap 𝓤) (A : Atoms 𝓤) (W : Given
   Done = Asked.Done 𝓤 H A W mem run κf κs κl κo qf qs ql qo xf xs xl xo qn
 
   promised : (r : Answer) (zs : List ℕ) (zl : List Entry) (zo : List ℕ) → Done r zs zl zo
-      → (askInNumbers r ≡ stockAnswer (xf .now) lent pp kk) × (zs ≡ runLeaves (xf .now) commandLimit lent .state) × (zl ≡ runLeaves (xf .now) commandLimit lent .ledger) × (zo ≡ runLeaves (xf .now) commandLimit lent .outcomes)
-  unfolding countOf answerOf leavesOf
+      → (askInNumbers r ≡ stockAnswer (xf .now) lent pp kk) × (zs ≡ stockLeaves (xf .now) lent pp kk .state) × (zl ≡ stockLeaves (xf .now) lent pp kk .ledger) × (zo ≡ stockLeaves (xf .now) lent pp kk .outcomes)
+  unfolding answerOf leavesOf
   promised r zs zl zo ok = ok
 
   exits : (r : Answer) (m : Struct) (v : Val) (zs : List ℕ) (zl : List Entry) (zo : List ℕ) → Done r zs zl zo → m ≡ stockNumbers (askInNumbers r) → length zs ≡ length (xs .now) → length zl ≡ length (xl .now) → length zo ≡ length (xo .now)

@@ -1,7 +1,7 @@
 -- `running::ask` meets its contract: a walk of its MIR, by hand, with no branch and no loop. `asking::ask` is called on the plain slices; its words are copied into a local, which is lent to `copy_out` with the ledger.
 -- The `&mut` slices are given to the callees for good (`gave-slice`). What is known of the two callees is that they meet their contracts.
 -- Assumes nothing.
-use mathlib.Core.Path.{_≡_, refl, _∙_, ap}
+use mathlib.Core.Path.{_≡_, refl, sym, _∙_, ap}
 use Prim.Native.Nat.{ℕ, _<_, _≤_, _^_}
 use mathlib.Core.List.{[], _∷_, List, map}
 use lib.ListN.{length}
@@ -48,7 +48,9 @@ use Rattle.rules.specs.declared.Question.{Question}
 use Rattle.ledger.specs.Filled.{filled}
 use Rattle.running.specs.declared.Core.{Core as Core}
 use Rattle.rules.specs.Limits.{termLimit}
+use Rattle.rules.specs.Lent.{Lent}
 use Rattle.rules.specs.Questions.{countOf, leavesOf}
+use Rattle.theorems.proofs.Asking.{left-as-run}
 use Rattle.engine.specs.Runs.{lentWith}
 use Rattle.asking.specs.Asks.{Asks}
 use Rattle.running.proofs.Local.{Words, part-of, room-of}
@@ -138,8 +140,9 @@ module _ {M : Type 1} (𝓤 : URA M) (H : Heap 𝓤) (A : Atoms 𝓤) (W : Given
 
   -- the ledger that is filled from its words
   left : (r : Core) {zs zo : List ℕ} → Done r zs zo → (filled (r .words) (r .places) es ≡ leavesOf qn (xf .now) (lentWith (xs .now) es (xo .now)) .ledger) × (r .places ≤ length es) × (r .places ≤ termLimit)
-  unfolding leavesOf
-  left r ok = ledger-left (xf .now) (countOf qn) (lentWith (xs .now) es (xo .now)) (r .words) (r .places) (ok es refl .words) (ok es refl .places)
+  left r ok =
+      let w = ledger-left (xf .now) (countOf qn) (lentWith (xs .now) es (xo .now)) (r .words) (r .places) (ok es refl .words) (ok es refl .places) in
+      (w .0 ∙ sym (ap (λ (y : Lent). y .ledger) (left-as-run qn (xf .now) (lentWith (xs .now) es (xo .now)))), w .1, w .2)
 
   exits : (r : Core) (zs : List ℕ) (zl : List Entry) (zo : List ℕ) → Done r zs zo → zl ≡ filled (r .words) (r .places) es → length zs ≡ length (xs .now) → length zl ≡ length (xl .now) → length zo ≡ length (xo .now) → Is N.the-row (r .answer) (said r ∷ [])
       → ent 𝓤 (⋆ 𝓤 H A ((‵ (flft κf qf) ⊛ ‵ (flft κs qs) ⊛ ‵ (flft κo qo) ⊛ ‵ ftrue) ∷ ‵ (flft κl ql) ∷ ‵ File ∷ ‵ (finally u8 (xs .name) zs) ∷ ‵ (finally R (xl .name) zl) ∷ ‵ (finally u8 (xo .name) zo) ∷ [])) (Post (said r))
