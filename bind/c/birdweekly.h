@@ -1,9 +1,9 @@
 /* Birdweekly for C: link target/staticlib/libbirdweekly.a (rt staticlib birdweekly).
 
-   Every call takes any bytes and lent buffers of any length; a null pointer with length 0 is fine. The answer of load, run
-   and path has number 0 (place 0 then) and its values, or a refusal with its number and place, and values 0. Every place
-   of every buffer is fixed in each case: refusals 1 and 2 leave all untouched, 3 to 12 leave the first parts zero; what
-   lies beyond the first parts is never touched. Nothing is allocated, and calls share nothing: they may run on as many
+   Every call takes any bytes and lent buffers of any length; a null pointer with length 0 is fine. An answer has number
+   0 (place 0 then) and its values, or a refusal with its number and place, and values 0. Every place of every buffer is
+   fixed in each case: refusals 1 and 2 leave all untouched, 3 to 12 leave the first parts zero; what lies beyond the
+   first parts is never touched. Nothing is allocated, and calls share nothing: they may run on as many
    threads as there are, each with buffers of its own. Buffers of one call must not overlap. */
 #ifndef BIRDWEEKLY_H
 #define BIRDWEEKLY_H
@@ -33,6 +33,10 @@ typedef struct {
     uint32_t number, place, steps;
 } birdweekly_path_numbers;
 
+typedef struct {
+    uint32_t number, place, boards, rest;
+} birdweekly_stock_numbers;
+
 /* Loads a scenario file: the state that its set-up leaves, 8 bytes a term. */
 birdweekly_load_numbers birdweekly_load(const uint8_t *file, size_t file_len, uint8_t *state, size_t state_len);
 
@@ -46,6 +50,13 @@ birdweekly_run_numbers birdweekly_run(const uint8_t *file, size_t file_len, size
 birdweekly_path_numbers birdweekly_path(const uint8_t *file, size_t file_len, size_t n, uint8_t *state, size_t state_len,
                                         birdweekly_entry *ledger, size_t ledger_len, uint8_t *outcomes, size_t outcomes_len,
                                         uint16_t term, uint16_t *list, size_t list_len);
+
+/* Runs all commands, and tells how many whole boards the unused numbers that an OEM desk alone knows are enough for, and how
+   many of them are left over. Run's refusals come first; 39 (place 0) when the IAKs per board are 0 or the party is no OEM
+   desk. The buffers are as birdweekly_run leaves them, at 39 too. */
+birdweekly_stock_numbers birdweekly_stock(const uint8_t *file, size_t file_len, uint8_t *state, size_t state_len,
+                                          birdweekly_entry *ledger, size_t ledger_len, uint8_t *outcomes, size_t outcomes_len,
+                                          uint8_t party, uint32_t iaks_per_board);
 
 /* The entry at place i of a ledger of any length; zeros beyond its end. */
 birdweekly_entry birdweekly_entry_at(const birdweekly_entry *ledger, size_t ledger_len, size_t i);

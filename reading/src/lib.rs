@@ -1,9 +1,9 @@
-//! A second reading of "Rehearsing DevID enrolment", with points 1 to 5 of its
-//! change requests, written from those texts alone, to test another
+//! A second reading of "Rehearsing DevID enrolment", with points 1 to 5 and 12
+//! of its change requests, written from those texts alone, to test another
 //! implementation against.
 //!
 //! The numbers in the comments are the kinds of records (hexadecimal, as in
-//! the paper) and the refusals 1 to 32 but 22 (decimal).
+//! the paper) and the refusals 1 to 32 but 22, and 39 (decimal).
 
 #![forbid(unsafe_code)]
 
@@ -67,6 +67,13 @@ pub enum RunAnswer {
 #[derive(Debug, Clone, Copy, PartialEq, Eq)]
 pub enum PathAnswer {
     Steps(u32),
+    Refused { number: u32, place: u32 },
+}
+
+/// What `stock` answers.
+#[derive(Debug, Clone, Copy, PartialEq, Eq)]
+pub enum StockAnswer {
+    Boards { boards: u32, rest: u32 },
     Refused { number: u32, place: u32 },
 }
 
@@ -144,6 +151,37 @@ pub fn path(
     PathAnswer::Steps(path.len() as u32 - 1)
 }
 
+/// Runs all commands, then tells for how many whole boards the numbers of an
+/// OEM desk last, and how many numbers are left over.
+pub fn stock(
+    file: &[u8],
+    state: &mut [u8],
+    ledger: &mut [Entry],
+    outcomes: &mut [u8],
+    party: u8,
+    iaks_per_board: u32,
+) -> StockAnswer {
+    let world = match run_world(file, usize::MAX, state, ledger, outcomes) {
+        Err(Refusal { number, place }) => return StockAnswer::Refused { number, place },
+        Ok((world, _, _)) => world,
+    };
+    let oem_desk = match world.parties.get(usize::from(party)) {
+        Some(declared) => declared.role == OEM_DESK,
+        None => false,
+    };
+    if iaks_per_board == 0 || !oem_desk {
+        return StockAnswer::Refused {
+            number: 39,
+            place: 0,
+        };
+    }
+    let stock = world.stock(party);
+    StockAnswer::Boards {
+        boards: stock / iaks_per_board,
+        rest: stock % iaks_per_board,
+    }
+}
+
 /// What the listing program prints for a file.
 pub fn listing(file: &[u8]) -> Vec<u8> {
     let mut state = vec![0; STATE_BYTES];
@@ -176,8 +214,9 @@ pub fn listing(file: &[u8]) -> Vec<u8> {
     text.into_bytes()
 }
 
-/// The common part of `run` and `path`: checks the buffers, loads, executes
-/// and writes the buffers. Gives the world, the accepted and the refused.
+/// The common part of `run`, `path` and `stock`: checks the buffers, loads,
+/// executes and writes the buffers. Gives the world, the accepted and the
+/// refused.
 fn run_world(
     file: &[u8],
     n: usize,
@@ -689,6 +728,27 @@ impl World {
             .iter()
             .filter(|entry| self.certificate(entry.certificate).subject == subject)
             .all(|entry| self.end_of_path(entry.certificate) == ek)
+    }
+
+    /// How many unused numbers a declared party knows and no other does.
+    fn stock(&self, desk: u8) -> u32 {
+        let mut stock = 0;
+        for t in 0..self.terms.len() as u16 {
+            let Term::Number { .. } = self.term(t) else {
+                continue;
+            };
+            let mut knowing = Vec::new();
+            for party in 0..self.parties.len() as u8 {
+                if self.known(t, party) {
+                    knowing.push(party);
+                }
+            }
+            let used = self.states[usize::from(t)].mark == NUMBER_USED;
+            if knowing == [desk] && !used {
+                stock += 1;
+            }
+        }
+        stock
     }
 
     /// A pair of a 17 with device Subject and a 13 over a 12.

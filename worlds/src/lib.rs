@@ -1056,6 +1056,24 @@ impl Town {
         number
     }
 
+    /// Numbers that no challenge asks for: an OEM desk's own, shared with another party, of another party alone, of nobody.
+    fn spare(&mut self, mut rng: Rng) {
+        for i in 0..rng.below(24) {
+            if self.draft.terms.len() >= 1_000 {
+                return;
+            }
+            let number = self.draft.number(30_000 + i as u16);
+            if rng.chance(85) {
+                let oem = self.oems[rng.below(self.oems.len())].party;
+                self.learns(oem, number);
+            }
+            if rng.chance(25) {
+                let other = rng.below(self.draft.roles.len()) as u8;
+                self.learns(other, number);
+            }
+        }
+    }
+
     /// A certificate of a device's first endorsement key, or of any other.
     fn endorsement(&mut self, d: usize, other: bool) -> (Key, u16) {
         let all = &self.devices[d].endorsements;
@@ -1827,6 +1845,7 @@ pub fn world(seed: u64) -> Vec<u8> {
         _ => 600 + rng.below(425),
     };
     let mut town = town(rng, budget);
+    town.spare(Rng::new(seed, 2));
     if town.rng.chance(10) {
         // Up to the last term, and rarely past it.
         let limit = if town.rng.chance(90) { 1_024 } else { 1_025 };

@@ -3,8 +3,8 @@
 //! The engine takes a scenario file, a factory's enrolment procedure as symbolic commands, and says which commands a
 //! certificate desk accepts, which certificates come out and how each leads back to an endorsement key.
 //!
-//! [`load`], [`run`] and [`path`] take any bytes and lent buffers of any length: the answer is a result or one refusal
-//! with its number and place, and every byte of every buffer is fixed in each case. [`Buffers`] owns buffers of the
+//! [`load`], [`run`], [`path`] and [`stock`] take any bytes and lent buffers of any length: the answer is a result or one
+//! refusal with its number and place, and every byte of every buffer is fixed in each case. [`Buffers`] owns buffers of the
 //! right sizes, and reads them:
 //!
 //! ```
@@ -49,7 +49,7 @@ pub struct Entry {
 }
 
 /// Why a call gave no result: 1 (a buffer is short), 2 (the file is too long), 3 to 12 (the file does not load), 30
-/// (no issued certificate); and the place of the record, or for 30 the term.
+/// (no issued certificate), 39 (no IAKs per board, or no OEM desk); and the place of the record, for 30 the term, for 39 0.
 #[derive(Debug, Clone, Copy, PartialEq, Eq)]
 pub struct Refusal {
     pub number: u32,
@@ -84,6 +84,13 @@ pub enum PathAnswer {
     Refused(Refusal),
 }
 
+#[derive(Debug, Clone, Copy, PartialEq, Eq)]
+pub enum StockAnswer {
+    /// Whole boards that a desk's stock of numbers is enough for, and the numbers left over.
+    Boards { boards: u32, rest: u32 },
+    Refused(Refusal),
+}
+
 mod raw {
     use super::Entry;
 
@@ -110,6 +117,14 @@ mod raw {
         pub number: u32,
         pub place: u32,
         pub steps: u32,
+    }
+
+    #[repr(C)]
+    pub struct StockNumbers {
+        pub number: u32,
+        pub place: u32,
+        pub boards: u32,
+        pub rest: u32,
     }
 
     extern "C" {
@@ -141,6 +156,19 @@ mod raw {
             list: *mut u16,
             list_len: usize,
         ) -> PathNumbers;
+
+        pub fn birdweekly_stock(
+            file: *const u8,
+            file_len: usize,
+            state: *mut u8,
+            state_len: usize,
+            ledger: *mut Entry,
+            ledger_len: usize,
+            outcomes: *mut u8,
+            outcomes_len: usize,
+            party: u8,
+            iaks_per_board: u32,
+        ) -> StockNumbers;
 
         pub fn birdweekly_entry_at(ledger: *const Entry, ledger_len: usize, i: usize) -> Entry;
     }
@@ -210,6 +238,37 @@ pub fn path(
     }
 }
 
+/// Runs all commands, and tells how many whole boards the unused numbers that an OEM desk alone knows are enough for,
+/// and how many of them are left over. Refused with 39 where there are no IAKs per board or the party is no OEM desk; the
+/// buffers are as [`run`] leaves them then too.
+pub fn stock(
+    file: &[u8],
+    state: &mut [u8],
+    ledger: &mut [Entry],
+    outcomes: &mut [u8],
+    party: u8,
+    iaks_per_board: u32,
+) -> StockAnswer {
+    let n = unsafe {
+        raw::birdweekly_stock(
+            file.as_ptr(),
+            file.len(),
+            state.as_mut_ptr(),
+            state.len(),
+            ledger.as_mut_ptr(),
+            ledger.len(),
+            outcomes.as_mut_ptr(),
+            outcomes.len(),
+            party,
+            iaks_per_board,
+        )
+    };
+    match n.number {
+        0 => StockAnswer::Boards { boards: n.boards, rest: n.rest },
+        number => StockAnswer::Refused(Refusal { number, place: n.place }),
+    }
+}
+
 /// The entry at a place of a ledger; zeros beyond its end.
 pub fn entry_at(ledger: &[Entry], i: usize) -> Entry {
     unsafe { raw::birdweekly_entry_at(ledger.as_ptr(), ledger.len(), i) }
@@ -252,6 +311,17 @@ impl Buffers {
     /// Runs all commands of a file.
     pub fn run_all(&mut self, file: &[u8]) -> RunAnswer {
         self.run(file, usize::MAX)
+    }
+
+    /// Runs all commands of a file, and asks: the call leaves what the run left, whose totals it does not tell.
+    fn ask<T>(&mut self, file: &[u8], call: impl FnOnce(&[u8], &mut [u8], &mut [Entry], &mut [u8]) -> T) -> T {
+        self.run_all(file);
+        call(file, &mut self.state, &mut self.ledger, &mut self.outcomes)
+    }
+
+    /// Runs all commands of a file, and tells the boards left in a desk's stock of numbers; see [`stock`].
+    pub fn stock(&mut self, file: &[u8], party: u8, iaks_per_board: u32) -> StockAnswer {
+        self.ask(file, |file, state, ledger, outcomes| stock(file, state, ledger, outcomes, party, iaks_per_board))
     }
 
     /// The path of a certificate that the last run issued, from it to its endorsement certificate; none for another term.

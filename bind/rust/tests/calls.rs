@@ -1,6 +1,8 @@
 //! What each call answers and leaves, on the paper's example and on an honest enrolment.
 
-use birdweekly::{entry_at, load, path, run, Buffers, Entry, LoadAnswer, PathAnswer, Refusal, RunAnswer, STATE_BYTES};
+use birdweekly::{
+    entry_at, load, path, run, stock, Buffers, Entry, LoadAnswer, PathAnswer, Refusal, RunAnswer, StockAnswer, STATE_BYTES,
+};
 
 const EXAMPLE: [u8; 30] = [
     0x01, 0x00, 0x10, 0x00, 0x05, 0x0B, 0x11, 0x00, 0x05, 0x0B, 0x12, 0x00, 0x00, 0x13, 0x00, 0x02, 0x00, 0x01, 0x20, 0x00,
@@ -12,6 +14,9 @@ const CHAIN: &[u8] = include_bytes!("../../../crates/cases/data/s_depth_8");
 
 /// All four families of certificates.
 const FAMILIES: &[u8] = include_bytes!("../../../crates/cases/data/s_idevid_and_ldevid");
+
+/// A board with four IAKs enrolled; the desk, party 2, has eleven numbers more, two of which others know too.
+const LINE: &[u8] = include_bytes!("../../../crates/cases/data/s_stock_of_a_line");
 
 #[test]
 fn the_example_loads() {
@@ -87,6 +92,37 @@ fn four_families_of_one_board() {
     assert_eq!(steps, [ldevid.certificate, lak.certificate, iak.certificate, iak.parent]);
     let steps: Vec<u16> = buffers.path(idevid.certificate).unwrap().collect();
     assert_eq!(steps, [idevid.certificate, iak.certificate, iak.parent]);
+}
+
+#[test]
+fn boards_left_in_the_stock_of_numbers() {
+    let mut buffers = Buffers::new();
+    assert_eq!(buffers.stock(LINE, 2, 4), StockAnswer::Boards { boards: 2, rest: 1 });
+    // What the commands left is read as after a run of them all.
+    assert_eq!(buffers.ledger().count(), 4);
+    assert_eq!(buffers.outcomes().iter().filter(|&&o| o != 0).count(), 0);
+    let mut ran = Buffers::new();
+    ran.run_all(LINE);
+    assert!(buffers.state() == ran.state() && buffers.ledger().eq(ran.ledger()) && buffers.outcomes() == ran.outcomes());
+
+    // 39 leaves the same, Run's refusals what they leave, and nothing beyond the first parts is touched.
+    let refused = |number, place| StockAnswer::Refused(Refusal { number, place });
+    let other = Entry { certificate: 9, parent: 9, depth: 9 };
+    for (party, iaks) in [(2, 0), (0, 4), (3, 4), (6, 4), (255, 0)] {
+        let (mut state, mut ledger, mut outcomes) = (vec![7; STATE_BYTES + 1], vec![other; 1_025], vec![7; 8_193]);
+        assert_eq!(stock(LINE, &mut state, &mut ledger, &mut outcomes, party, iaks), refused(39, 0));
+        assert_eq!(state[..STATE_BYTES], *ran.state());
+        assert!(ledger[..4].iter().copied().eq(ran.ledger()) && ledger[4..1_024].iter().all(|&e| e == Entry::default()));
+        assert_eq!(outcomes[..ran.outcomes().len()], *ran.outcomes());
+        assert_eq!((state[STATE_BYTES], ledger[1_024], outcomes[8_192]), (7, other, 7));
+        assert_eq!(stock(&LINE[..LINE.len() - 1], &mut state, &mut ledger, &mut outcomes, party, iaks), refused(4, LINE.len() as u32 - 5));
+        assert!(state[..STATE_BYTES].iter().all(|&b| b == 0) && ledger[..1_024].iter().all(|&e| e == Entry::default()));
+        assert_eq!(stock(LINE, &mut state[1..STATE_BYTES], &mut ledger, &mut outcomes, party, iaks), refused(1, 0));
+        assert_eq!(buffers.stock(LINE, party, iaks), refused(39, 0));
+        assert_eq!(buffers.ledger().count(), 4);
+    }
+    assert_eq!(buffers.stock(&[0; 32_769], 2, 4), refused(2, 0));
+    assert_eq!(buffers.ledger().count(), 0);
 }
 
 #[test]

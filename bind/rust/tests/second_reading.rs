@@ -1,4 +1,4 @@
-//! Load, Run and Path beside the second reading of document 01 (`../../reading`, written from the paper alone): on any
+//! Load, Run, Path and the stock of numbers beside the second reading of document 01 (`../../reading`, written from the paper alone): on any
 //! file, count and buffers the same answer, and the same in every lent place, guard places beyond the first parts too.
 //!
 //! 1,500 seeds (some seconds), unless BIRDWEEKLY_SEEDS says how many; BIRDWEEKLY_FIRST the first of them:
@@ -6,8 +6,8 @@
 //!     BIRDWEEKLY_SEEDS=1000000 cargo test --offline --release --test second_reading -- --nocapture
 
 use birdweekly::{
-    load, path, run, Entry, LoadAnswer, PathAnswer, Refusal, RunAnswer, LEDGER_ENTRIES, OUTCOME_BYTES, PATH_PLACES,
-    STATE_BYTES,
+    load, path, run, stock, Entry, LoadAnswer, PathAnswer, Refusal, RunAnswer, StockAnswer, LEDGER_ENTRIES, OUTCOME_BYTES,
+    PATH_PLACES, STATE_BYTES,
 };
 use worlds::Rng;
 
@@ -45,6 +45,26 @@ fn count(rng: &mut Rng, file: &[u8]) -> usize {
         1 => rng.below(30),
         2 => rng.below(file.len() / 4 + 2),
         _ => file.len(),
+    }
+}
+
+/// A party of the file that is an OEM desk, mostly; else any number.
+fn desk(rng: &mut Rng, file: &[u8]) -> u8 {
+    let roles: Vec<u8> = file.chunks_exact(2).take_while(|record| record[0] == 0x01).map(|record| record[1]).collect();
+    let desks: Vec<u8> = (0..roles.len().min(255) as u8).filter(|&p| roles[p as usize] == 2).collect();
+    match rng.below(10) {
+        0 => rng.byte(),
+        1 | 2 => rng.below(9) as u8,
+        _ => rng.try_pick(&desks).unwrap_or(0),
+    }
+}
+
+fn iaks_per_board(rng: &mut Rng) -> u32 {
+    match rng.below(12) {
+        0 => 0,
+        1 => rng.next() as u32,
+        2 => 1 + rng.below(300) as u32,
+        _ => 1 + rng.below(6) as u32,
     }
 }
 
@@ -89,13 +109,17 @@ fn refused(refusal: Refusal) -> String {
 }
 
 /// How often each number occurred.
-type Counts = [u64; 33];
+type Counts = [u64; 40];
 
 struct Seen {
     runs: u64,
     issued: u64,
     depth_8: u64,
     paths: u64,
+    /// Answers on the stock of numbers, those with a whole board and those with a rest.
+    stocks: u64,
+    boards: u64,
+    rests: u64,
     refusals: Counts,
     outcomes: Counts,
     /// Outcomes of 3F, of 40, of 41, of 42 and of 43.
@@ -104,8 +128,19 @@ struct Seen {
 
 impl Seen {
     fn new() -> Seen {
-        let none = [0; 33];
-        Seen { runs: 0, issued: 0, depth_8: 0, paths: 0, refusals: none, outcomes: none, issuing: [none; 5] }
+        let none = [0; 40];
+        Seen {
+            runs: 0,
+            issued: 0,
+            depth_8: 0,
+            paths: 0,
+            stocks: 0,
+            boards: 0,
+            rests: 0,
+            refusals: none,
+            outcomes: none,
+            issuing: [none; 5],
+        }
     }
 }
 
@@ -170,7 +205,7 @@ fn compare(name: &str, seed: u64, file: &[u8], rng: &mut Rng, seen: &mut Seen) {
         1 => rng.next() as u16,
         _ => rng.try_pick(&issued).unwrap_or(1_024),
     };
-    let (mut mine, mut other) = (lent.clone(), lent);
+    let (mut mine, mut other) = (lent.clone(), lent.clone());
     let a = ours(&mut mine, |lent, ledger| {
         match path(file, n, &mut lent.state, ledger, &mut lent.outcomes, term, &mut lent.list) {
             PathAnswer::Steps(steps) => {
@@ -190,6 +225,30 @@ fn compare(name: &str, seed: u64, file: &[u8], rng: &mut Rng, seen: &mut Seen) {
         }
     });
     assert!(a == b && mine == other, "path: {name} {seed} n = {n} term {term}: {a}, {b}");
+
+    let (party, iaks) = (desk(rng, file), iaks_per_board(rng));
+    let (mut mine, mut other) = (lent.clone(), lent);
+    let a = ours(&mut mine, |lent, ledger| {
+        match stock(file, &mut lent.state, ledger, &mut lent.outcomes, party, iaks) {
+            StockAnswer::Boards { boards, rest } => {
+                seen.stocks += 1;
+                seen.boards += (boards > 0) as u64;
+                seen.rests += (rest > 0) as u64;
+                format!("boards {boards} {rest}")
+            }
+            StockAnswer::Refused(refusal) => {
+                seen.refusals[refusal.number as usize] += 1;
+                refused(refusal)
+            }
+        }
+    });
+    let b = theirs(&mut other, |lent, ledger| {
+        match reading::stock(file, &mut lent.state, ledger, &mut lent.outcomes, party, iaks) {
+            reading::StockAnswer::Boards { boards, rest } => format!("boards {boards} {rest}"),
+            reading::StockAnswer::Refused { number, place } => refused(Refusal { number, place }),
+        }
+    });
+    assert!(a == b && mine == other, "stock: {name} {seed} party {party} iaks {iaks}: {a}, {b}");
 }
 
 fn setting(name: &str, default: u64) -> u64 {
@@ -208,12 +267,16 @@ fn every_call_agrees() {
         }
     }
     println!(
-        "{} files; {} runs, {} issued, {} at depth 8, {} paths; refusals {:?}; outcomes {:?}; of 3F and 40 to 43 {:?}",
+        "{} files; {} runs, {} issued, {} at depth 8, {} paths; {} stocks, {} with a board, {} with a rest; refusals {:?}; \
+         outcomes {:?}; of 3F and 40 to 43 {:?}",
         seeds * GENERATORS.len() as u64,
         seen.runs,
         seen.issued,
         seen.depth_8,
         seen.paths,
+        seen.stocks,
+        seen.boards,
+        seen.rests,
         seen.refusals,
         seen.outcomes,
         seen.issuing
@@ -232,13 +295,14 @@ fn every_call_agrees() {
         }
     }
     if enough {
-        for number in (1..=12).chain([30]) {
+        for number in (1..=12).chain([30, 39]) {
             assert!(seen.refusals[number] > 0, "no refusal {number}");
         }
         for number in (13..=29).chain([31, 32]).filter(|&number| number != 22) {
             assert!(seen.outcomes[number] > 0, "no outcome {number}");
         }
         assert!(seen.issued > 1_000 && seen.depth_8 > 10 && seen.paths > 100);
+        assert!(seen.boards > 500 && seen.rests > 500 && seen.refusals[39] > 500);
     }
 }
 

@@ -253,6 +253,11 @@ impl Build {
         ran.outcomes[ordinal]
     }
 
+    /// What `stock` answers for a party.
+    pub fn stock(&self, party: u8, iaks_per_board: u32) -> StockAnswer {
+        stock_bytes(&self.bytes(), party, iaks_per_board)
+    }
+
     pub fn text(&self) -> String {
         String::from_utf8(listing(&self.bytes())).unwrap()
     }
@@ -267,17 +272,22 @@ pub struct Ran {
     pub outcomes: Vec<u8>,
 }
 
+/// Buffers of the least size: state, ledger and outcomes.
+fn filled() -> (Vec<u8>, Vec<Entry>, Vec<u8>) {
+    let entry = Entry {
+        certificate: 7,
+        parent: 7,
+        depth: 7,
+    };
+    (
+        vec![0xEE; STATE_BYTES],
+        vec![entry; TERMS],
+        vec![0xEE; OUTCOMES],
+    )
+}
+
 pub fn run_bytes(file: &[u8], n: usize) -> Ran {
-    let mut state = vec![0xEE; STATE_BYTES];
-    let mut ledger = vec![
-        Entry {
-            certificate: 7,
-            parent: 7,
-            depth: 7
-        };
-        TERMS
-    ];
-    let mut outcomes = vec![0xEE; OUTCOMES];
+    let (mut state, mut ledger, mut outcomes) = filled();
     let answer = run(file, n, &mut state, &mut ledger, &mut outcomes);
     Ran {
         answer,
@@ -285,6 +295,25 @@ pub fn run_bytes(file: &[u8], n: usize) -> Ran {
         ledger,
         outcomes,
     }
+}
+
+/// What `stock` answers. Whatever it is, the buffers are left as a run of all
+/// commands leaves them.
+pub fn stock_bytes(file: &[u8], party: u8, iaks_per_board: u32) -> StockAnswer {
+    let (mut state, mut ledger, mut outcomes) = filled();
+    let answer = stock(
+        file,
+        &mut state,
+        &mut ledger,
+        &mut outcomes,
+        party,
+        iaks_per_board,
+    );
+    let ran = run_bytes(file, usize::MAX);
+    assert_eq!(state, ran.state);
+    assert_eq!(ledger, ran.ledger);
+    assert_eq!(outcomes, ran.outcomes);
+    answer
 }
 
 impl Ran {

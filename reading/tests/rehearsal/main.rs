@@ -8,4 +8,5 @@ mod loading;
 mod program;
 mod random;
 mod situations;
+mod stock;
 mod together;

@@ -79,7 +79,58 @@ fn check_subjects(file: &[u8], ran: &Ran, paths: &[(u16, u16)]) {
     }
 }
 
+/// The stock of each party, told in another way: of the numbers that the
+/// set-up gave to an OEM desk alone, all but those in the credentials that it
+/// opened. No command teaches a desk a number that nobody else knows, and none
+/// teaches an unused number of one desk to another party.
+fn check_stock(file: &[u8]) {
+    let before = run_bytes(file, 0);
+    let after = run_bytes(file, usize::MAX);
+    let mut state = vec![1; STATE_BYTES];
+    let (parties, terms) = match load(file, &mut state) {
+        LoadAnswer::Refused { number, place } => {
+            for (party, iaks_per_board) in [(0, 1), (0, 0), (255, 1)] {
+                assert_eq!(
+                    stock_bytes(file, party, iaks_per_board),
+                    StockAnswer::Refused { number, place }
+                );
+            }
+            return;
+        }
+        LoadAnswer::Loaded { parties, terms, .. } => (parties, terms as u16),
+    };
+    for party in 0..parties as u8 {
+        if file[2 * usize::from(party) + 1] != 2 {
+            assert_eq!(
+                stock_bytes(file, party, 1),
+                StockAnswer::Refused {
+                    number: 39,
+                    place: 0
+                }
+            );
+            continue;
+        }
+        let given = (0..terms)
+            .filter(|t| file[place(&before, *t)] == 0x16 && before.term(*t)[0] == 1 << party)
+            .count() as u32;
+        let opened = (0..terms)
+            .filter(|t| matches!(after.term(*t)[2..4], [2 | 3, desk] if desk == party))
+            .count() as u32;
+        let stock = given - opened;
+        for iaks_per_board in [1, 3] {
+            assert_eq!(
+                stock_bytes(file, party, iaks_per_board),
+                StockAnswer::Boards {
+                    boards: stock / iaks_per_board,
+                    rest: stock % iaks_per_board
+                }
+            );
+        }
+    }
+}
+
 fn check(file: &[u8], n: usize) {
+    check_stock(file);
     let ran = run_bytes(file, n);
     let mut state = vec![1; STATE_BYTES];
     match (load(file, &mut state), ran.answer) {
@@ -449,4 +500,76 @@ fn iaks_together_at_random_boards() {
     }
     assert_eq!(sizes[0], 0);
     assert!(sizes[1..].iter().all(|count| *count > 0));
+}
+
+#[test]
+fn stocks_of_random_desks() {
+    // Two OEM desks and twelve IAKs of one board, whose requests reach both.
+    // Each number is known to any of the parties. Then challenges at either
+    // desk, with the rest of the way, and numbers sent about.
+    let mut dice = Dice(0x1639_0012_3E24_0A0B);
+    let mut stocks = [0; 13];
+    for _ in 0..200 {
+        let mut b = Build::default();
+        let n = iak_terms(&mut b, AK, EK);
+        let second = b.party(2);
+        desk_set_up(&mut b, &n);
+        b.hold(n.device, n.ek_private);
+        b.give(n.device, n.ek_certificate);
+        let desks = [n.oem, second];
+        let mut asked = Vec::new();
+        for id in 500..512 {
+            let (iak, iak_private) = b.keys(id, AK);
+            let csr = b.idevid(DEV, id, n.ek_certificate, iak);
+            let csr_hash = b.hash(csr);
+            let csr_signature = b.signature(csr_hash, iak_private);
+            let request = b.pair(csr, csr_signature);
+            let iak_hash = b.hash(iak);
+            let number = b.number(id);
+            let credential = b.credential(iak_hash, number, n.ek);
+            b.hold(n.device, iak_private);
+            b.give(n.device, iak);
+            b.give(desks[dice.roll(2) as usize], number);
+            if dice.roll(3) == 0 {
+                b.give(dice.roll(5) as u8, number);
+            }
+            for (kind, r) in [
+                (0x35, csr),
+                (0x30, csr_hash),
+                (0x31, csr_signature),
+                (0x37, request),
+            ] {
+                b.act(kind, n.device, r);
+            }
+            for desk in desks {
+                b.send(n.device, desk, request);
+            }
+            asked.push((request, number, credential));
+        }
+        for _ in 0..dice.roll(30) {
+            let (request, number, credential) = asked[dice.roll(12) as usize];
+            let desk = desks[dice.roll(2) as usize];
+            match dice.roll(4) {
+                0 => {
+                    b.act(0x33, n.device, credential);
+                    b.send(n.device, dice.roll(5) as u8, number);
+                }
+                1 => {
+                    b.send(desk, n.device, credential);
+                    b.act(0x34, n.device, credential);
+                }
+                _ => {
+                    b.challenge(desk, request, credential);
+                }
+            }
+        }
+        check(&b.bytes(), usize::MAX);
+        for desk in desks {
+            match b.stock(desk, 1) {
+                StockAnswer::Boards { boards, rest: 0 } => stocks[boards as usize] += 1,
+                answer => panic!("{answer:?}"),
+            }
+        }
+    }
+    assert!(stocks[..6].iter().all(|count| *count > 0), "{stocks:?}");
 }
