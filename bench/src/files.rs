@@ -445,6 +445,15 @@ fn nested_and_sent() -> Draft {
     f
 }
 
+/// 1,024 numbers of an OEM desk, party 2.
+fn numbers_of_a_desk() -> Draft {
+    let mut f = Draft::default();
+    f.bytes.extend([0x01, 0x00, 0x01, 0x01, 0x01, 0x02]);
+    let numbers: Vec<u16> = (0..TERM_LIMIT).map(|id| f.number(id)).collect();
+    numbers.into_iter().for_each(|t| f.act(0x20, 2, t));
+    f
+}
+
 pub struct File {
     pub name: &'static str,
     pub bytes: Vec<u8>,
@@ -473,6 +482,14 @@ pub fn loaded() -> Vec<File> {
         ("made against the index: common beginnings", common_beginnings()),
         ("made against the index: both", deepest_alone()),
         ("both, and set-up 20 shuffled", deepest_and_learning()),
+    ])
+}
+
+/// The files of which the stock of party 2 is asked for.
+pub fn stocks() -> Vec<File> {
+    named([
+        ("a line of boards", stored(include_bytes!("../../crates/cases/data/s_stock_of_a_line"))),
+        ("1,024 numbers of a desk", numbers_of_a_desk()),
     ])
 }
 

@@ -1,4 +1,4 @@
-//! `bench/run`: loading and runs timed beside the second reading, on the same files and in the same run.
+//! `bench/run`: loading, runs and stocks of numbers timed beside the second reading, on the same files and in the same run.
 //!
 //! The two are called in turn on one file, and the shortest of all timings of each counts; these come in rounds over all
 //! files, so that a busy second of the machine does not fall on one row. The buffers are those that the call before
@@ -7,7 +7,7 @@
 mod files;
 mod walk;
 
-use birdweekly::{LoadAnswer, Refusal, RunAnswer, LEDGER_ENTRIES, OUTCOME_BYTES, STATE_BYTES};
+use birdweekly::{LoadAnswer, Refusal, RunAnswer, StockAnswer, LEDGER_ENTRIES, OUTCOME_BYTES, STATE_BYTES};
 use std::hint::black_box;
 use std::time::Instant;
 
@@ -68,6 +68,23 @@ fn their_run(file: &[u8], b: &mut Buffers) -> [u32; 3] {
     match reading::run(file, usize::MAX, &mut b.state, &mut b.theirs, &mut b.outcomes) {
         reading::RunAnswer::Ran { accepted, refused, issued } => [accepted, refused, issued],
         reading::RunAnswer::Refused { number, place } => refused(Refusal { number, place }),
+    }
+}
+
+/// The desk whose stock is asked for, and the IAKs per board.
+const STOCK: (u8, u32) = (2, 4);
+
+fn our_stock(file: &[u8], b: &mut Buffers) -> [u32; 3] {
+    match birdweekly::stock(file, &mut b.state, &mut b.ours, &mut b.outcomes, STOCK.0, STOCK.1) {
+        StockAnswer::Boards { boards, rest } => [boards, rest, 0],
+        StockAnswer::Refused(refusal) => refused(refusal),
+    }
+}
+
+fn their_stock(file: &[u8], b: &mut Buffers) -> [u32; 3] {
+    match reading::stock(file, &mut b.state, &mut b.theirs, &mut b.outcomes, STOCK.0, STOCK.1) {
+        reading::StockAnswer::Boards { boards, rest } => [boards, rest, 0],
+        reading::StockAnswer::Refused { number, place } => refused(Refusal { number, place }),
     }
 }
 
@@ -158,6 +175,8 @@ fn main() {
     println!("The shortest of {} timings. Buffers are not cleared between calls.\n", ROUNDS * TIMINGS);
     table("loading", files::loaded(), [their_load, our_load], |[p, t, c]| format!("{p} parties, {t} terms, {c} commands"));
     table("a run", files::run(), [their_run, our_run], |[a, r, i]| format!("T {a} {r} {i}"));
+    table("a run, for the stock below", files::stocks(), [their_run, our_run], |[a, r, i]| format!("T {a} {r} {i}"));
+    table("a stock of numbers", files::stocks(), [their_stock, our_stock], |[b, r, _]| format!("{b} boards, {r} left over"));
     println!("| index of terms | terms passed by all walks | by the longest |\n|---|---|---|");
     for file in files::loaded() {
         let steps = walk::steps(&file.bytes);

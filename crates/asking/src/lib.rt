@@ -4,7 +4,6 @@ use rules::Question;
 use rules::RunAnswer;
 ghost use mathlib.Core.Path.{_≡_};
 ghost use mathlib.Core.List.{List};
-ghost use Prim.Native.Nat.{ℕ};
 ghost use Rattle.rules.specs.declared.Entry.{Entry};
 ghost use Rattle.rules.specs.Questions.{askInNumbers, countOf};
 ghost use Rattle.state.specs.View.{view};

@@ -2,7 +2,7 @@
 use rules::AskAnswer;
 ghost use mathlib.Core.Path.{_≡_};
 ghost use mathlib.Core.List.{List};
-ghost use Prim.Native.Nat.{ℕ, _<_};
+ghost use Prim.Native.Nat.{_<_};
 ghost use lib.ListN.{length};
 ghost use Rattle.rules.specs.declared.Entry.{Entry};
 ghost use Rattle.rules.specs.Limits.{partyLimit};

@@ -15,11 +15,12 @@ use Rattle.rules.specs.File.{File, Command}
 use Rattle.rules.specs.Load.{commandAt, loaded, refused, emptyFile, feed, load, commandsOf}
 use Rattle.rules.specs.State.{State, start}
 use Rattle.rules.specs.Run.{run, outcomes, firstCommands, reached, outcomesOf, accepted, refusals, issued}
-use Rattle.rules.specs.Lent.{Lent, answered, runAnswer, leaves, runLeaves, asked, stepsFrom, pathAnswer, pathBuffers, pathWritten, pathListed, pathLeaves}
+use Rattle.rules.specs.Lent.{Lent, answered, runAnswer, leaves, runLeaves, asked, askAnswer, stepsFrom, pathAnswer, pathBuffers, pathWritten, pathListed, pathLeaves}
+use Rattle.rules.specs.Stock.{boardsLeft}
 use Rattle.theorems.specs.CutLaws.{CutTo, FirstOnly, FilesCovered, recordAfter, commandOfRecord, commandPlace, PlaceNamed, CutLoads, CutCovered, CutInside, SameAnswers, CutAnswers, CutLaws}
 use Rattle.theorems.proofs.Pieces.{from, bodyAt, load-from, feed-end, feed-short}
 use Rattle.theorems.proofs.Written.{loaded-fits}
-use Rattle.theorems.proofs.OtherCommands.{Other, start-same, run-same, outcomes-same}
+use Rattle.theorems.proofs.OtherCommands.{Other, start-same, run-same, outcomes-same, boards-same}
 use Rattle.theorems.proofs.CutLoading.{CutAt, walk}
 
 module _ {A : Type 0} where
@@ -36,6 +37,9 @@ module _ (n : ℕ) (f g : File) (c : CutTo n f g) where
 
   started : start g ≡ start f
   started = ap start other ∙ start-same f (g .section) (g .commands)
+
+  boards-cut : (party iaks : ℕ) (s : State) → boardsLeft party iaks g s ≡ boardsLeft party iaks f s
+  boards-cut party iaks s = ap (λ (h : File). boardsLeft party iaks h s) other ∙ boards-same f (g .section) (g .commands) party iaks s
 
   first-same : (m : ℕ) → n ≤ m → firstCommands g m ≡ firstCommands f n
   unfolding firstCommands
@@ -112,7 +116,7 @@ module _ (bytes : List ℕ) (f : File) (loads : load bytes ≡ loaded f) where
 -- what Run and Path make of two files that load, by the states reached, the outcomes and the places of the terms
 module _
     (part whole : List ℕ) (g f : File) (m n : ℕ) (first : load part ≡ loaded g) (second : load whole ≡ loaded f) (places : g .places ≡ f .places)
-    (state : reached g m ≡ reached f n) (came : outcomesOf g m ≡ outcomesOf f n)
+    (state : reached g m ≡ reached f n) (came : outcomesOf g m ≡ outcomesOf f n) (boards : (party iaks : ℕ) (s : State) → boardsLeft party iaks g s ≡ boardsLeft party iaks f s)
   where
     answered-same : answered m (loaded g) ≡ answered n (loaded f)
     unfolding answered accepted refusals issued
@@ -126,6 +130,10 @@ module _
     unfolding asked stepsFrom
     found-same t = rw state
 
+    stock-same : (party iaks : ℕ) → asked (boardsLeft party iaks) m (loaded g) ≡ asked (boardsLeft party iaks) n (loaded f)
+    unfolding asked
+    stock-same party iaks = boards party iaks (reached g m) ∙ ap (boardsLeft party iaks f) state
+
     listed-same : (t : ℕ) (list : List ℕ) → pathListed m t list (loaded g) ≡ pathListed n t list (loaded f)
     unfolding pathListed pathWritten
     listed-same t list = rw state
@@ -135,13 +143,14 @@ module _
     lent-same lent = rw (loaded-fits part g first, loaded-fits whole f second, first, second, leaves-same lent)
 
     same-answers : SameAnswers part m whole n
-    unfolding runAnswer pathAnswer pathBuffers pathLeaves
+    unfolding runAnswer askAnswer pathAnswer pathBuffers pathLeaves
     same-answers = record {
       run = λ lent. rw (first, second, answered-same);
       runLent = lent-same;
       path = λ lent t list. rw (first, second, found-same t);
       pathLent = λ lent t list. rw (lent-same lent);
       pathList = λ lent t list. rw (first, second, listed-same t list);
+      stock = λ lent party iaks. rw (first, second, stock-same party iaks);
     }
 
 pub files-covered : FilesCovered
@@ -167,7 +176,7 @@ pub cut-answers : CutAnswers
 cut-answers bytes f loads n m h =
     let w = cut-loads bytes f loads n .1 in
     let s = first-only n f (w .0) (w .2) m h in
-    same-answers (take (commandPlace bytes n) bytes) bytes (w .0) f m n (w .1) loads (w .2 .places) (s .0) (s .1)
+    same-answers (take (commandPlace bytes n) bytes) bytes (w .0) f m n (w .1) loads (w .2 .places) (s .0) (s .1) (boards-cut n f (w .0) (w .2))
 
 pub cut-laws : CutLaws
 cut-laws = record {

@@ -2,12 +2,14 @@
 --     start-same                              what the set-up leaves
 --     outcome-same, effect-same, after-same   a command's outcome, its effect, and what it leaves
 --     run-same, outcomes-same                 what a list of commands leaves, and its outcomes
+--     boards-same                             the boards left in a stock of numbers
 -- Assumes nothing.
 use mathlib.Core.Path.{_≡_, refl, ap}
-use mathlib.Core.Bool.{Bool, not, _||_, _&&_}
+use mathlib.Core.Bool.{Bool, cond, not, _||_, _&&_}
 use mathlib.Core.List.{List, [], _∷_}
-use Prim.Native.Nat.{ℕ}
+use Prim.Native.Nat.{ℕ, zero, suc, _+_, _/_, _%_}
 use lib.Dec.{eqb}
+use lib.ListN.{length}
 use Rattle.rules.specs.declared.Entry.{Entry}
 use Rattle.rules.specs.declared.Family.{Family}
 use Rattle.rules.specs.declared.Signers.{Signers}
@@ -20,6 +22,8 @@ use Rattle.rules.specs.State.{State, taught, start, learnt}
 use Rattle.rules.specs.Device.{deviceRole, keyHas, holdsHalf, hashTests, hashEffect, signTests, certifyTests, makeCredentialTests, activateCredentialTests, bothKnownTests, mayBeSentByDesk, maySend, sendTests, selfIssueTests, checkRole, checkTests}
 use Rattle.rules.specs.Desk.{requestBody, requestSignature, formTests, proofTests, iakOf, ekCertificateOf, ekOf, challengeTests, challengeEffect, calledFor, endEk, allEndAt, issueIakTests, issueIakEffect, attestSignatureOf, newKeyOf, parentCertificateOf, issueTests, issueEffect, pairTests, issueIaksTests, issueIaksEffect}
 use Rattle.rules.specs.Run.{testsOf, effectOf, outcome, after, run, outcomes}
+use Rattle.rules.specs.Lent.{success, refusal}
+use Rattle.rules.specs.Stock.{inStock, stockAmong, stock, boardsLeft}
 
 -- a file with another section and other commands
 abbrev pub Other : File → ℕ → List Command → File
@@ -151,3 +155,13 @@ module _ (f : File) (section : ℕ) (cs : List Command) where
   unfolding outcomes
   outcomes-same [] s = refl
   outcomes-same (c ∷ xs) s = rw (outcome-same s c, after-same s c, outcomes-same xs (after f s c))
+
+  stock-same : (s : State) (desk n : ℕ) → stockAmong g s desk n ≡ stockAmong f s desk n
+  unfolding stockAmong inStock isKind kind term
+  stock-same s desk zero = refl
+  stock-same s desk (suc n) = ap (λ (m : ℕ). m + cond (inStock f s desk n) 1 0) (stock-same s desk n)
+
+  pub boards-same : (party iaks : ℕ) (s : State) → boardsLeft party iaks g s ≡ boardsLeft party iaks f s
+  unfolding boardsLeft stock isRole roleOf
+  boards-same party iaks s =
+      ap (λ (m : ℕ). cond (isRole f oemDesk party && not (eqb iaks 0)) (success (m / iaks ∷ m % iaks ∷ [])) (refusal 39 0)) (stock-same s party (length (f .terms)))

@@ -12,7 +12,7 @@ use lib.ListN.{length, getD, List·getD-eq-default}
 use lib.Arith.{digits-div, digits-mod}
 use borrow.Author.Tests.{eq-eqb, ne-eqb, eqb-true, eqb-false}
 use Rattle.rules.specs.Limits.{oemDesk, partyLimit, roleCount}
-use Rattle.rules.specs.Refusals.{need, order, applies, firstOf, refusalOf}
+use Rattle.rules.specs.Refusals.{need, applies, firstOf, refusalOf}
 use Rattle.rules.specs.Term.{numberKind}
 use Rattle.rules.specs.File.{File, roleOf, isRole, isKind}
 use Rattle.rules.specs.State.{State, numberUsed}

@@ -11,7 +11,8 @@ use Rattle.rules.specs.Record.{sectionOf, commandSection, bodyLength}
 use Rattle.rules.specs.File.{File, Command}
 use Rattle.rules.specs.Load.{commandAt, loaded, refused, load, commandsOf}
 use Rattle.rules.specs.Run.{firstCommands, reached, outcomesOf}
-use Rattle.rules.specs.Lent.{Lent, runAnswer, runLeaves, pathAnswer, pathBuffers, pathLeaves}
+use Rattle.rules.specs.Lent.{Lent, runAnswer, runLeaves, askAnswer, pathAnswer, pathBuffers, pathLeaves}
+use Rattle.rules.specs.Stock.{boardsLeft}
 
 -- Files.
 -- g declares what f does, and its commands are the first n of f
@@ -83,13 +84,15 @@ CutInside =
     (bytes : List ℕ) (f : File) → load bytes ≡ loaded f → (n b : ℕ) → commandPlace bytes n < b → b < commandPlace bytes (suc n)
     → load (take b bytes) ≡ refused 4 (commandPlace bytes n)
 
--- Run and Path, of m commands of one file and of n of another, answer the same and leave the same in every lent place
+-- Run and Path, of m commands of one file and of n of another, answer the same and leave the same in every lent place; and the stock of numbers
+-- after them is the same
 pub record SameAnswers (part : List ℕ) (m : ℕ) (whole : List ℕ) (n : ℕ) : Type 0 where
   pub run : (lent : Lent) → runAnswer part m lent ≡ runAnswer whole n lent
   pub runLent : (lent : Lent) → runLeaves part m lent ≡ runLeaves whole n lent
   pub path : (lent : Lent) (t : ℕ) (list : List ℕ) → pathAnswer part m lent t list ≡ pathAnswer whole n lent t list
   pub pathLent : (lent : Lent) (t : ℕ) (list : List ℕ) → pathBuffers part m lent t list ≡ pathBuffers whole n lent t list
   pub pathList : (lent : Lent) (t : ℕ) (list : List ℕ) → pathLeaves part m lent t list ≡ pathLeaves whole n lent t list
+  pub stock : (lent : Lent) (party iaks : ℕ) → askAnswer (boardsLeft party iaks) part m lent ≡ askAnswer (boardsLeft party iaks) whole n lent
 
 abbrev pub CutAnswers : Type 0
 CutAnswers = (bytes : List ℕ) (f : File) → load bytes ≡ loaded f → (n m : ℕ) → n ≤ m → SameAnswers (take (commandPlace bytes n) bytes) m bytes n

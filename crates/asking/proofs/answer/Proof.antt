@@ -1,6 +1,6 @@
 -- `asking::answer` meets its contract: what is told where there was a run, else the run's refusal. Assumes nothing.
 use borrow.Author.Needs.{needs}
-use mathlib.Core.Path.{_≡_, sym, subst, subst⁻¹}
+use mathlib.Core.Path.{sym, subst, subst⁻¹}
 use denote.Ref.{now}
 use lib.Seq.{length-take-le}
 use Rattle.rules.specs.declared.RunAnswer.{RunAnswer}

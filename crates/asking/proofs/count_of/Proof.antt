@@ -1,6 +1,6 @@
 -- `asking::count_of` meets its contract. Assumes nothing.
 use borrow.Author.Needs.{needs}
-use mathlib.Core.Path.{_≡_, sym, ap}
+use mathlib.Core.Path.{sym, ap}
 use Rattle.rules.specs.Questions.{countOf}
 use Rattle.asking.proofs.count_of.Statement.{statement}
 use Rattle.asking.proofs.count_of.Tie as tie

@@ -1,5 +1,5 @@
 -- `birdweekly::stock_numbers` meets its contract: the values by their names. Assumes nothing.
-use mathlib.Core.Path.{_≡_, ap}
+use mathlib.Core.Path.{ap}
 use borrow.Author.Needs.{needs}
 use Rattle.birdweekly.specs.declared.Numbers.{Numbers}
 use Rattle.birdweekly.specs.declared.StockNumbers.{StockNumbers}

@@ -25,7 +25,7 @@ use sound.WpLaws.{FmC, fmOf, WpFn-mono}
 use denote.RattleType.{RattleType, owns}
 use denote.Memory.{partAt}
 use denote.Laws.{Is, shows}
-use denote.Plain.{Nothing, uint-makes, uint-vals, uint-tells, uint-lawful, nothing-lawful}
+use denote.Plain.{Nothing, uint-makes, uint-lawful, nothing-lawful}
 use denote.Builtin.{u8, u16, usize}
 use denote.Array.{array-lawful}
 use denote.Ref.{RefT, ShrRef}

@@ -1,7 +1,7 @@
 -- `stock::boards_left` meets its contract: 39 by its three reasons, or the stock divided. Assumes nothing.
 use borrow.Author.Needs.{needs}
 use borrow.Author.Tests.{not-true, not-false}
-use mathlib.Core.Path.{_≡_, sym, _∙_}
+use mathlib.Core.Path.{sym, _∙_}
 use mathlib.Core.Logic.{inl, inr}
 use native.Mathlib.Omega.{arith}
 use Rattle.loaded.proofs.Standing.{party-here}

@@ -1,8 +1,8 @@
 -- `stock::stock_of` meets its contract: the count of the terms before. Assumes nothing.
 use borrow.Author.Needs.{needs}
-use mathlib.Core.Path.{_≡_, sym, ap, _∙_}
+use mathlib.Core.Path.{_≡_, ap, _∙_}
 use mathlib.Core.List.{List}
-use Prim.Native.Nat.{ℕ, _+_, _-_, _≤_}
+use Prim.Native.Nat.{_-_, _≤_}
 use native.Mathlib.Omega.{arith}
 use Rattle.rules.specs.declared.Entry.{Entry}
 use Rattle.rules.specs.Stock.{stockAmong, stock}
