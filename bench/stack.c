@@ -35,6 +35,13 @@ static void *paths(void *answer) {
     return answer;
 }
 
+static void *stocks(void *answer) {
+    *(uint32_t *)answer = birdweekly_stock(file, length, state, sizeof state, ledger, BIRDWEEKLY_LEDGER_ENTRIES, outcomes,
+                                           sizeof outcomes, 2, 4)
+                              .number;
+    return answer;
+}
+
 /* The bytes of its stack that a thread has written to, down to the lowest. */
 static size_t written(void *(*what)(void *), void *answer) {
     pthread_attr_t own;
@@ -51,11 +58,11 @@ int main(void) {
     static const struct {
         const char *name;
         void *(*what)(void *);
-    } calls[] = {{"load", loads}, {"run", runs}, {"path", paths}};
+    } calls[] = {{"load", loads}, {"run", runs}, {"path", paths}, {"stock", stocks}};
     uint32_t number = 0;
     length = fread(file, 1, sizeof file, stdin);
     size_t bare = written(idle, &number);
-    for (int i = 0; i < 3; i++) {
+    for (int i = 0; i < 4; i++) {
         size_t all = written(calls[i].what, &number);
         printf("%s: number %u, %zu bytes of stack\n", calls[i].name, number, all - bare);
     }
