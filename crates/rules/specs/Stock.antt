@@ -24,7 +24,7 @@ stockAmong f s desk (suc t) = stockAmong f s desk t + cond (inStock f s desk t) 
 unfoldable pub stock : File → State → ℕ → ℕ
 stock f s desk = stockAmong f s desk (length (f .terms))
 
--- "whole boards and how many numbers are left over"; 39 when the IAKs per board are 0 or the party is no OEM desk, as an undeclared one is none
+-- "whole boards and how many numbers are left over"; 39 when the IAKs per board are 0 or the party is no OEM desk; an undeclared party has no role
 unfoldable pub boardsLeft : ℕ → ℕ → File → State → Answer
 boardsLeft party iaks f s =
     cond (isRole f oemDesk party && not (eqb iaks 0)) (success (stock f s party / iaks ∷ stock f s party % iaks ∷ [])) (refusal 39 0)

@@ -52,11 +52,11 @@ iak-fixed = refl
 
 module _ (f : File) (ck : Checked f) (s : State) (inv : Invariant f s) where
   -- a credential is no number
-  unequal : (c n : ℕ) → kind f c ≡ credentialKind → kind f n ≡ numberKind → c ≡ n → ⊥
+  pub unequal : (c n : ℕ) → kind f c ≡ credentialKind → kind f n ≡ numberKind → c ≡ n → ⊥
   unequal c n h k e = differ f c numberKind h tt (ap (kind f) e ∙ k)
 
   -- 3E
-  challenge-passed : (p q r : ℕ) → outcome f s (challenge p q r) ≡ 0 → Passed (challengeTests f s p q r)
+  pub challenge-passed : (p q r : ℕ) → outcome f s (challenge p q r) ≡ 0 → Passed (challengeTests f s p q r)
   unfolding outcome testsOf challengeTests formTests proofTests numberTests
   challenge-passed p q r e = passed (challengeTests f s p q r) refl e
 
@@ -67,7 +67,7 @@ module _ (f : File) (ck : Checked f) (s : State) (inv : Invariant f s) where
     tests : Passed (challengeTests f s p q r)
     tests = challenge-passed p q r e
 
-    isNumber : kind f (credentialNumber f r) ≡ numberKind
+    pub isNumber : kind f (credentialNumber f r) ≡ numberKind
     isNumber = ck .credentialNumberKind r (w .1)
 
     deskRole : roleOf f p ≡ oemDesk
@@ -80,6 +80,10 @@ module _ (f : File) (ck : Checked f) (s : State) (inv : Invariant f s) where
         put-other (put (s .mark) (credentialNumber f r) numberUsed) r credentialOpen (credentialNumber f r) (λ x. unequal r (credentialNumber f r) (w .1) isNumber (sym x))
         ∙ put-same (s .mark) (credentialNumber f r) numberUsed
 
+    pub used-after : challengeEffect f s p q r .mark (credentialNumber f r) ≡ numberUsed
+    unfolding nextState
+    used-after = used-now
+
     used-kept : (n : ℕ) → kind f n ≡ numberKind → s .mark n ≡ numberUsed → nextState .mark n ≡ numberUsed
     unfolding nextState challengeEffect opening learnt
     used-kept n k h =
@@ -89,14 +93,14 @@ module _ (f : File) (ck : Checked f) (s : State) (inv : Invariant f s) where
         go (yes x) = ap (put (s .mark) (credentialNumber f r) numberUsed) x ∙ put-same (s .mark) (credentialNumber f r) numberUsed
         go (no x) = put-other (s .mark) (credentialNumber f r) numberUsed n x ∙ h
 
-    unused : s .mark (credentialNumber f r) ≡ numberUsed → ⊥
+    pub unused : s .mark (credentialNumber f r) ≡ numberUsed → ⊥
     unfolding challengeTests formTests proofTests numberTests
     unused h =
         not-both (eqb (s .mark (credentialNumber f r)) numberUsed) (tests .1 .1 .1 .1 .1 .1 .1 .1 .1 .1 .1 .1 .1 .1 .1 .0)
         (eq-eqb (s .mark (credentialNumber f r)) numberUsed h)
 
     -- the desk alone knows the number
-    alone-before : (x : ℕ) → s .knows x (credentialNumber f r) ≡ true → x ≡ p
+    pub alone-before : (x : ℕ) → s .knows x (credentialNumber f r) ≡ true → x ≡ p
     unfolding challengeTests formTests proofTests numberTests
     alone-before x h =
         sole (s .knows) (credentialNumber f r) partyLimit x p (few x h) (few p known) h known

@@ -163,7 +163,7 @@ module _ (f : File) (ck : Checked f) (s s′ : State) (g : Grows f s s′) where
   }
 
 module _ (f : File) (ck : Checked f) (s s′ : State) (inv : Invariant f s) (st : Step f s s′) where
-  knows-only : (p u : ℕ) → s′ .knows p u ≡ true → (s .knows p u ≡ true) ⊎ ((p ≡ st .learner) × Inside f (st .lesson) u)
+  pub knows-only : (p u : ℕ) → s′ .knows p u ≡ true → (s .knows p u ≡ true) ⊎ ((p ≡ st .learner) × Inside f (st .lesson) u)
   knows-only p u h = learn-only f (st .learner) (st .lesson) (s .knows) p u (subst (λ (k : Knowledge). k p u ≡ true) (st .learnt) h)
 
   ledger-at : (i : ℕ) (e : Entry) → getElem? (s .ledger) i ≡ some e → getElem? (s′ .ledger) i ≡ some e

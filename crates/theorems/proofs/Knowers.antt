@@ -18,7 +18,7 @@ module _ (known : Knowledge) (t : ℕ) where
   unfolding knowers
   more n = omega arith
 
-  some : (n p : ℕ) → p < n → known p t ≡ true → 1 ≤ knowers known t n
+  pub some : (n p : ℕ) → p < n → known p t ≡ true → 1 ≤ knowers known t n
   some zero p l k = absurd (omega arith)
   some (suc n) p l k = go (ℕ-discrete p n) (some n p)
     where

@@ -37,4 +37,5 @@ pub mod OtherCommands
 pub mod CutLoading
 pub mod Cut
 pub mod Asking
+pub mod StockFalls
 pub mod StockLaws

@@ -105,7 +105,7 @@ module _ (f : File) (ck : Checked f) where
     effect-steps (issue family p q r) w e = one (issue-step f ck s inv family p q r w e)
     effect-steps (issueIaks p q xs) w e = pairs-steps p q xs s inv (w .0) (w .1) (w .2) (pairs-accepted f s p q xs e)
 
-    after-steps : (c : Command) → Wellformed f c → Steps f s (after f s c)
+    pub after-steps : (c : Command) → Wellformed f c → Steps f s (after f s c)
     after-steps c w = go (ℕ-discrete (outcome f s c) 0)
       where
         go : Dec (outcome f s c ≡ 0) → Steps f s (after f s c)

@@ -19,6 +19,7 @@ use Rattle.rules.specs.State.{State, numberUsed}
 use Rattle.rules.specs.Desk.{knowers, numberTests}
 use Rattle.rules.specs.Lent.{Answer, success, refusal}
 use Rattle.rules.specs.Stock.{inStock, stockAmong, stock, boardsLeft}
+use Rattle.theorems.proofs.StockFalls.{stock-falls}
 use Rattle.theorems.specs.StockLaws.{Divided, BoardsDivide, BoardsOnly, Refused39, Undeclared39, InStockFresh, StockFew, StockLaws}
 
 -- a refusal has no values, an answer two
@@ -128,4 +129,5 @@ stock-laws = record {
   undeclared39 = undeclared-39;
   inStockFresh = in-stock-fresh;
   stockFew = stock-few;
+  stockFalls = stock-falls;
 }

@@ -1,17 +1,19 @@
 -- Laws of the stock of numbers (request 12 of document 02).
 use mathlib.Core.Path.{_≡_}
 use mathlib.Core.Logic.{_⊎_}
-use mathlib.Core.Bool.{true, false, _&&_}
-use mathlib.Core.List.{[], _∷_}
+use mathlib.Core.Bool.{Bool, true, false, cond, _&&_}
+use mathlib.Core.List.{List, [], _∷_}
 use Prim.Native.Nat.{ℕ, _+_, _*_, _<_, _≤_}
 use lib.Dec.{eqb}
 use lib.ListN.{length}
 use Rattle.rules.specs.Limits.{oemDesk}
 use Rattle.rules.specs.Refusals.{refusalOf}
 use Rattle.rules.specs.Term.{numberKind}
-use Rattle.rules.specs.File.{File, isRole, isKind}
-use Rattle.rules.specs.State.{State}
+use Rattle.rules.specs.File.{File, Command, hash, sign, certify, makeCredential, activateCredential, makeIdevidRequest, makeLdevidRequest, makePair, checkHash, checkSignature, checkCertificate, checkAttributes, send, selfIssue, challenge, issueIak, issue, issueIaks, isRole, isKind}
+use Rattle.rules.specs.Load.{loaded, load}
+use Rattle.rules.specs.State.{State, start}
 use Rattle.rules.specs.Desk.{numberTests}
+use Rattle.rules.specs.Run.{outcome, after, firstCommands, reached}
 use Rattle.rules.specs.Lent.{success, refusal}
 use Rattle.rules.specs.Stock.{inStock, stock, boardsLeft}
 
@@ -49,6 +51,38 @@ InStockFresh = (f : File) (s : State) (desk t : ℕ) → inStock f s desk t ≡ 
 abbrev pub StockFew : Type 0
 StockFew = (f : File) (s : State) (desk : ℕ) → stock f s desk ≤ length (f .terms)
 
+-- What commands take from a stock: an accepted 3E of the desk takes one number, and nothing else takes or adds any.
+unfoldable pub challengedBy : ℕ → Command → Bool
+challengedBy desk (challenge p q r) = eqb p desk
+challengedBy desk (hash p r) = false
+challengedBy desk (sign p r) = false
+challengedBy desk (certify p r) = false
+challengedBy desk (makeCredential p r) = false
+challengedBy desk (activateCredential p r) = false
+challengedBy desk (makeIdevidRequest p r) = false
+challengedBy desk (makeLdevidRequest p r) = false
+challengedBy desk (makePair p r) = false
+challengedBy desk (checkHash p h t) = false
+challengedBy desk (checkSignature p t k) = false
+challengedBy desk (checkCertificate p c k) = false
+challengedBy desk (checkAttributes p k a) = false
+challengedBy desk (send p q t) = false
+challengedBy desk (selfIssue p r) = false
+challengedBy desk (issueIak p q c r) = false
+challengedBy desk (issue family p q r) = false
+challengedBy desk (issueIaks p q xs) = false
+
+-- how many accepted 3Es of a desk a list of commands has
+unfoldable pub challenges : File → ℕ → List Command → State → ℕ
+challenges f desk [] s = 0
+challenges f desk (c ∷ cs) s = cond (challengedBy desk c && eqb (outcome f s c) 0) 1 0 + challenges f desk cs (after f s c)
+
+-- Of every file that loads, every n and every OEM desk: what the set-up gave is what the first n commands challenged with, and what is left.
+abbrev pub StockFalls : Type 0
+StockFalls =
+    (bytes : List ℕ) (f : File) → load bytes ≡ loaded f → (desk : ℕ) → isRole f oemDesk desk ≡ true → (n : ℕ)
+    → stock f (start f) desk ≡ challenges f desk (firstCommands f n) (start f) + stock f (reached f n) desk
+
 pub record StockLaws : Type 0 where
   pub boardsDivide : BoardsDivide
   pub boardsOnly : BoardsOnly
@@ -56,3 +90,4 @@ pub record StockLaws : Type 0 where
   pub undeclared39 : Undeclared39
   pub inStockFresh : InStockFresh
   pub stockFew : StockFew
+  pub stockFalls : StockFalls
