@@ -313,10 +313,18 @@ impl Buffers {
         self.run(file, usize::MAX)
     }
 
-    /// Runs all commands of a file, and asks: the call leaves what the run left, whose totals it does not tell.
+    /// A call that runs all commands of a file and asks. It does not tell the totals: loading tells how many commands there
+    /// are, and an entry of the ledger has a depth of 1 at least.
     fn ask<T>(&mut self, file: &[u8], call: impl FnOnce(&[u8], &mut [u8], &mut [Entry], &mut [u8]) -> T) -> T {
-        self.run_all(file);
-        call(file, &mut self.state, &mut self.ledger, &mut self.outcomes)
+        let loaded = load(file, &mut self.state);
+        let answer = call(file, &mut self.state, &mut self.ledger, &mut self.outcomes);
+        (self.commands, self.issued) = match loaded {
+            LoadAnswer::Loaded { commands, .. } => {
+                (commands as usize, self.ledger.iter().take_while(|entry| entry.depth > 0).count())
+            }
+            LoadAnswer::Refused(_) => (0, 0),
+        };
+        answer
     }
 
     /// Runs all commands of a file, and tells the boards left in a desk's stock of numbers; see [`stock`].
