@@ -667,7 +667,7 @@ unfolding result
 deviceSigner-holds = refl
 
 -- The desk's stock of numbers (request 12 of document 02), after a challenge whose credential it has not sent: of terms 15 to 17, numbers that it
--- knows, the device knows 16 too; of 7 it knows that it is used. Two numbers are no whole board of three IAKs.
+-- knows, the device knows 16 too; number 7 is used. Two numbers are no whole board of three IAKs.
 abbrev pub stocked : Bytes
 stocked =
     written
