@@ -30,8 +30,10 @@ use std::fmt;
 
 /// The longest scenario file.
 pub const FILE_BYTES: usize = 32_768;
+/// State bytes of a term.
+const ROW_BYTES: usize = 8;
 /// State bytes that are written: 8 a term.
-pub const STATE_BYTES: usize = 8_192;
+pub const STATE_BYTES: usize = 1_024 * ROW_BYTES;
 /// Ledger entries that are written.
 pub const LEDGER_ENTRIES: usize = 1_024;
 /// Outcome bytes that are written: one a command.
@@ -89,6 +91,15 @@ pub enum StockAnswer {
     /// Whole boards that a desk's stock of numbers is enough for, and the numbers left over.
     Boards { boards: u32, rest: u32 },
     Refused(Refusal),
+}
+
+/// What the commands did with a number or a credential: the desk and the request are those that the credential was opened with.
+#[derive(Debug, Clone, Copy, PartialEq, Eq)]
+pub enum Mark {
+    None,
+    NumberUsed,
+    CredentialOpen { desk: u8, request: u16 },
+    CredentialClosed { desk: u8, request: u16 },
 }
 
 mod raw {
@@ -356,10 +367,32 @@ impl Buffers {
         &self.state
     }
 
+    /// The state bytes of a term; zeros for one that is beyond them.
+    fn row(&self, term: u16) -> [u8; ROW_BYTES] {
+        let row = self.state.chunks_exact(ROW_BYTES).nth(term as usize);
+        row.and_then(|row| row.try_into().ok()).unwrap_or_default()
+    }
+
     /// Whether a party knows a term.
     pub fn knows(&self, party: u8, term: u16) -> bool {
-        let byte = self.state.get(8 * term as usize).copied().unwrap_or(0);
-        party < 8 && byte >> party & 1 == 1
+        party < 8 && self.row(term)[0] >> party & 1 == 1
+    }
+
+    /// Whether a party's TPM table has a term: a hash that it made, or a private key that it holds.
+    pub fn in_table(&self, party: u8, term: u16) -> bool {
+        party < 8 && self.row(term)[1] >> party & 1 == 1
+    }
+
+    /// What the commands did with a number or a credential.
+    pub fn mark(&self, term: u16) -> Mark {
+        let row = self.row(term);
+        let (desk, request) = (row[3], u16::from_be_bytes([row[4], row[5]]));
+        match row[2] {
+            1 => Mark::NumberUsed,
+            2 => Mark::CredentialOpen { desk, request },
+            3 => Mark::CredentialClosed { desk, request },
+            _ => Mark::None,
+        }
     }
 }
 

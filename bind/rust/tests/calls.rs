@@ -1,7 +1,7 @@
 //! What each call answers and leaves, on the paper's example and on an honest enrolment.
 
 use birdweekly::{
-    entry_at, load, path, run, stock, Buffers, Entry, LoadAnswer, PathAnswer, Refusal, RunAnswer, StockAnswer, STATE_BYTES,
+    entry_at, load, path, run, stock, Buffers, Entry, LoadAnswer, Mark, PathAnswer, Refusal, RunAnswer, StockAnswer, STATE_BYTES,
 };
 
 const EXAMPLE: [u8; 30] = [
@@ -42,6 +42,24 @@ fn refusals_leave_what_they_say() {
     assert_eq!(state[STATE_BYTES], 7);
     assert_eq!(run(&EXAMPLE, 1, &mut state, &mut [], &mut []), RunAnswer::Refused(Refusal { number: 1, place: 0 }));
     assert_eq!(state[STATE_BYTES], 7);
+}
+
+#[test]
+fn the_tables_and_marks_of_a_run() {
+    let mut buffers = Buffers::new();
+    // Before the challenge, after it, and after the certificate: number 15, credential 17, request 14, desk 2.
+    for (n, number, credential) in [
+        (5, Mark::None, Mark::None),
+        (6, Mark::NumberUsed, Mark::CredentialOpen { desk: 2, request: 14 }),
+        (9, Mark::NumberUsed, Mark::CredentialClosed { desk: 2, request: 14 }),
+    ] {
+        buffers.run(CHAIN, n);
+        assert_eq!((buffers.mark(15), buffers.mark(17)), (number, credential), "{n}");
+    }
+    // The board's TPM holds its IAK and made the request's hash; it knows no private key.
+    assert!(buffers.in_table(0, 1) && buffers.in_table(0, 12) && !buffers.in_table(1, 1) && !buffers.in_table(8, 1));
+    assert!(buffers.knows(0, 12) && !buffers.knows(0, 1) && !buffers.knows(8, 12));
+    assert_eq!((buffers.mark(1_024), buffers.knows(0, 1_024)), (Mark::None, false));
 }
 
 #[test]
