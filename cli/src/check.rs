@@ -1,16 +1,18 @@
 //! Many files, run on all processors: a line each in the order of the files, and a summary.
 
 use std::collections::BTreeMap;
+use std::ffi::{OsStr, OsString};
 use std::io::{self, IsTerminal, Write};
 use std::sync::atomic::{AtomicUsize, Ordering};
 use std::sync::mpsc;
 use std::thread;
 use std::time::{Duration, Instant};
 
+use crate::faults;
 use crate::json;
 use crate::reasons::meaning;
 use crate::rehearsal::Rehearsal;
-use crate::source::{Source, Unread};
+use crate::source::{Refused, Source, Unread};
 use crate::words::count;
 
 /// What became of a file. In order of their exit statuses: 0, 1, 2.
@@ -22,13 +24,25 @@ pub enum Verdict {
 }
 
 impl Verdict {
+    pub fn of(rehearsal: &Rehearsal) -> Verdict {
+        if rehearsal.refused == 0 {
+            Verdict::NoRefusal
+        } else {
+            Verdict::Refusals
+        }
+    }
+
     pub fn status(self) -> u8 {
         self as u8
+    }
+
+    fn words(self) -> &'static str {
+        ["no refusal", "refusals", "not loaded"][self as usize]
     }
 }
 
 /// The bar's width, and how long it stands before it is drawn again.
-const BAR: usize = 40;
+const BAR: usize = 20;
 const BETWEEN_BARS: Duration = Duration::from_millis(50);
 
 struct Checked {
@@ -37,7 +51,7 @@ struct Checked {
 }
 
 /// Checks files; the greatest of their exit statuses. A bar tells how far it is where standard error is a terminal.
-pub fn check(files: &[String], as_json: bool, out: &mut impl Write) -> io::Result<u8> {
+pub fn check(files: &[OsString], as_json: bool, out: &mut impl Write) -> io::Result<u8> {
     let bar = io::stderr().is_terminal();
     let next = AtomicUsize::new(0);
     let (sender, receiver) = mpsc::channel();
@@ -76,11 +90,14 @@ pub fn check(files: &[String], as_json: bool, out: &mut impl Write) -> io::Resul
     })?;
     let [clean, refusals, not_loaded] = totals;
     if as_json {
-        let numbers = format!(
-            "\"files\":{},\"no_refusal\":{clean},\"refusals\":{refusals},\"not_loaded\":{not_loaded}",
-            files.len()
-        );
-        writeln!(out, "{{\"summary\":{{{numbers}}}}}")?;
+        let number = |n: usize| Some(n.to_string());
+        let counts = [
+            ("files", number(files.len())),
+            ("no_refusal", number(clean)),
+            ("refusals", number(refusals)),
+            ("not_loaded", number(not_loaded)),
+        ];
+        writeln!(out, "{}", json::object(&[("summary", Some(json::object(&counts)))]))?;
     } else {
         let all = count(files.len(), "file");
         writeln!(out, "{all}: {clean} with no refusal, {refusals} with refused commands, {not_loaded} not loaded")?;
@@ -104,69 +121,128 @@ fn print(lines: &mut String, bar: Option<(usize, usize)>, out: &mut impl Write) 
     Ok(())
 }
 
-fn checked(file: &str, as_json: bool) -> Checked {
-    let source = match Source::read(file, false) {
+fn checked(path: &OsStr, as_json: bool) -> Checked {
+    let file = &path.to_string_lossy();
+    let source = match Source::read(path, false) {
         Ok(source) => source,
-        Err(Unread(messages)) => return unread(file, &messages, as_json),
+        Err(unread) => {
+            let line = if as_json { unread_json(file, &unread) } else { unread_line(file, &unread) };
+            return Checked { verdict: Verdict::NotLoaded, line };
+        }
     };
-    if let Some(refused) = &source.refused {
-        let (number, place) = (refused.refusal.number, refused.refusal.place);
-        let line = if as_json {
-            let line = source.line(place as usize).map_or(String::new(), |line| format!(",\"line\":{line}"));
-            let rest =
-                format!("\"number\":{number},\"place\":{place}{line},\"reason\":{}", json::string(&refused.words));
-            format!("{{\"file\":{},\"verdict\":\"not loaded\",{rest}}}", json::string(file))
-        } else {
-            format!("{file}: not loaded: {refused}")
-        };
-        return Checked { verdict: Verdict::NotLoaded, line };
-    }
-    match Rehearsal::of(&source.bytes, &source.scenario) {
-        Some(rehearsal) => ran(file, &source, &rehearsal, as_json),
-        None => unread(file, &["it loads and does not run".into()], as_json),
-    }
-}
-
-/// A file that cannot be read, or a text with mistakes.
-fn unread(file: &str, messages: &[String], as_json: bool) -> Checked {
-    let first = messages.first().map_or("", |message| message.lines().next().unwrap_or(""));
-    let line = if as_json {
-        let messages: Vec<String> = messages.iter().map(|message| json::string(message)).collect();
-        format!("{{\"file\":{},\"verdict\":\"not loaded\",\"messages\":[{}]}}", json::string(file), messages.join(","))
-    } else {
-        format!("{file}: not loaded: {first}")
+    let rehearsal = match source.rehearsed() {
+        Ok(rehearsal) => rehearsal,
+        Err(refused) => {
+            let line = if as_json { refused_json(&source, &refused) } else { refused_line(&source, &refused) };
+            return Checked { verdict: Verdict::NotLoaded, line };
+        }
     };
-    Checked { verdict: Verdict::NotLoaded, line }
-}
-
-fn ran(file: &str, source: &Source, rehearsal: &Rehearsal, as_json: bool) -> Checked {
-    let scenario = &source.scenario;
-    let issued = rehearsal.after().ledger().count();
-    let (accepted, refused) = (rehearsal.accepted, rehearsal.refused);
-    let (verdict, word) =
-        if refused == 0 { (Verdict::NoRefusal, "no refusal") } else { (Verdict::Refusals, "refusals") };
-    let line = if as_json {
-        let each = rehearsal.refusals(scenario).map(|(i, command, reason)| {
-            let line = source.line(command.place).map_or(String::new(), |line| format!(",\"line\":{line}"));
-            let details: Vec<String> = reason.details.iter().map(|detail| json::string(detail)).collect();
-            format!(
-                "{{\"command\":{i},\"place\":{}{line},\"name\":\"{}\",\"number\":{},\"reason\":\"{}\",\"details\":[{}]}}",
-                command.place,
-                command.form().name,
-                reason.number,
-                meaning(reason.number),
-                details.join(",")
-            )
-        });
-        let each: Vec<String> = each.collect();
-        let totals = format!("\"accepted\":{accepted},\"refused\":{refused},\"issued\":{issued}");
-        format!("{{\"file\":{},\"verdict\":\"{word}\",{totals},\"refusals\":[{}]}}", json::string(file), each.join(","))
-    } else {
-        let first = rehearsal.refusals(scenario).next();
-        let first = first.map(|(i, command, reason)| {
-            format!("; first: command {i}, {}, {} ({})", command.form().name, reason.number, meaning(reason.number))
-        });
-        format!("{file}: {accepted} accepted, {refused} refused, {issued} issued{}", first.unwrap_or_default())
-    };
+    let verdict = Verdict::of(&rehearsal);
+    let line = if as_json { ran_json(&source, &rehearsal) } else { ran_line(&source, &rehearsal) };
     Checked { verdict, line }
+}
+
+fn unread_line(file: &str, unread: &Unread) -> String {
+    let message = match unread {
+        Unread::NoFile(message) => message.clone(),
+        Unread::Mistakes { mistakes, .. } => {
+            let more = mistakes.len() - 1;
+            let more = if more == 0 { String::new() } else { format!(" (and {} more)", count(more, "mistake")) };
+            mistakes.first().map_or(String::new(), |first| format!("line {}: {}{more}", first.line, first.message))
+        }
+    };
+    format!("{file}: not loaded: {message}")
+}
+
+/// "line 7: " of a record at a place, in a text.
+fn at_line(source: &Source, place: usize) -> String {
+    source.line(place).map_or(String::new(), |line| format!("line {line}: "))
+}
+
+fn refused_line(source: &Source, refused: &Refused) -> String {
+    format!("{}: not loaded: {}{refused}", source.name, at_line(source, refused.refusal.place as usize))
+}
+
+fn ran_line(source: &Source, rehearsal: &Rehearsal) -> String {
+    let (accepted, refused, issued) = (rehearsal.accepted, rehearsal.refused, rehearsal.after().ledger().count());
+    let first = rehearsal.refusals(&source.scenario).next().map(|(i, command, reason)| {
+        let (line, name) = (at_line(source, command.place), command.form().name);
+        format!("; first: {line}command {i}, {name}, {} ({})", reason.number, meaning(reason.number))
+    });
+    let note =
+        if source.scenario.commands.is_empty() { "; there are no commands".into() } else { first.unwrap_or_default() };
+    format!("{}: {accepted} accepted, {refused} refused, {issued} issued{note}", source.name)
+}
+
+/// The first two fields of every file's object.
+fn of_file(file: &str, verdict: Verdict) -> [(&'static str, Option<String>); 2] {
+    [("file", Some(json::string(file))), ("verdict", Some(json::string(verdict.words())))]
+}
+
+fn number(n: impl ToString) -> Option<String> {
+    Some(n.to_string())
+}
+
+fn unread_json(file: &str, unread: &Unread) -> String {
+    let rest = match unread {
+        Unread::NoFile(message) => ("error", Some(json::string(message))),
+        Unread::Mistakes { mistakes, .. } => {
+            let each = mistakes.iter().map(|mistake| {
+                let message = Some(json::string(&mistake.message));
+                json::object(&[
+                    ("line", number(mistake.line)),
+                    ("column", number(mistake.column + 1)),
+                    ("message", message),
+                ])
+            });
+            ("mistakes", Some(json::array(each)))
+        }
+    };
+    json::object(&[&of_file(file, Verdict::NotLoaded)[..], &[rest]].concat())
+}
+
+fn refused_json(source: &Source, refused: &Refused) -> String {
+    let rest = [
+        ("number", number(refused.refusal.number)),
+        ("place", number(refused.refusal.place)),
+        ("line", source.line(refused.refusal.place as usize).and_then(number)),
+        ("reason", Some(json::string(faults::meaning(refused.refusal.number)))),
+        ("details", Some(json::array([json::string(&refused.words)].into_iter()))),
+    ];
+    json::object(&[&of_file(&source.name, Verdict::NotLoaded)[..], &rest].concat())
+}
+
+fn ran_json(source: &Source, rehearsal: &Rehearsal) -> String {
+    let scenario = &source.scenario;
+    let refusals = rehearsal.refusals(scenario).map(|(i, command, reason)| {
+        json::object(&[
+            ("command", number(i)),
+            ("place", number(command.place)),
+            ("line", source.line(command.place).and_then(number)),
+            ("name", Some(json::string(command.form().name))),
+            ("party", Some(json::string(scenario.party_name(command.party(0))))),
+            ("number", number(reason.number)),
+            ("reason", Some(json::string(meaning(reason.number)))),
+            ("details", Some(json::array(reason.details.iter().map(|detail| json::string(detail))))),
+        ])
+    });
+    let issued = rehearsal.issued(scenario);
+    let ledger = issued.iter().map(|one| {
+        json::object(&[
+            ("certificate", Some(json::string(scenario.term_name_of(one.entry.certificate)))),
+            ("term", number(one.entry.certificate)),
+            ("family", Some(json::string(one.family))),
+            ("subject", Some(json::string(&scenario.subject_of(one.entry.certificate)))),
+            ("depth", number(one.entry.depth)),
+            ("path", Some(json::array(one.path.iter().map(|t| json::string(scenario.term_name_of(*t)))))),
+        ])
+    });
+    let rest = [
+        ("accepted", number(rehearsal.accepted)),
+        ("refused", number(rehearsal.refused)),
+        ("issued", number(issued.len())),
+        ("refusals", Some(json::array(refusals))),
+        ("ledger", Some(json::array(ledger))),
+    ];
+    json::object(&[&of_file(&source.name, Verdict::of(rehearsal))[..], &rest].concat())
 }

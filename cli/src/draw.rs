@@ -9,8 +9,8 @@ use birdweekly::Mark;
 use crate::forms;
 use crate::reasons::{meaning, Reason};
 use crate::rehearsal::Rehearsal;
-use crate::scenario::{subject_text, Record, Scenario};
-use crate::words::asked_for;
+use crate::scenario::{Record, Scenario};
+use crate::words::{asked_for, count};
 
 /// Fill colours: of endorsement certificates, of the families of issued ones, of refused commands.
 const ENDORSEMENT: &str = "#f3e3b3";
@@ -64,10 +64,6 @@ impl Picture<'_> {
         self.scenario.named(certificate, forms::CERTIFICATE, 0)
     }
 
-    fn subject(&self, certificate: u16) -> String {
-        self.scenario.term(certificate).and_then(|record| record.subject()).map_or(String::new(), subject_text)
-    }
-
     /// Certificates of the set-up.
     fn endorsements(&mut self) {
         let given = |record: &&Record| {
@@ -75,7 +71,8 @@ impl Picture<'_> {
         };
         let given: BTreeSet<u16> = self.scenario.setup.iter().filter(given).map(|record| record.term(1)).collect();
         for t in given {
-            let label = [self.scenario.term_name_of(t).to_string(), format!("EK certificate, {}", self.subject(t))];
+            let label =
+                [self.scenario.term_name_of(t).to_string(), format!("EK certificate, {}", self.scenario.subject_of(t))];
             let tpm = self.tpm(self.certified(t));
             self.node(tpm, &format!("t{t}"), &label, &format!("fillcolor=\"{ENDORSEMENT}\", style=\"filled\""));
             self.drawn.insert(t);
@@ -87,7 +84,7 @@ impl Picture<'_> {
             let t = one.entry.certificate;
             let label = [
                 self.scenario.term_name_of(t).to_string(),
-                format!("{}, {}, depth {}", one.family, self.subject(t), one.entry.depth),
+                format!("{}, {}, depth {}", one.family, self.scenario.subject_of(t), one.entry.depth),
             ];
             let tpm = self.tpm(self.certified(t));
             self.node(tpm, &format!("t{t}"), &label, &format!("fillcolor=\"{}\"", fill(one.family)));
@@ -123,7 +120,7 @@ impl Picture<'_> {
             let (scenario, asked) = (self.scenario, asked_for(command));
             let desk = scenario.party_name(command.party(0));
             let mut label = vec![format!("{}, command {i} of {desk}", command.form().name)];
-            label.extend(asked.iter().map(|t| format!("{}, {}", scenario.term_name_of(*t), self.subject(*t))));
+            label.extend(asked.iter().map(|t| format!("{}, {}", scenario.term_name_of(*t), scenario.subject_of(*t))));
             label.push(format!("refused, {}: {}", reason.number, meaning(reason.number)));
             let body = self.request(command).and_then(|request| self.body(request));
             let parent = body.map(|record| record.term(1));
@@ -139,8 +136,10 @@ impl Picture<'_> {
     }
 
     fn text(&self, name: &str) -> String {
-        let mut text = String::from("digraph certificates {\n  rankdir=BT;\n");
-        let _ = writeln!(text, "  label=\"{}\"; labelloc=t; fontname=\"Helvetica\"; fontsize=16;", escaped(name));
+        let mut text = String::from("digraph certificates {\n  rankdir=BT; ordering=in;\n");
+        let (accepted, refused) = (count(self.rehearsal.accepted, "command"), self.rehearsal.refused);
+        let title = format!("{}\\n{accepted} accepted, {refused} refused", escaped(name));
+        let _ = writeln!(text, "  label=\"{title}\"; labelloc=t; fontname=\"Helvetica\"; fontsize=16;");
         text.push_str(
             "  node [shape=box, style=\"filled,rounded\", fontname=\"Helvetica\", fontsize=12, color=\"#555555\"];\n",
         );

@@ -5,7 +5,7 @@ use std::fmt::Write;
 use crate::forms::{self, listed};
 use crate::reasons::meaning;
 use crate::rehearsal::Rehearsal;
-use crate::scenario::{subject_text, Scenario};
+use crate::scenario::Scenario;
 use crate::source::Source;
 use crate::words::{count, sentence};
 
@@ -49,15 +49,17 @@ pub fn explain(source: &Source, rehearsal: &Rehearsal, refused_alone: bool, colo
             }
         }
     }
-    let _ = writeln!(text, "\n{bold}Certificates issued{plain}");
+    if scenario.commands.is_empty() {
+        let _ = writeln!(text, "  there are no commands");
+    }
+    let _ = writeln!(text, "\n{bold}Ledger: the certificates issued, in order{plain}");
     let issued = rehearsal.issued(scenario);
     if issued.is_empty() {
         let _ = writeln!(text, "  none");
     }
     for one in &issued {
         let certificate = one.entry.certificate;
-        let subject =
-            scenario.term(certificate).and_then(|record| record.subject()).map_or(String::new(), subject_text);
+        let subject = scenario.subject_of(certificate);
         let desk = scenario.commands.get(one.by).map_or("", |command| scenario.party_name(command.party(0)));
         let names: Vec<&str> = one.path.iter().map(|t| scenario.term_name_of(*t)).collect();
         let _ = writeln!(

@@ -4,6 +4,7 @@ use birdweekly::FILE_BYTES;
 
 use crate::forms::{self, kind_of, role_words, term_words, Field, Kind, Section};
 use crate::scenario::{word, Record, Scenario, Subject};
+use crate::words::count;
 
 /// The most parties and terms of a file.
 const PARTIES: usize = 8;
@@ -34,7 +35,7 @@ pub fn meaning(number: u32) -> &'static str {
 /// What is wrong with the record at a place; the records before it are in order.
 pub fn fault(bytes: &[u8], whole: &Scenario, place: usize) -> Option<Fault> {
     if bytes.len() > FILE_BYTES {
-        return Some((2, format!("the file has {} bytes; at most {FILE_BYTES} are allowed", bytes.len())));
+        return Some((2, format!("the file has more than {FILE_BYTES} bytes")));
     }
     let byte = *bytes.get(place)?;
     let Some(kind) = kind_of(byte) else {
@@ -45,9 +46,9 @@ pub fn fault(bytes: &[u8], whole: &Scenario, place: usize) -> Option<Fault> {
         return Some((
             4,
             format!(
-                "after the kind {byte:02X} hex ({}) {} bytes are called for, and {left} are there",
+                "after the kind {byte:02X} hex ({}) {} must follow, and {left} do",
                 kind.name,
-                kind.body()
+                count(kind.body(), "byte")
             ),
         ));
     }

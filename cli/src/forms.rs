@@ -75,7 +75,11 @@ impl Field {
         match self {
             Field::Role => format!("a role ({})", listed(&ROLES, "or")),
             Field::Identifier => "a number from 0 to 65535".into(),
-            Field::Attributes => format!("attributes (none, or a sum of {})", listed(&FLAGS, "and")),
+            Field::Attributes => format!(
+                "attributes (none, or a sum such as {} of {})",
+                attributes_text(ATTESTATION_KEY),
+                listed(&FLAGS, "and")
+            ),
             Field::Subject => "a Subject (device or tpm, then a number)".into(),
             Field::Party => "the name of a party".into(),
             Field::AnyTerm => "the name of a term".into(),

@@ -1,4 +1,4 @@
-//! Strings as JSON has them.
+//! Values as JSON has them.
 
 use std::fmt::Write;
 
@@ -18,4 +18,14 @@ pub fn string(text: &str) -> String {
     }
     quoted.push('"');
     quoted
+}
+
+pub fn array(items: impl Iterator<Item = String>) -> String {
+    format!("[{}]", items.collect::<Vec<_>>().join(","))
+}
+
+/// An object of the fields that are there, their values in JSON.
+pub fn object(fields: &[(&str, Option<String>)]) -> String {
+    let there = fields.iter().filter_map(|(name, value)| value.as_ref().map(|value| format!("\"{name}\":{value}")));
+    format!("{{{}}}", there.collect::<Vec<_>>().join(","))
 }

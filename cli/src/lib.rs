@@ -2,6 +2,7 @@
 
 pub mod check;
 pub mod draw;
+pub mod effects;
 pub mod explain;
 pub mod faults;
 pub mod forms;

@@ -1,16 +1,21 @@
 //! The command `birdweekly`: scenarios read, explained, drawn and checked. `birdweekly --help` says how.
 
+use std::ffi::{OsStr, OsString};
+use std::fs::DirEntry;
 use std::io::{self, IsTerminal, Write};
+use std::path::Path;
 use std::process::ExitCode;
 
 use birdweekly::{Buffers, StockAnswer};
 use desk_view::check::{check, Verdict};
 use desk_view::draw::draw;
 use desk_view::explain::{explain, COLOURS, NO_COLOURS};
+use desk_view::forms::role_words;
 use desk_view::listing::listing;
 use desk_view::rehearsal::Rehearsal;
 use desk_view::show::show;
 use desk_view::source::{Source, Unread};
+use desk_view::text::suggestion;
 
 const HELP: &str = "\
 birdweekly: rehearses DevID enrolment procedures and tells what came of them
@@ -21,19 +26,17 @@ birdweekly: rehearses DevID enrolment procedures and tells what came of them
   birdweekly check FILES... [--json]   many files, or folders of them, on all processors: a line each, and a summary
   birdweekly assemble FILE [-o OUT]    a scenario's text as the bytes that the engine takes
   birdweekly show FILE [-o OUT]        a scenario's bytes as text
-  birdweekly list FILE                 the listing in numbers: R ordinal number, I certificate parent depth, T totals
+  birdweekly list FILE                 the listing in numbers: R ordinal number, I certificate parent depth, T accepted
+                                       refused issued; F number place of a file that does not load
   birdweekly stock FILE DESK IAKS      the boards that the unused numbers of an OEM desk are still enough for,
                                        with so many IAKs a board
 
-A FILE whose name ends in .scenario is text (docs/SCENARIOS.md), any other is bytes; - is standard input, text for
-assemble, bytes for the others. Without -o the result goes to standard output. Colours are for terminals alone.
+A FILE whose name ends in .scenario is text (docs/SCENARIOS.md), any other is bytes; - is standard input, which is
+bytes. assemble takes text under any name. Without -o the result goes to standard output. Colours are for terminals alone.
 
 Exit status: 0 a run with no refusal (assemble, show, stock: done); 1 some commands are refused; 2 a file that does
 not load or cannot be read, or a call that is not as above. Messages go to standard error.
 ";
-
-const STATUS_REFUSED: u8 = 1;
-const STATUS_FAILED: u8 = 2;
 
 /// What ends a call without a result: messages for standard error, or output that nobody reads.
 enum Failure {
@@ -49,7 +52,10 @@ impl From<io::Error> for Failure {
 
 impl From<Unread> for Failure {
     fn from(unread: Unread) -> Failure {
-        Failure::Messages(unread.0)
+        Failure::Messages(match unread {
+            Unread::NoFile(message) => vec![format!("birdweekly: {message}")],
+            mistakes => mistakes.told(),
+        })
     }
 }
 
@@ -58,90 +64,115 @@ fn failed<T>(message: impl Into<String>) -> Result<T, Failure> {
 }
 
 fn main() -> ExitCode {
-    let words: Vec<String> = std::env::args_os().skip(1).map(|word| word.to_string_lossy().into_owned()).collect();
+    let words: Vec<OsString> = std::env::args_os().skip(1).collect();
     match call(&words) {
         Ok(status) => ExitCode::from(status),
         Err(Failure::Messages(messages)) => {
             for message in messages {
                 eprintln!("{message}");
             }
-            ExitCode::from(STATUS_FAILED)
+            ExitCode::from(Verdict::NotLoaded.status())
         }
         Err(Failure::Output(error)) => {
             if error.kind() != io::ErrorKind::BrokenPipe {
                 eprintln!("birdweekly: cannot write: {error}");
             }
-            ExitCode::from(STATUS_FAILED)
+            ExitCode::from(Verdict::NotLoaded.status())
         }
     }
 }
 
 /// A call's words after the first: flags, the output's name, and the rest.
 struct Words {
-    files: Vec<String>,
+    rest: Vec<OsString>,
     flag: bool,
-    out: Option<String>,
+    out: Option<OsString>,
 }
 
 /// Takes the words of a call that knows at most one flag, and -o or not.
-fn words(given: &[String], flag: Option<&str>, takes_out: bool) -> Result<Words, Failure> {
-    let mut found = Words { files: Vec::new(), flag: false, out: None };
+fn words(given: &[OsString], flag: Option<&str>, takes_out: bool) -> Result<Words, Failure> {
+    let mut found = Words { rest: Vec::new(), flag: false, out: None };
     let mut given = given.iter();
     let mut named = false;
     while let Some(word) = given.next() {
-        match word.as_str() {
+        let text = word.to_string_lossy();
+        match &*text {
             "--" if !named => named = true,
-            word if named || !word.starts_with('-') || word == "-" => found.files.push(word.into()),
-            word if Some(word) == flag => found.flag = true,
+            text if named || !text.starts_with('-') || text == "-" => found.rest.push(word.clone()),
+            text if Some(text) == flag => found.flag = true,
             "-o" if takes_out => match given.next() {
                 Some(out) => found.out = Some(out.clone()),
                 None => return failed("birdweekly: -o wants the name of a file"),
             },
-            word => return failed(format!("birdweekly: {word} is no option here; see birdweekly --help")),
+            text => return failed(format!("birdweekly: {text} is no option here; see birdweekly --help")),
         }
     }
     Ok(found)
 }
 
-fn one_file(words: &Words, name: &str) -> Result<String, Failure> {
-    match &words.files[..] {
-        [file] => Ok(file.clone()),
-        _ => failed(format!("birdweekly: {name} wants one file; see birdweekly --help")),
+fn one_file<'a>(words: &'a Words, name: &str) -> Result<&'a OsStr, Failure> {
+    let [file] = &words.rest[..] else {
+        return failed(format!("birdweekly: {name} wants one file; see birdweekly --help"));
+    };
+    if Path::new(file).is_dir() {
+        return failed(format!("birdweekly: {} is a folder; check takes folders", file.to_string_lossy()));
+    }
+    let same = |out: &OsString| {
+        Path::new(out).canonicalize().is_ok_and(|out| Path::new(file).canonicalize().is_ok_and(|file| file == out))
+    };
+    match &words.out {
+        Some(out) if same(out) => failed(format!("birdweekly: {} is the file that is read", out.to_string_lossy())),
+        _ => Ok(file),
     }
 }
 
-fn call(given: &[String]) -> Result<u8, Failure> {
-    let asks_help = |word: &String| word == "--help" || word == "-h";
-    let Some(name) = given.first() else {
+/// A call by its name, and what it takes beside files: a flag, and -o or not.
+struct Call {
+    name: &'static str,
+    flag: Option<&'static str>,
+    takes_out: bool,
+    run: fn(&Words) -> Result<u8, Failure>,
+}
+
+const CALLS: [Call; 7] = [
+    Call { name: "explain", flag: Some("--refused"), takes_out: false, run: explained },
+    Call { name: "draw", flag: None, takes_out: true, run: drawn },
+    Call { name: "check", flag: Some("--json"), takes_out: false, run: checked },
+    Call { name: "assemble", flag: None, takes_out: true, run: assembled },
+    Call { name: "show", flag: None, takes_out: true, run: shown },
+    Call { name: "list", flag: None, takes_out: false, run: listed },
+    Call { name: "stock", flag: None, takes_out: false, run: stocked },
+];
+
+fn call(given: &[OsString]) -> Result<u8, Failure> {
+    let Some((first, rest)) = given.split_first() else {
         return failed(HELP.trim_end());
     };
-    if name == "help" || given.iter().take_while(|word| *word != "--").any(asks_help) {
-        io::stdout().lock().write_all(HELP.as_bytes())?;
+    let first = first.to_string_lossy();
+    let asks_help = |word: &OsString| word == "--help" || word == "-h";
+    if first == "help" || given.iter().take_while(|word| *word != "--").any(asks_help) {
+        give(HELP.as_bytes(), &None)?;
         return Ok(0);
     }
-    let rest = &given[1..];
-    match name.as_str() {
-        "--version" => {
-            writeln!(io::stdout(), "birdweekly {}", env!("CARGO_PKG_VERSION"))?;
-            Ok(0)
+    if first == "--version" {
+        give(concat!("birdweekly ", env!("CARGO_PKG_VERSION"), "\n").as_bytes(), &None)?;
+        return Ok(0);
+    }
+    match CALLS.iter().find(|call| call.name == first) {
+        Some(call) => (call.run)(&words(rest, call.flag, call.takes_out)?),
+        None => {
+            let alike = suggestion(&first, CALLS.iter().map(|call| call.name));
+            let hint = alike.map_or("see birdweekly --help".into(), |alike| format!("did you mean {alike}?"));
+            failed(format!("birdweekly: there is no {first}; {hint}"))
         }
-        "assemble" => assembled(&words(rest, None, true)?),
-        "show" => shown(&words(rest, None, true)?),
-        "explain" => explained(&words(rest, Some("--refused"), false)?),
-        "draw" => drawn(&words(rest, None, true)?),
-        "list" => listed(&words(rest, None, false)?),
-        "check" => checked(&words(rest, Some("--json"), false)?),
-        "stock" => stocked(&words(rest, None, false)?),
-        other => failed(format!("birdweekly: there is no {other}; see birdweekly --help")),
     }
 }
 
 /// Writes a result to the file of -o, or to standard output.
-fn give(bytes: &[u8], out: &Option<String>) -> Result<(), Failure> {
+fn give(bytes: &[u8], out: &Option<OsString>) -> Result<(), Failure> {
     match out {
-        Some(path) => {
-            std::fs::write(path, bytes).or_else(|error| failed(format!("birdweekly: cannot write {path}: {error}")))
-        }
+        Some(path) => std::fs::write(path, bytes)
+            .or_else(|error| failed(format!("birdweekly: cannot write {}: {error}", path.to_string_lossy()))),
         None => {
             let mut stdout = io::stdout().lock();
             stdout.write_all(bytes)?;
@@ -151,7 +182,7 @@ fn give(bytes: &[u8], out: &Option<String>) -> Result<(), Failure> {
 }
 
 /// A file that loads.
-fn loaded(path: &str, text: bool) -> Result<Source, Failure> {
+fn loaded(path: &OsStr, text: bool) -> Result<Source, Failure> {
     let source = Source::read(path, text)?;
     match &source.refused {
         Some(refused) => failed(source.told(refused)),
@@ -160,21 +191,16 @@ fn loaded(path: &str, text: bool) -> Result<Source, Failure> {
 }
 
 /// A file that loads, with its run.
-fn rehearsed(path: &str) -> Result<(Source, Rehearsal), Failure> {
-    let source = loaded(path, false)?;
-    match Rehearsal::of(&source.bytes, &source.scenario) {
-        Some(rehearsal) => Ok((source, rehearsal)),
-        None => failed(format!("{path}: it loads and does not run")),
+fn rehearsed(path: &OsStr) -> Result<(Source, Rehearsal), Failure> {
+    let source = Source::read(path, false)?;
+    match source.rehearsed() {
+        Ok(rehearsal) => Ok((source, rehearsal)),
+        Err(refused) => failed(source.told(&refused)),
     }
 }
 
-fn status(rehearsal: &Rehearsal) -> u8 {
-    let verdict = if rehearsal.refused == 0 { Verdict::NoRefusal } else { Verdict::Refusals };
-    verdict.status()
-}
-
 fn assembled(words: &Words) -> Result<u8, Failure> {
-    let source = loaded(&one_file(words, "assemble")?, true)?;
+    let source = loaded(one_file(words, "assemble")?, true)?;
     if words.out.is_none() && io::stdout().is_terminal() {
         return failed("birdweekly: assemble gives bytes, which are not for a terminal; say -o OUT");
     }
@@ -183,7 +209,7 @@ fn assembled(words: &Words) -> Result<u8, Failure> {
 }
 
 fn shown(words: &Words) -> Result<u8, Failure> {
-    let source = Source::read(&one_file(words, "show")?, false)?;
+    let source = Source::read(one_file(words, "show")?, false)?;
     let Some(refused) = &source.refused else {
         give(show(&source.scenario, source.bytes.len()).as_bytes(), &words.out)?;
         return Ok(0);
@@ -195,70 +221,74 @@ fn shown(words: &Words) -> Result<u8, Failure> {
 }
 
 fn explained(words: &Words) -> Result<u8, Failure> {
-    let (source, rehearsal) = rehearsed(&one_file(words, "explain")?)?;
-    let colour = io::stdout().is_terminal() && std::env::var_os("NO_COLOR").is_none();
+    let (source, rehearsal) = rehearsed(one_file(words, "explain")?)?;
+    let dumb = std::env::var_os("TERM").is_some_and(|term| term == "dumb");
+    let colour = io::stdout().is_terminal() && !dumb && std::env::var_os("NO_COLOR").is_none();
     let text = explain(&source, &rehearsal, words.flag, if colour { &COLOURS } else { &NO_COLOURS });
     give(text.as_bytes(), &None)?;
-    Ok(status(&rehearsal))
+    Ok(Verdict::of(&rehearsal).status())
 }
 
 fn drawn(words: &Words) -> Result<u8, Failure> {
-    let (source, rehearsal) = rehearsed(&one_file(words, "draw")?)?;
+    let (source, rehearsal) = rehearsed(one_file(words, "draw")?)?;
     give(draw(&source.name, &source.scenario, &rehearsal).as_bytes(), &words.out)?;
-    Ok(status(&rehearsal))
+    Ok(Verdict::of(&rehearsal).status())
 }
 
 /// A file that does not load is listed too, as "F number place".
 fn listed(words: &Words) -> Result<u8, Failure> {
-    let source = Source::read(&one_file(words, "list")?, false)?;
-    if let Some(refused) = &source.refused {
-        give(format!("F {} {}\n", refused.refusal.number, refused.refusal.place).as_bytes(), &None)?;
-        return failed(source.told(refused));
-    }
-    match Rehearsal::of(&source.bytes, &source.scenario) {
-        Some(rehearsal) => {
+    let source = Source::read(one_file(words, "list")?, false)?;
+    match source.rehearsed() {
+        Ok(rehearsal) => {
             give(listing(&source.scenario, &rehearsal).as_bytes(), &None)?;
-            Ok(status(&rehearsal))
+            Ok(Verdict::of(&rehearsal).status())
         }
-        None => failed(format!("{}: it loads and does not run", source.name)),
+        Err(refused) => {
+            give(format!("F {} {}\n", refused.refusal.number, refused.refusal.place).as_bytes(), &None)?;
+            failed(source.told(&refused))
+        }
     }
 }
 
-/// A folder stands for the files in it.
-fn files_of(path: &str) -> Result<Vec<String>, Failure> {
-    if !std::path::Path::new(path).is_dir() {
-        return Ok(vec![path.into()]);
+/// A folder stands for the files in it and in its folders.
+fn files_of(path: &OsStr, files: &mut Vec<OsString>) -> Result<(), Failure> {
+    if !Path::new(path).is_dir() {
+        files.push(path.into());
+        return Ok(());
     }
-    let unreadable = |error: io::Error| Failure::Messages(vec![format!("cannot read {path}: {error}")]);
-    let mut files = Vec::new();
-    for entry in std::fs::read_dir(path).map_err(unreadable)? {
-        let entry = entry.map_err(unreadable)?.path();
-        if entry.is_file() {
-            files.push(entry.to_string_lossy().into_owned());
+    let unreadable = |error: io::Error| Unread::NoFile(format!("cannot read {}: {error}", path.to_string_lossy()));
+    let entries: io::Result<Vec<DirEntry>> = std::fs::read_dir(path).map_err(unreadable)?.collect();
+    let mut entries = entries.map_err(unreadable)?;
+    entries.sort_by_key(|entry| entry.file_name());
+    for entry in entries {
+        // A link to a folder is not followed: it may lead back.
+        if entry.file_type().is_ok_and(|kind| kind.is_dir()) {
+            files_of(entry.path().as_os_str(), files)?;
+        } else {
+            files.push(entry.path().into());
         }
     }
-    files.sort();
-    Ok(files)
+    Ok(())
 }
 
 fn checked(words: &Words) -> Result<u8, Failure> {
     let mut files = Vec::new();
-    for path in &words.files {
-        files.extend(files_of(path)?);
+    for path in &words.rest {
+        files_of(path, &mut files)?;
     }
-    if words.files.is_empty() {
-        return failed("birdweekly: check wants files; see birdweekly --help");
+    if files.is_empty() {
+        return failed("birdweekly: there are no files to check; see birdweekly --help");
     }
     Ok(check(&files, words.flag, &mut io::stdout().lock())?)
 }
 
 fn stocked(words: &Words) -> Result<u8, Failure> {
-    let [file, desk, iaks] = &words.files[..] else {
+    let [file, desk, iaks] = &words.rest[..] else {
         return failed("birdweekly: stock wants a file, a desk and the IAKs per board; see birdweekly --help");
     };
-    let source = loaded(file, false)?;
-    let names = &source.scenario.party_names;
-    let Some(party) = names.iter().position(|name| name == desk) else {
+    let (source, desk, iaks) = (loaded(file, false)?, desk.to_string_lossy(), iaks.to_string_lossy());
+    let (file, names) = (&source.name, &source.scenario.party_names);
+    let Some(party) = names.iter().position(|name| *name == desk) else {
         return failed(format!("birdweekly: {file} has no party {desk}; it has {}", names.join(", ")));
     };
     let Ok(per_board) = iaks.parse() else {
@@ -266,13 +296,17 @@ fn stocked(words: &Words) -> Result<u8, Failure> {
     };
     match Buffers::new().stock(&source.bytes, party as u8, per_board) {
         StockAnswer::Boards { boards, rest } => {
-            writeln!(io::stdout(), "boards {boards}, numbers left over {rest}")?;
+            give(format!("boards {boards}, numbers left over {rest}\n").as_bytes(), &None)?;
             Ok(0)
         }
         StockAnswer::Refused(refusal) => {
-            failed(format!("{file}: {refusal}: the IAKs per board are 0, or {desk} is no OEM desk"))
+            let role = source.scenario.role(party as u8).map_or("", role_words);
+            let why = if per_board == 0 {
+                "the IAKs per board are 0".into()
+            } else {
+                format!("{desk} is {role}, no OEM desk")
+            };
+            failed(format!("{file}: {refusal}: {why}"))
         }
     }
 }
-
-const _: () = assert!(STATUS_REFUSED == Verdict::Refusals as u8 && STATUS_FAILED == Verdict::NotLoaded as u8);

@@ -3,6 +3,7 @@
 
 use birdweekly::{Buffers, Entry, Mark};
 
+use crate::effects::{Effect, Effects};
 use crate::forms::{self, attributes_text, role_words, term_words, DEVICE, OEM_DESK, OWNER_DESK, TPM_MAKER};
 use crate::scenario::{subject_text, Record, Scenario, Subject};
 
@@ -45,9 +46,11 @@ pub fn meaning(number: u8) -> &'static str {
     }
 }
 
-/// Why a command is refused in a state; none where it is accepted.
-pub fn reason(scenario: &Scenario, before: &Buffers, command: &Record) -> Option<Reason> {
-    let mut tests = Tests { scenario, before, closed: Vec::new(), added: Vec::new(), failed: Vec::new() };
+/// Why the command of an ordinal is refused in the state before it; none where it is accepted.
+pub fn reason(scenario: &Scenario, effects: &Effects, before: &Buffers, ordinal: usize) -> Option<Reason> {
+    let command = scenario.commands.get(ordinal)?;
+    let (closed, added, failed) = (Vec::new(), Vec::new(), Vec::new());
+    let mut tests = Tests { scenario, effects, before, ordinal, closed, added, failed };
     tests.command(command);
     tests.lowest()
 }
@@ -69,7 +72,10 @@ fn family(kind: u8) -> Family {
 
 struct Tests<'a> {
     scenario: &'a Scenario,
+    effects: &'a Effects,
     before: &'a Buffers,
+    /// Of the command.
+    ordinal: usize,
     /// Inside a 43: the credentials that its pairs so far close, and the entries that they add.
     closed: Vec<u16>,
     added: Vec<Entry>,
@@ -158,11 +164,28 @@ impl Tests<'_> {
 
     fn known(&mut self, p: u8, t: u16) {
         self.need(14, self.before.knows(p, t), |this| {
-            let knowers = this.those(|q| this.before.knows(q, t));
-            let who =
-                if knowers.is_empty() { "nobody does".into() } else { format!("known to {}", this.parties(&knowers)) };
-            format!("{} does not know {}; {who}", this.party(p), this.told(t))
+            format!("{} does not know {}; {}", this.party(p), this.told(t), this.knowers(p, t))
         });
+    }
+
+    /// Who knows a term that a party does not know, and what came of a command that would have taught it.
+    fn knowers(&self, p: u8, t: u16) -> String {
+        if self.scenario.is_kind(t, forms::PRIVATE_KEY) {
+            return "nobody knows a private key, it stays in its TPM".into();
+        }
+        let knowers = self.those(|q| self.before.knows(q, t));
+        let who =
+            if knowers.is_empty() { "nobody does".into() } else { format!("known to {}", self.parties(&knowers)) };
+        // Whoever learns a term keeps it, so that a command before this one that would have taught it was refused.
+        match self.earlier(Effect::Teaches(p), t) {
+            [.., i] => format!("{who}; command {i}, which would have told it, was refused"),
+            [] => who,
+        }
+    }
+
+    /// The commands before this one with an effect on a term.
+    fn earlier(&self, effect: Effect, term: u16) -> &[usize] {
+        self.effects.before(effect, term, self.ordinal)
     }
 
     fn holders(&self, private: u16) -> String {
@@ -197,7 +220,12 @@ impl Tests<'_> {
     fn has(&mut self, key: u16, flag: u8) {
         let attributes = self.scenario.attributes(key);
         self.need(16, attributes & flag != 0, |this| {
-            format!("{} needs {}; it has {}", this.name(key), attributes_text(flag), attributes_text(attributes))
+            format!(
+                "{} has the attributes {}, without {}",
+                this.name(key),
+                attributes_text(attributes),
+                attributes_text(flag)
+            )
         });
     }
 
@@ -241,29 +269,23 @@ impl Tests<'_> {
             return;
         }
         let hash = self.scenario.is_kind(message, forms::HASH);
-        let signs = "a restricted key signs only a hash that its own TPM made";
+        let signs = "a restricted key signs only a hash for which its own TPM has a ticket";
         self.need(17, hash, |this| {
             let kind = this.scenario.term(message).map_or(0, |record| record.kind);
             format!("{} is restricted, and {} is {}: {signs}", this.name(key), this.name(message), term_words(kind))
         });
         self.need(17, !hash || self.before.in_table(p, message), |this| {
             let content = this.scenario.named(message, forms::HASH, 0).unwrap_or(forms::EMPTY);
+            let others = this.those(|q| this.before.in_table(q, message));
             let why = if this.scenario.is_kind(content, forms::ATTEST) {
-                "; of a hash of an attest it keeps no record".to_string()
+                "; the hash of an attest gets none".to_string()
+            } else if others.is_empty() {
+                format!("; it gets one where {} hashes {}", this.party(p), this.name(content))
             } else {
-                let makers = this.those(|q| this.before.in_table(q, message));
-                if makers.is_empty() {
-                    String::new()
-                } else {
-                    format!("; the TPM of {} did", this.parties(&makers))
-                }
+                format!("; that of {} has one", this.parties(&others))
             };
-            format!(
-                "{} is restricted, and the TPM of {} did not make {}: {signs}{why}",
-                this.name(key),
-                this.party(p),
-                this.told(message)
-            )
+            let (key, message) = (this.name(key), this.told(message));
+            format!("{key} is restricted, and the TPM of {} has no ticket for {message}: {signs}{why}", this.party(p))
         });
     }
 
@@ -318,7 +340,7 @@ impl Tests<'_> {
             0x39 | 0x3A => {
                 let (kind, i) = if command.kind == 0x39 { (forms::SIGNATURE, 1) } else { (forms::CERTIFICATE, 2) };
                 let key = self.scenario.named(t, kind, i).unwrap_or(forms::EMPTY);
-                self.paired(18, t, key, other);
+                self.paired(18, t, key, other, "");
             }
             _ => {
                 let (has, asked) = (self.scenario.attributes(t), command.attributes());
@@ -334,18 +356,14 @@ impl Tests<'_> {
         }
     }
 
-    /// What a private key signed is proved by its public half.
-    fn paired(&mut self, number: u8, signed: u16, private: u16, public: u16) {
+    /// What a private key signed is proved by its public half; which key that is to be is told behind it.
+    fn paired(&mut self, number: u8, signed: u16, private: u16, public: u16, which: &str) {
         self.need(number, self.scenario.are_pair(public, private), |this| {
             let (a, b) = (this.scenario.term(public), this.scenario.term(private));
             let same_id = a.zip(b).is_some_and(|(a, b)| a.values.first() == b.values.first());
             let why = if same_id { "; their ids agree, their attributes do not" } else { "" };
-            format!(
-                "{} is signed by {}, which is not the private half of {}{why}",
-                this.name(signed),
-                this.told(private),
-                this.told(public)
-            )
+            let (signed, private, public) = (this.name(signed), this.told(private), this.told(public));
+            format!("{signed} is signed by {private}, which is not the private half of {public}{which}{why}")
         });
     }
 
@@ -382,8 +400,8 @@ impl Tests<'_> {
         Some((body, signature)).filter(|_| !self.failed.iter().any(|(number, _)| *number == 19))
     }
 
-    /// The hash is that of the body, and the new key's private half signed it.
-    fn proof(&mut self, body: u16, signature: u16, key: u16) {
+    /// The hash is that of the body, and the new key's private half signed it; that key is the one of a term.
+    fn proof(&mut self, body: u16, signature: u16, key: u16, key_of: u16) {
         let scenario = self.scenario;
         let digest = scenario.named(signature, forms::SIGNATURE, 0).unwrap_or(forms::EMPTY);
         let content = scenario.named(digest, forms::HASH, 0).unwrap_or(forms::EMPTY);
@@ -396,7 +414,8 @@ impl Tests<'_> {
                 this.name(body)
             )
         });
-        self.paired(20, signature, signer, key);
+        let which = format!(", the key of {}", self.name(key_of));
+        self.paired(20, signature, signer, key, &which);
     }
 
     fn attributes(&mut self, key: u16, what: &str, called_for: u8) {
@@ -419,7 +438,7 @@ impl Tests<'_> {
         self.need(21, role.is_some_and(|role| roles.contains(&role)), |this| {
             let whose = match (party, role) {
                 (Some(party), Some(role)) => format!("the signing key of {}, {}", this.party(party), role_words(role)),
-                _ => "nobody's signing key".into(),
+                _ => "nobody's signing key (no signs-with has it)".into(),
             };
             let allowed: Vec<&str> = roles.iter().map(|role| role_words(*role)).collect();
             format!(
@@ -444,7 +463,7 @@ impl Tests<'_> {
                     subject.map_or(String::new(), subject_text)
                 )
             });
-            self.proof(body, signature, iak);
+            self.proof(body, signature, iak, body);
             let ek = self.scenario.named(certificate, forms::CERTIFICATE, 0).unwrap_or(forms::EMPTY);
             let subject = self.scenario.term(certificate).and_then(|record| record.subject());
             self.need(21, matches!(subject, Some(Subject::Tpm(_))), |this| {
@@ -490,7 +509,8 @@ impl Tests<'_> {
     }
 
     /// r is (key, Subject, the desk's key).
-    fn called_for(&mut self, desk: u8, r: u16, key: u16, subject: Option<Subject>) {
+    fn called_for(&mut self, desk: u8, r: u16, key: u16, subject_from: u16) {
+        let subject = self.scenario.term(subject_from).and_then(|record| record.subject());
         let Some(record) = self.scenario.term(r) else { return };
         let (certified, signer, found) = (record.term(0), record.term(2), record.subject());
         self.need(27, certified == key, |this| {
@@ -498,7 +518,8 @@ impl Tests<'_> {
         });
         self.need(27, found == subject, |this| {
             let text = |subject: Option<Subject>| subject.map_or(String::new(), subject_text);
-            format!("{} has the Subject {}; {} is called for", this.name(r), text(found), text(subject))
+            let (r, from) = (this.name(r), this.name(subject_from));
+            format!("{r} has the Subject {}; {}, that of {from}, is called for", text(found), text(subject))
         });
         let own = self.scenario.signing_key(desk);
         self.need(27, own == Some(signer), |this| match own {
@@ -523,13 +544,13 @@ impl Tests<'_> {
     }
 
     fn not_issued(&mut self, r: u16) {
-        let entry = self.ledger().position(|entry| entry.certificate == r);
-        self.need(28, entry.is_none(), |this| {
-            format!(
-                "{} is in the ledger already, as certificate {} of those issued",
-                this.name(r),
-                entry.unwrap_or(0) + 1
-            )
+        let listed = self.ledger().any(|entry| entry.certificate == r);
+        self.need(28, !listed, |this| {
+            let by = match this.earlier(Effect::Issues, r) {
+                [i] => format!(": command {i} issued it"),
+                _ => String::new(),
+            };
+            format!("{} is in the ledger already{by}", this.name(r))
         });
     }
 
@@ -557,25 +578,34 @@ impl Tests<'_> {
             Mark::CredentialClosed { .. } => {
                 format!("{} is closed: a certificate was issued for it", this.name(credential))
             }
-            _ => format!("{} was not opened: no challenge gave it", this.name(credential)),
+            _ => match this.earlier(Effect::Opens, credential) {
+                [.., i] => format!("{} was not opened: its challenge, command {i}, was refused", this.name(credential)),
+                [] => format!("{} was not opened: no challenge before gave it", this.name(credential)),
+            },
         });
         self.need(26, self.scenario.is_role(returning, DEVICE), |this| {
             let role = this.scenario.role(returning).unwrap_or(u8::MAX);
             format!("{} is {}; a device has to return the number", this.party(returning), role_words(role))
         });
         self.need(26, self.before.knows(returning, number), |this| {
-            format!(
-                "{} does not know {}, the number of {}",
-                this.party(returning),
+            let (who, name) = (this.party(returning), this.name(credential));
+            let told = format!(
+                "{who} does not know {}, the number of {name}; {}",
                 this.name(number),
-                this.name(credential)
-            )
+                this.knowers(returning, number)
+            );
+            match this.earlier(Effect::Teaches(returning), number) {
+                [] if this.before.knows(returning, credential) => {
+                    format!("{told}; it has {name} and did not activate it")
+                }
+                _ => told,
+            }
         });
         let Some(request) = open else { return };
         let body = self.scenario.named(request, forms::PAIR, 0).unwrap_or(forms::EMPTY);
         let Some(record) = self.scenario.term(body) else { return };
         let (certificate, iak) = (record.term(1), record.term(2));
-        self.called_for(desk, r, iak, record.subject());
+        self.called_for(desk, r, iak, body);
         self.not_issued(r);
         let ek = self.scenario.named(certificate, forms::CERTIFICATE, 0).unwrap_or(forms::EMPTY);
         let subject = self.scenario.term(r).and_then(|record| record.subject());
@@ -621,9 +651,8 @@ impl Tests<'_> {
         let Some((body, signature)) = self.form(request, forms::LDEVID_REQUEST) else { return };
         let Some(record) = self.scenario.term(body) else { return };
         let (attested, parent) = (record.term(0), record.term(1));
-        let attest = self.scenario.named(attested, forms::SIGNATURE, 0);
-        let key = attest.and_then(|attest| self.scenario.named(attest, forms::ATTEST, 0));
-        let Some(key) = key else {
+        let attest = self.scenario.named(attested, forms::SIGNATURE, 0).unwrap_or(forms::EMPTY);
+        let Some(key) = self.scenario.named(attest, forms::ATTEST, 0) else {
             self.need(19, false, |this| {
                 format!("{} has {} in it; a signature of an attest is called for", this.name(body), this.told(attested))
             });
@@ -631,13 +660,13 @@ impl Tests<'_> {
         };
         let attester = self.scenario.named(attested, forms::SIGNATURE, 1).unwrap_or(forms::EMPTY);
         let parent_key = self.scenario.named(parent, forms::CERTIFICATE, 0).unwrap_or(forms::EMPTY);
-        self.proof(body, signature, key);
-        self.paired(20, attested, attester, parent_key);
+        self.proof(body, signature, key, attest);
+        let which = format!(", the key of {}", self.name(parent));
+        self.paired(20, attested, attester, parent_key, &which);
         self.signed_by(parent, family.signers);
         self.attributes(key, "the new key", family.key);
         self.attributes(parent_key, "the parent's key", forms::ATTESTATION_KEY);
-        let subject = self.scenario.term(parent).and_then(|record| record.subject());
-        self.called_for(desk, r, key, subject);
+        self.called_for(desk, r, key, parent);
         self.not_issued(r);
         let depth = self.before.ledger().find(|entry| entry.certificate == parent).map_or(0, |entry| entry.depth);
         self.need(29, depth < DEPTH, |this| {

@@ -4,6 +4,7 @@ use std::collections::HashMap;
 
 use birdweekly::{Buffers, Entry, RunAnswer};
 
+use crate::effects::Effects;
 use crate::reasons::{meaning, reason, Reason};
 use crate::scenario::{Record, Scenario};
 use crate::words::{asked_for, family};
@@ -28,14 +29,18 @@ pub struct Issued {
 }
 
 impl Rehearsal {
-    /// Runs a file that loads.
-    pub fn of(bytes: &[u8], scenario: &Scenario) -> Option<Rehearsal> {
+    /// Runs a file. One that does not load has no commands to run.
+    pub fn of(bytes: &[u8], scenario: &Scenario) -> Rehearsal {
         let mut after = Buffers::new();
-        let RunAnswer::Ran { accepted, refused, .. } = after.run_all(bytes) else { return None };
+        let (accepted, refused) = match after.run_all(bytes) {
+            RunAnswer::Ran { accepted, refused, .. } => (accepted, refused),
+            RunAnswer::Refused(_) => (0, 0),
+        };
+        let effects = Effects::of(scenario);
         let mut before = Buffers::new();
         let mut reached = None;
         let mut reasons = Vec::with_capacity(scenario.commands.len());
-        for (i, (command, outcome)) in scenario.commands.iter().zip(after.outcomes()).enumerate() {
+        for (i, outcome) in after.outcomes().iter().enumerate() {
             if *outcome == 0 {
                 reached = None;
                 reasons.push(None);
@@ -46,11 +51,11 @@ impl Rehearsal {
                 before.run(bytes, i);
                 reached = Some(i);
             }
-            let told = reason(scenario, &before, command).filter(|told| told.number == *outcome);
+            let told = reason(scenario, &effects, &before, i).filter(|told| told.number == *outcome);
             let general = || Reason { number: *outcome, details: vec![meaning(*outcome).into()] };
             reasons.push(Some(told.unwrap_or_else(general)));
         }
-        Some(Rehearsal { after, accepted: accepted as usize, refused: refused as usize, reasons })
+        Rehearsal { after, accepted: accepted as usize, refused: refused as usize, reasons }
     }
 
     /// What the run left.

@@ -226,6 +226,11 @@ impl Scenario {
         self.term(term).filter(|record| record.kind == kind).map(|record| record.term(i))
     }
 
+    /// The Subject of a request or a certificate, as its line has it.
+    pub fn subject_of(&self, term: u16) -> String {
+        self.term(term).and_then(|record| record.subject()).map_or(String::new(), subject_text)
+    }
+
     /// The attributes of a key.
     pub fn attributes(&self, key: u16) -> u8 {
         self.term(key).map_or(0, |record| record.attributes())

@@ -1,16 +1,21 @@
 //! A scenario from a file: text where its name ends in .scenario, else the engine's bytes.
 
+use std::ffi::OsStr;
 use std::fmt;
 use std::io::Read;
 
-use birdweekly::{load, LoadAnswer, Refusal, STATE_BYTES};
+use birdweekly::{load, LoadAnswer, Refusal, FILE_BYTES, STATE_BYTES};
 
 use crate::faults::{fault, meaning};
+use crate::rehearsal::Rehearsal;
 use crate::scenario::Scenario;
 use crate::text::{assemble, Assembled, Mistake};
 
 /// What a text scenario's file is called.
 pub const ENDING: &str = ".scenario";
+
+/// The longest text that is read. The text of the longest file, as `show` prints it, has some hundred thousand bytes.
+const TEXT_BYTES: usize = 16 << 20;
 
 /// Some editors begin a text with it.
 const BYTE_ORDER_MARK: char = '\u{FEFF}';
@@ -39,47 +44,90 @@ impl fmt::Display for Refused {
     }
 }
 
-/// Why there is no scenario to speak of: the messages, one a line or more.
-pub struct Unread(pub Vec<String>);
+/// Why there is no scenario to speak of.
+pub enum Unread {
+    /// There is no such file, or it is no text where one is expected.
+    NoFile(String),
+    Mistakes {
+        name: String,
+        text: String,
+        mistakes: Vec<Mistake>,
+    },
+}
+
+impl Unread {
+    /// What is said of it, a message each.
+    pub fn told(&self) -> Vec<String> {
+        match self {
+            Unread::NoFile(message) => vec![message.clone()],
+            Unread::Mistakes { name, text, mistakes } => {
+                mistakes.iter().map(|mistake| mistake.told(name, text)).collect()
+            }
+        }
+    }
+}
 
 impl Source {
-    /// Reads a file, or standard input for "-".
-    pub fn read(path: &str, text: bool) -> Result<Source, Unread> {
-        let unreadable = |error: std::io::Error| Unread(vec![format!("cannot read {path}: {error}")]);
+    /// Reads a file, or standard input for "-"; as text if it is to be one, or its name says so.
+    pub fn read(path: &OsStr, text: bool) -> Result<Source, Unread> {
+        let name = path.to_string_lossy();
+        let unreadable = |error: std::io::Error| Unread::NoFile(format!("cannot read {name}: {error}"));
+        let text = text || name.ends_with(ENDING);
+        // One byte more than is allowed is enough to refuse a file.
+        let most = if text { TEXT_BYTES } else { FILE_BYTES } + 1;
         let mut bytes = Vec::new();
         if path == "-" {
-            std::io::stdin().read_to_end(&mut bytes).map_err(unreadable)?;
+            std::io::stdin().take(most as u64).read_to_end(&mut bytes).map_err(unreadable)?;
         } else {
-            bytes = std::fs::read(path).map_err(unreadable)?;
+            let file = std::fs::File::open(path).map_err(unreadable)?;
+            file.take(most as u64).read_to_end(&mut bytes).map_err(unreadable)?;
         }
-        if text || path.ends_with(ENDING) {
-            Source::of_text(path, bytes)
-        } else {
-            Ok(Source::of_bytes(path, bytes))
+        if text {
+            return Source::of_text(&name, bytes);
         }
+        let looks_like_text = !bytes.is_empty() && first_other_byte(&bytes).is_none();
+        let mut source = Source::of_bytes(&name, bytes);
+        if let Some(refused) = source.refused.as_mut().filter(|_| looks_like_text) {
+            refused.words.push_str(if path == "-" {
+                "; it looks like text, and standard input is read as bytes (assemble gives them)"
+            } else {
+                "; it looks like text, and is read as bytes since its name does not end in .scenario"
+            });
+        }
+        Ok(source)
     }
 
     pub fn of_bytes(name: &str, bytes: Vec<u8>) -> Source {
-        let scenario = Scenario::of_bytes(&bytes);
+        let scenario = Scenario::of_bytes(&bytes[..bytes.len().min(FILE_BYTES)]);
         Source { name: name.into(), refused: refused(&bytes, &scenario), bytes, scenario, text: None }
     }
 
     pub fn of_text(name: &str, bytes: Vec<u8>) -> Result<Source, Unread> {
-        let text = match String::from_utf8(bytes) {
-            Ok(text) => text.trim_start_matches(BYTE_ORDER_MARK).to_string(),
-            Err(error) => {
-                let valid = error.utf8_error().valid_up_to();
-                let line = 1 + error.as_bytes()[..valid].iter().filter(|byte| **byte == b'\n').count();
-                return Err(Unread(vec![format!("{name}:{line}: expected text in UTF-8, found other bytes")]));
-            }
-        };
+        if bytes.len() > TEXT_BYTES {
+            return Err(Unread::NoFile(format!("{name}: expected a text of at most {TEXT_BYTES} bytes")));
+        }
+        if let Some(at) = first_other_byte(&bytes) {
+            let line = 1 + bytes[..at].iter().filter(|byte| **byte == b'\n').count();
+            let found = format!("{name}:{line}: expected text, found the byte {:02X} hex", bytes[at]);
+            return Err(Unread::NoFile(format!("{found}; show tells the text of a file of bytes")));
+        }
+        let text = String::from_utf8_lossy(&bytes).replace("\r\n", "\n").replace('\r', "\n");
+        let text = text.trim_start_matches(BYTE_ORDER_MARK).to_string();
         match assemble(&text) {
             Ok(assembled) => {
                 let (bytes, scenario) = (assembled.bytes.clone(), assembled.scenario.clone());
                 let refused = refused(&bytes, &scenario);
                 Ok(Source { name: name.into(), bytes, scenario, text: Some((assembled, text)), refused })
             }
-            Err(mistakes) => Err(Unread(mistakes.iter().map(|mistake| mistake.told(name, &text)).collect())),
+            Err(mistakes) => Err(Unread::Mistakes { name: name.into(), text, mistakes }),
+        }
+    }
+
+    /// The run of a file that loads.
+    pub fn rehearsed(&self) -> Result<Rehearsal, Refused> {
+        match &self.refused {
+            Some(refused) => Err(refused.clone()),
+            None => Ok(Rehearsal::of(&self.bytes, &self.scenario)),
         }
     }
 
@@ -101,6 +149,13 @@ impl Source {
             _ => format!("{}: {refused}", self.name),
         }
     }
+}
+
+/// The first byte that is of no text: no UTF-8, or a control character other than tab and line ends.
+fn first_other_byte(bytes: &[u8]) -> Option<usize> {
+    let control = bytes.iter().position(|byte| byte.is_ascii_control() && !matches!(byte, b'\t' | b'\n' | b'\r'));
+    let text = &bytes[..control.unwrap_or(bytes.len())];
+    std::str::from_utf8(text).err().map(|error| error.valid_up_to()).or(control)
 }
 
 fn refused(bytes: &[u8], scenario: &Scenario) -> Option<Refused> {

@@ -1,6 +1,6 @@
 //! The text form of a scenario, read: one record a line, names for numbers. docs/SCENARIOS.md describes it.
 
-use std::collections::HashMap;
+use std::collections::{HashMap, HashSet};
 use std::fmt::Write;
 
 use crate::forms::{self, listed, Field, Kind, Section, KINDS, PAIRS};
@@ -160,31 +160,55 @@ struct Reader {
     /// The lines of the records, section by section.
     lines: [Vec<usize>; 4],
     mistakes: Vec<Mistake>,
+    /// Words of lines that are no record: lines below are not blamed for them.
+    doubtful: HashSet<String>,
+}
+
+/// What keeps a line from being a record.
+enum Wrong {
+    Mistake(Mistake),
+    /// A mistake in a line above is enough.
+    ToldBefore,
+}
+
+impl From<Mistake> for Wrong {
+    fn from(mistake: Mistake) -> Wrong {
+        Wrong::Mistake(mistake)
+    }
 }
 
 impl Reader {
     fn line(&mut self, line: &Line) {
         let read = self.record(line);
         let kind = read.as_ref().ok().map(|record| record.kind);
-        if let Some(name) = line.declares() {
-            self.declare(line, name, kind);
-        }
-        match read {
+        let declared = line.declares().map_or(Ok(()), |name| self.declare(line, name, kind));
+        match declared.map_err(Wrong::from).and(read) {
             Ok(record) => {
                 let section = line.section();
                 self.lines[section as usize].push(line.number);
                 self.scenario.section_mut(section).push(record);
             }
-            Err(mistake) => self.mistakes.push(mistake),
+            Err(wrong) => {
+                if line.declares().is_none() {
+                    self.doubtful.extend(line.tokens.iter().map(|token| token.text.to_string()));
+                }
+                if let Wrong::Mistake(mistake) = wrong {
+                    self.mistakes.push(mistake);
+                }
+            }
         }
     }
 
     /// Enters the name that a line declares, also where the line has a mistake, so that lines below it are not blamed.
-    fn declare(&mut self, line: &Line, name: Token, kind: Option<u8>) {
-        if let Some((_, before)) = self.names.get(name.text) {
-            let message = format!("{} is declared already, on line {before}", quoted(name.text));
-            self.mistakes.push(line.mistake(Some(name), message));
-            return;
+    fn declare(&mut self, line: &Line, name: Token, kind: Option<u8>) -> Result<(), Mistake> {
+        if let Some((meaning, before)) = self.names.get(name.text) {
+            let message = match (meaning, line.section()) {
+                (Meaning::Party(_), Section::Terms) => {
+                    format!("{} is a party (line {before}); its commands stand behind \":\"", quoted(name.text))
+                }
+                _ => format!("{} is declared already, on line {before}", quoted(name.text)),
+            };
+            return Err(line.mistake(Some(name), message));
         }
         let (names, party) = match line.section() {
             Section::Parties => (&mut self.scenario.party_names, true),
@@ -194,10 +218,11 @@ impl Reader {
         names.push(name.text.to_string());
         let meaning = if party { Meaning::Party(number as u8) } else { Meaning::Term(number as u16, kind) };
         self.names.insert(name.text.to_string(), (meaning, line.number));
+        Ok(())
     }
 
     /// The record of a line: its words beside those of its kind's line.
-    fn record(&self, line: &Line) -> Result<Record, Mistake> {
+    fn record(&self, line: &Line) -> Result<Record, Wrong> {
         let kind = self.kind(line)?;
         let mut values: Vec<Option<Value>> = vec![None; kind.fields.len()];
         let mut next = 0;
@@ -208,11 +233,11 @@ impl Reader {
                 Some(i) => values[i] = Some(self.value(line, &mut next, kind.fields[i])?),
                 None if part.text == "@" => self.new_name(line, &mut next)?,
                 None if line.is(next, part.text) => next += 1,
-                None => return Err(line.expected(line.at(next), &quoted(part.text))),
+                None => return Err(line.expected(line.at(next), &quoted(part.text)).into()),
             }
         }
         if next < line.tokens.len() {
-            return Err(line.expected(line.at(next), "the end of the line"));
+            return Err(line.expected(line.at(next), "the end of the line").into());
         }
         Ok(Record { kind: kind.byte, place: 0, values: values.into_iter().flatten().collect() })
     }
@@ -231,26 +256,31 @@ impl Reader {
             return Ok(kind);
         }
         let names: Vec<&str> = KINDS.iter().filter(of_section).map(|kind| kind.name).collect();
-        let alike = |word: Token| suggestion(word.text, names.iter().copied());
+        let alike = word.and_then(|word| suggestion(word.text, names.iter().copied()));
+        let is = |other: Section| word.is_some_and(|word| is_kind_of(word.text, other));
         match section {
             Section::Terms => {
                 let what = format!("a kind of term ({})", listed(&names, "or"));
-                Err(with(line.expected(word, &what), word.and_then(alike)))
+                Err(with(line.expected(word, &what), alike))
+            }
+            Section::Commands if is(Section::SetUp) => {
+                Err(line.mistake(line.at(1), "expected no \":\" here: what follows is set-up, not a command".into()))
+            }
+            Section::Commands if is(Section::Terms) => {
+                Err(line.expected(line.at(1), "\"=\" between the name and its term"))
             }
             Section::Commands => {
                 let what = format!("a command ({})", listed(&names, "or"));
-                Err(with(line.expected(word, &what), word.and_then(alike)))
+                Err(with(line.expected(word, &what), alike))
             }
-            _ => Err(self.no_record(line, word.and_then(alike))),
+            _ => Err(self.no_record(line, alike)),
         }
     }
 
     /// A line that is no record: what its second word, or the want of one, tells.
     fn no_record(&self, line: &Line, alike: Option<String>) -> Mistake {
         let (first, second) = (line.at(0), line.at(1));
-        let named = |section: Section| {
-            KINDS.iter().any(|kind| kind.section() == section && second.is_some_and(|word| word.text == kind.name))
-        };
+        let named = |section: Section| second.is_some_and(|word| is_kind_of(word.text, section));
         let is_party = first.is_some_and(|word| matches!(self.names.get(word.text), Some((Meaning::Party(_), _))));
         if named(Section::Commands) && (is_party || !named(Section::Terms)) {
             return line.expected(second, "\":\" between the party and its command");
@@ -280,11 +310,14 @@ impl Reader {
                 *next += 1;
                 Ok(())
             }
+            Some(token) if token.text == "=" && line.section() == Section::Parties => {
+                Err(line.mistake(line.at(0), "\"party\" begins the line of a party and is no name".into()))
+            }
             _ => Err(line.expected(token, "a name (a letter, then letters, digits, - _ . and ')")),
         }
     }
 
-    fn value(&self, line: &Line, next: &mut usize, field: Field) -> Result<Value, Mistake> {
+    fn value(&self, line: &Line, next: &mut usize, field: Field) -> Result<Value, Wrong> {
         let token = line.at(*next);
         let word = token.map_or("", |token| token.text);
         let expected = || line.expected(token, &field.words());
@@ -294,30 +327,43 @@ impl Reader {
         match field {
             Field::Role => match forms::ROLES.iter().position(|role| *role == word) {
                 Some(role) => Ok(Value::Role(role as u8)),
-                None => Err(with(expected(), suggestion(word, forms::ROLES.into_iter()))),
+                None => Err(with(expected(), suggestion(word, forms::ROLES.into_iter())).into()),
             },
-            Field::Identifier => number(word).map(Value::Identifier).ok_or_else(expected),
-            Field::Attributes => attributes(word).map(Value::Attributes).map_err(|alike| with(expected(), alike)),
+            Field::Identifier => Ok(number(word).map(Value::Identifier).ok_or_else(expected)?),
+            Field::Attributes => {
+                let sum = attributes(word).map_err(|hint| told_more(expected(), &hint))?;
+                let more = |token: &Token| {
+                    token.text == "," || token.text.starts_with('+') || forms::FLAGS.contains(&token.text)
+                };
+                match line.at(*next).filter(more) {
+                    Some(token) => {
+                        let message = "attributes are joined by + with no space or comma, such as restricted+sign";
+                        Err(line.mistake(Some(token), message.into()).into())
+                    }
+                    None => Ok(Value::Attributes(sum)),
+                }
+            }
             Field::Subject => {
                 let subject = match word {
                     "tpm" => Subject::Tpm,
                     "device" => Subject::Device,
-                    _ => return Err(with(expected(), suggestion(word, ["tpm", "device"].into_iter()))),
+                    _ => return Err(with(expected(), suggestion(word, ["tpm", "device"].into_iter())).into()),
                 };
                 match self.value(line, next, Field::Identifier)? {
                     Value::Identifier(id) => Ok(Value::Subject(subject(id))),
-                    _ => Err(expected()),
+                    _ => Err(expected().into()),
                 }
             }
+            _ if self.doubtful.contains(word) && !self.names.contains_key(word) => Err(Wrong::ToldBefore),
             Field::Party => match self.names.get(word) {
                 Some((Meaning::Party(party), _)) => Ok(Value::Party(*party)),
-                _ => Err(self.wrong_name(line, token, field)),
+                _ => Err(self.wrong_name(line, token, field).into()),
             },
             Field::AnyTerm | Field::Term(_) | Field::SignedAttest => match self.names.get(word) {
                 Some((Meaning::Term(term, kind), _)) if kind.is_none_or(|kind| self.suits(*term, kind, field)) => {
                     Ok(Value::Term(*term))
                 }
-                _ => Err(self.wrong_name(line, token, field)),
+                _ => Err(self.wrong_name(line, token, field).into()),
             },
             Field::Pairs => {
                 *next -= token.is_some() as usize;
@@ -339,7 +385,7 @@ impl Reader {
     }
 
     /// Up to four of "certificate for credential" or "-", with commas between.
-    fn pairs(&self, line: &Line, next: &mut usize) -> Result<[Option<(u16, u16)>; PAIRS], Mistake> {
+    fn pairs(&self, line: &Line, next: &mut usize) -> Result<[Option<(u16, u16)>; PAIRS], Wrong> {
         let mut pairs = [None; PAIRS];
         for (i, pair) in pairs.iter_mut().enumerate() {
             if line.is(*next, "-") {
@@ -347,7 +393,7 @@ impl Reader {
             } else {
                 let certificate = self.value(line, next, Field::Term(forms::CERTIFICATE))?;
                 if !line.is(*next, "for") {
-                    return Err(line.expected(line.at(*next), "\"for\" and the credential of the certificate"));
+                    return Err(line.expected(line.at(*next), "\"for\" and the credential of the certificate").into());
                 }
                 *next += 1;
                 let credential = self.value(line, next, Field::Term(forms::CREDENTIAL))?;
@@ -360,7 +406,7 @@ impl Reader {
                 break;
             }
             if i + 1 == PAIRS {
-                return Err(line.expected(line.at(*next), "\"returned-by\" after four pairs"));
+                return Err(line.expected(line.at(*next), "\"returned-by\" after four pairs").into());
             }
             *next += 1;
         }
@@ -389,6 +435,9 @@ impl Reader {
                 format!("{name} is {is} (line {before}){}", half.unwrap_or_default())
             }
             None => match self.all_names.get(token.text) {
+                Some(here) if *here == line.number => {
+                    format!("{name} is declared by this line, and used after it alone")
+                }
                 Some(below) => format!("{name} is declared below, on line {below}; a name is used after its line"),
                 None => {
                     let fitting = self.names.iter().filter(|(_, (meaning, _))| match meaning {
@@ -429,9 +478,15 @@ fn quoted(text: &str) -> String {
     format!("\"{text}\"")
 }
 
-fn with(mut mistake: Mistake, alike: Option<String>) -> Mistake {
-    if let Some(alike) = alike {
-        mistake.message.push_str(&format!(". Did you mean {}?", quoted(&alike)));
+fn with(mistake: Mistake, alike: Option<String>) -> Mistake {
+    let hint = alike.map_or(String::new(), |alike| format!("Did you mean {}?", quoted(&alike)));
+    told_more(mistake, &hint)
+}
+
+fn told_more(mut mistake: Mistake, hint: &str) -> Mistake {
+    if !hint.is_empty() {
+        mistake.message.push_str(". ");
+        mistake.message.push_str(hint);
     }
     mistake
 }
@@ -441,26 +496,31 @@ fn number(word: &str) -> Option<u16> {
     word.parse().ok().filter(|_| word.bytes().all(|byte| byte.is_ascii_digit()))
 }
 
-/// A sum of attributes, each once, or none; else the nearest such word.
-fn attributes(word: &str) -> Result<u8, Option<String>> {
+/// A sum of attributes, each once, or none; else a hint.
+fn attributes(word: &str) -> Result<u8, String> {
     if word == "none" {
         return Ok(0);
     }
     let mut sum = 0;
     for flag in word.split('+') {
         let Some(i) = forms::FLAGS.iter().position(|name| *name == flag) else {
-            return Err(suggestion(flag, forms::FLAGS.into_iter()));
+            let alike = suggestion(flag, forms::FLAGS.into_iter());
+            return Err(alike.map_or(String::new(), |alike| format!("Did you mean {}?", quoted(&alike))));
         };
         if sum >> i & 1 == 1 {
-            return Err(None);
+            return Err(format!("{} stands there twice", quoted(flag)));
         }
         sum |= 1 << i;
     }
     Ok(sum)
 }
 
+fn is_kind_of(word: &str, section: Section) -> bool {
+    KINDS.iter().any(|kind| kind.section() == section && kind.name == word)
+}
+
 /// The candidate that is nearest to a word, if it is near.
-fn suggestion<'a>(word: &str, candidates: impl Iterator<Item = &'a str>) -> Option<String> {
+pub fn suggestion<'a>(word: &str, candidates: impl Iterator<Item = &'a str>) -> Option<String> {
     let word = word.to_lowercase();
     let near = 1 + word.chars().count() / 4;
     let ranked = candidates.map(|candidate| (distance(&word, &candidate.to_lowercase()), candidate));

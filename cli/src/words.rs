@@ -59,7 +59,8 @@ pub fn sentence(scenario: &Scenario, command: &Record) -> String {
 /// A term as its line has it, with an article.
 fn article(scenario: &Scenario, t: u16) -> String {
     let text = scenario.term_text(t);
-    format!("{} {text}", if text.starts_with('i') { "an" } else { "a" })
+    let vowel = ["idevid", "ldevid", "attest"].iter().any(|word| text.starts_with(word));
+    format!("{} {text}", if vowel { "an" } else { "a" })
 }
 
 /// The family of certificates that a command issues.

@@ -1,8 +1,9 @@
 //! Mistakes in a scenario's text are told with their line and what was expected there.
 
 use desk_view::forms::KINDS;
-use desk_view::source::{Source, Unread};
+use desk_view::source::Source;
 use desk_view::text::assemble;
+use desk_view::{faults, reasons};
 
 /// Lines that are in order, numbered 1 to 12; the mistakes below stand on line 13.
 const START: &str = "\
@@ -21,7 +22,7 @@ maker signs-with maker-private
 ";
 
 /// A line, the column of its mistake, and what is said.
-const MISTAKES: [(&str, usize, &str); 38] = [
+const MISTAKES: [(&str, usize, &str); 45] = [
     ("digest2 = hsh of key", 10, "expected a kind of term (public-key, private-key, hash, signature, attest, credential, number, idevid-request, ldevid-request, certificate or pair), found \"hsh\". Did you mean \"hash\"?"),
     ("digest2 = ", 9, "expected a kind of term (public-key, private-key, hash, signature, attest, credential, number, idevid-request, ldevid-request, certificate or pair), found the end of the line"),
     ("digest2 = hash key", 15, "expected \"of\", found \"key\""),
@@ -30,15 +31,22 @@ const MISTAKES: [(&str, usize, &str); 38] = [
     ("digest2 = hash of board", 18, "expected the name of a term; \"board\" is a party (line 1)"),
     ("digest2 = hash of below\nbelow = number 8", 18, "expected the name of a term; \"below\" is declared below, on line 14; a name is used after its line"),
     ("digest2 = hash of key key", 22, "expected the end of the line, found \"key\""),
+    ("digest2 = hash of digest2", 18, "expected the name of a term; \"digest2\" is declared by this line, and used after it alone"),
+    ("k2 = public-key 7 restricted, sign", 28, "attributes are joined by + with no space or comma, such as restricted+sign"),
+    ("k2 = public-key 7 restricted + sign", 29, "attributes are joined by + with no space or comma, such as restricted+sign"),
+    ("n2: number 77", 2, "expected \"=\" between the name and its term, found \":\""),
+    ("board: learns key", 5, "expected no \":\" here: what follows is set-up, not a command"),
+    ("board = hash digest", 0, "\"board\" is a party (line 1); its commands stand behind \":\""),
+    ("party = hash of key", 0, "\"party\" begins the line of a party and is no name"),
     ("digest = hash of nonce", 0, "\"digest\" is declared already, on line 7"),
-    ("oem = hash of nonce", 0, "\"oem\" is declared already, on line 3"),
+    ("oem = hash of nonce", 0, "\"oem\" is a party (line 3); its commands stand behind \":\""),
     ("7up = hash of nonce", 0, "expected a name (a letter, then letters, digits, - _ . and '), found \"7up\""),
     ("p2 = signature of digest by key", 28, "expected a private key; \"key\" is a public key (line 4); its other half is \"key-private\""),
     ("p2 = signature of digest by key-privat", 28, "expected a private key; \"key-privat\" is not declared. Did you mean \"key-private\"?"),
     ("k2 = public-key 70000 sign", 16, "expected a number from 0 to 65535, found \"70000\""),
     ("k2 = public-key +7 sign", 16, "expected a number from 0 to 65535, found \"+7\""),
-    ("k2 = public-key 7 sign+restrictd", 18, "expected attributes (none, or a sum of restricted, sign, decrypt and fixedtpm), found \"sign+restrictd\". Did you mean \"restricted\"?"),
-    ("k2 = public-key 7 sign+sign", 18, "expected attributes (none, or a sum of restricted, sign, decrypt and fixedtpm), found \"sign+sign\""),
+    ("k2 = public-key 7 sign+restrictd", 18, "expected attributes (none, or a sum such as restricted+sign+fixedtpm of restricted, sign, decrypt and fixedtpm), found \"sign+restrictd\". Did you mean \"restricted\"?"),
+    ("k2 = public-key 7 sign+sign", 18, "expected attributes (none, or a sum such as restricted+sign+fixedtpm of restricted, sign, decrypt and fixedtpm), found \"sign+sign\". \"sign\" stands there twice"),
     ("c = certificate of key for board 1 by maker-private", 27, "expected a Subject (device or tpm, then a number), found \"board\""),
     ("c = certificate of key for device by maker-private", 34, "expected a number from 0 to 65535, found \"by\""),
     ("party other devise", 12, "expected a role (device, tpm-maker, oem-desk or owner-desk), found \"devise\". Did you mean \"device\"?"),
@@ -65,7 +73,7 @@ const MISTAKES: [(&str, usize, &str); 38] = [
 fn told(text: &str) -> Option<String> {
     match Source::of_text("x.scenario", text.as_bytes().to_vec()) {
         Ok(source) => source.refused.as_ref().map(|refused| source.told(refused)),
-        Err(Unread(messages)) => Some(messages[0].clone()),
+        Err(unread) => unread.told().first().cloned(),
     }
 }
 
@@ -94,10 +102,22 @@ fn one_mistake_is_not_told_of_the_lines_below_it() {
     assert_eq!((mistakes[0].line, mistakes[0].column, mistakes[0].width), (7, 14, 3));
 }
 
+/// A line that is no record may have been meant to declare any of its words.
+#[test]
+fn a_line_that_is_no_record_is_told_once() {
+    for line in ["prty maker tpm-maker", "Party maker tpm-maker", "maker"] {
+        let text = START.replace("party maker tpm-maker", line);
+        let Err(mistakes) = assemble(&text) else { panic!("there is a mistake") };
+        assert_eq!(mistakes.iter().map(|mistake| mistake.line).collect::<Vec<_>>(), [2], "{mistakes:?}");
+    }
+}
+
 #[test]
 fn layout_says_nothing() {
     let plain = assemble(START).expect("it is in order").bytes;
     let spaced = START.replace('\n', "   # a comment\r\n\r\n\t").replace(" = ", "=");
+    let old = START.replace('\n', "\r").into_bytes();
+    assert_eq!(Source::of_text("x.scenario", old).ok().expect("it is in order").bytes, plain);
     let marked = format!("\u{FEFF}{spaced}").into_bytes();
     assert_eq!(Source::of_text("x.scenario", marked).ok().expect("it is in order").bytes, plain);
     // Sections among each other, each in its own order.
@@ -147,19 +167,35 @@ fn damaged_texts_are_told() {
 #[test]
 fn other_bytes_are_no_text() {
     let told = match Source::of_text("x.scenario", vec![b'#', b'\n', 0xFF, 0x01]) {
-        Err(Unread(messages)) => messages,
+        Err(unread) => unread.told(),
         Ok(_) => panic!("it is no text"),
     };
-    assert_eq!(told, ["x.scenario:2: expected text in UTF-8, found other bytes"]);
+    assert_eq!(told, ["x.scenario:2: expected text, found the byte FF hex; show tells the text of a file of bytes"]);
+}
+
+fn page() -> String {
+    let path = std::path::Path::new(env!("CARGO_MANIFEST_DIR")).join("../docs/SCENARIOS.md");
+    std::fs::read_to_string(path).expect("the page is there")
 }
 
 /// docs/SCENARIOS.md has the line of every kind.
 #[test]
 fn every_line_is_documented() {
-    let path = std::path::Path::new(env!("CARGO_MANIFEST_DIR")).join("../docs/SCENARIOS.md");
-    let page = std::fs::read_to_string(path).expect("the page is there");
+    let page = page();
     for kind in &KINDS {
         let row = format!("| `{}` | {:02X} |", kind.pattern(), kind.byte);
         assert!(page.contains(&row), "{row}");
+    }
+}
+
+/// So has it the words of every refusal.
+#[test]
+fn every_refusal_is_documented() {
+    let page = page();
+    let known = |number: &u8| !matches!(number, 22 | 30);
+    for number in (2..=32).filter(known) {
+        let words = if number < 13 { faults::meaning(number.into()) } else { reasons::meaning(number) };
+        assert_ne!(words, "refused", "{number}");
+        assert!(page.contains(&format!("| {number} | {words} |")), "{number}: {words}");
     }
 }

@@ -209,19 +209,70 @@ fn calls_that_are_wrong_are_told() {
     }
     let help = command(&["--help"]);
     assert!(help.status.success() && help.stderr.is_empty() && text(&help.stdout).contains("Exit status"));
-    let missing = command(&["explain", "no-such-file"]);
-    assert_eq!(missing.status.code(), Some(2));
-    assert!(text(&missing.stderr).starts_with("cannot read no-such-file: "));
+    for (words, message) in [
+        (&["explain", "no-such-file"][..], "birdweekly: cannot read no-such-file: "),
+        (&["explain", "samples"], "birdweekly: samples is a folder; check takes folders"),
+        (&["explan", "samples/example.scenario"], "birdweekly: there is no explan; did you mean explain?"),
+        (&["assemble", "samples/example.scenario", "-o", "cli/../samples/example.scenario"], "birdweekly: cli/../samples/example.scenario is the file that is read"),
+        (&["explain", "README.md"], "README.md: refused with 3 at place 0, unknown kind: 23 hex is the kind of no record; it looks like text, and is read as bytes"),
+        (&["stock", "samples/request-12-stock.scenario", "board", "2"], "samples/request-12-stock.scenario: refused with 39 at 0: board is a device, no OEM desk"),
+        (&["stock", "samples/request-12-stock.scenario", "oem", "0"], "samples/request-12-stock.scenario: refused with 39 at 0: the IAKs per board are 0"),
+    ] {
+        let found = command(words);
+        assert_eq!(found.status.code(), Some(2), "{words:?}");
+        assert!(text(&found.stderr).starts_with(message), "{words:?}: {}", text(&found.stderr));
+    }
+}
+
+/// Folders are gone through to their ends, and a run over nothing is no success.
+#[test]
+fn folders_are_checked_whole() {
+    let folder = Scratch::new("folders");
+    assert_eq!(command(&["check", &folder.path("")]).status.code(), Some(2));
+    std::fs::create_dir_all(folder.path("inner/most")).expect("there is room");
+    std::fs::copy(root().join("samples/honest-iak.scenario"), folder.path("inner/most/honest.scenario"))
+        .expect("it is copied");
+    std::fs::write(folder.path("inner/empty.scenario"), "# nothing\r").expect("it is written");
+    let found = command(&["check", &folder.path("")]);
+    let lines: Vec<String> = text(&found.stdout).lines().map(String::from).collect();
+    assert_eq!(found.status.code(), Some(0));
+    assert!(
+        lines[0].ends_with("inner/empty.scenario: 0 accepted, 0 refused, 0 issued; there are no commands"),
+        "{lines:?}"
+    );
+    assert!(lines[1].ends_with("inner/most/honest.scenario: 9 accepted, 0 refused, 1 issued"), "{lines:?}");
+    assert_eq!(lines[2], "2 files: 2 with no refusal, 0 with refused commands, 0 not loaded");
+    std::os::unix::fs::symlink("nowhere", folder.path("inner/broken.scenario")).expect("it is linked");
+    assert_eq!(command(&["check", &folder.path("")]).status.code(), Some(2));
+}
+
+/// A folder of its own, removed at the end.
+struct Scratch(PathBuf);
+
+impl Scratch {
+    fn new(name: &str) -> Scratch {
+        let folder = std::env::temp_dir().join(format!("birdweekly-{name}-{}", std::process::id()));
+        std::fs::create_dir_all(&folder).expect("there is room");
+        Scratch(folder)
+    }
+
+    fn path(&self, name: &str) -> String {
+        self.0.join(name).to_str().expect("a path").to_string()
+    }
+}
+
+impl Drop for Scratch {
+    fn drop(&mut self) {
+        let _ = std::fs::remove_dir_all(&self.0);
+    }
 }
 
 #[test]
 fn a_file_that_does_not_load_is_shown_up_to_there() {
-    let folder = std::env::temp_dir().join(format!("birdweekly-shown-{}", std::process::id()));
-    std::fs::create_dir_all(&folder).expect("there is room");
-    let file = folder.join("cut.bin");
+    let folder = Scratch::new("shown");
+    let path = &folder.path("cut.bin");
     // A device, a public key, a signature that names no term.
-    std::fs::write(&file, [0x01, 0, 0x10, 0, 5, 0x0B, 0x13, 0, 0, 0, 9, 0x30]).expect("it is written");
-    let path = file.to_str().expect("a path");
+    std::fs::write(path, [0x01, 0, 0x10, 0, 5, 0x0B, 0x13, 0, 0, 0, 9, 0x30]).expect("it is written");
     let found = command(&["show", path]);
     let shown = text(&found.stdout);
     assert_eq!(found.status.code(), Some(2));
@@ -234,5 +285,4 @@ fn a_file_that_does_not_load_is_shown_up_to_there() {
     assert!(shown.ends_with(&format!("# {words}\n")), "{shown}");
     assert_eq!(text(&found.stderr), format!("{path}: {words}\n"));
     assert_eq!(text(&command(&["list", path]).stdout), "F 7 6\n");
-    std::fs::remove_dir_all(&folder).expect("it is removed");
 }
