@@ -40,7 +40,7 @@ pub fn explain(source: &Source, rehearsal: &Rehearsal, refused_alone: bool, colo
         }
         let margin = " ".repeat(start.len() + 1);
         let (colour, outcome) = if reason.is_none() { (good, "accepted") } else { (bad, "REFUSED ") };
-        let (name, words) = (command.form().name, sentence(scenario, command));
+        let (name, words) = (command.form().name, sentence(scenario, command, reason.is_some()));
         let _ = writeln!(text, "{start} {colour}{outcome}{plain}  {bold}{name}{plain}: {words}");
         if let Some(reason) = reason {
             let _ = writeln!(text, "{margin}{bad}{}: {}{plain}", reason.number, meaning(reason.number));

@@ -7,15 +7,15 @@ use std::path::Path;
 use std::process::ExitCode;
 
 use birdweekly::{Buffers, StockAnswer};
-use desk_view::check::{check, Verdict};
-use desk_view::draw::draw;
-use desk_view::explain::{explain, COLOURS, NO_COLOURS};
-use desk_view::forms::role_words;
-use desk_view::listing::listing;
-use desk_view::rehearsal::Rehearsal;
-use desk_view::show::show;
-use desk_view::source::{Source, Unread};
-use desk_view::text::suggestion;
+use birdweekly_cli::check::{check, Verdict};
+use birdweekly_cli::draw::draw;
+use birdweekly_cli::explain::{explain, COLOURS, NO_COLOURS};
+use birdweekly_cli::forms::role_words;
+use birdweekly_cli::listing::listing;
+use birdweekly_cli::rehearsal::Rehearsal;
+use birdweekly_cli::show::show;
+use birdweekly_cli::source::{Source, Unread};
+use birdweekly_cli::text::suggestion;
 
 const HELP: &str = "\
 birdweekly: rehearses DevID enrolment procedures and tells what came of them

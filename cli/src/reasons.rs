@@ -575,6 +575,9 @@ impl Tests<'_> {
             Mark::CredentialOpen { desk: other, .. } => {
                 format!("{} is open at {}, not at {}", this.name(credential), this.party(other), this.party(desk))
             }
+            Mark::CredentialClosed { .. } if this.closed.contains(&credential) => {
+                format!("{} is that of a pair before", this.name(credential))
+            }
             Mark::CredentialClosed { .. } => {
                 format!("{} is closed: a certificate was issued for it", this.name(credential))
             }
@@ -615,8 +618,9 @@ impl Tests<'_> {
         });
         self.need(31, other.is_none(), |this| {
             let entry = other.unwrap_or_default();
+            let stands = if this.added.contains(&entry) { "is to stand on" } else { "stands already on" };
             format!(
-                "{} stands on {} already, which leads to {}; this certificate would lead to {}",
+                "{} {stands} {}, which leads to {}; this certificate would lead to {}",
                 subject.map_or(String::new(), subject_text),
                 this.name(entry.certificate),
                 this.told(this.end(entry)),

@@ -142,6 +142,9 @@ impl<'a> Line<'a> {
     }
 }
 
+/// The kind of a term whose line has a mistake.
+const UNKNOWN: u8 = 0;
+
 /// What a name stands for.
 #[derive(Clone, Copy)]
 enum Meaning {
@@ -191,6 +194,10 @@ impl Reader {
             Err(wrong) => {
                 if line.declares().is_none() {
                     self.doubtful.extend(line.tokens.iter().map(|token| token.text.to_string()));
+                }
+                // The terms below keep their numbers.
+                if self.scenario.terms.len() < self.scenario.term_names.len() {
+                    self.scenario.terms.push(Record { kind: UNKNOWN, place: 0, values: Vec::new() });
                 }
                 if let Wrong::Mistake(mistake) = wrong {
                     self.mistakes.push(mistake);
@@ -377,8 +384,9 @@ impl Reader {
         match field {
             Field::Term(called_for) => kind == called_for,
             Field::SignedAttest => {
-                let message = self.scenario.term(term).map_or(0, |record| record.term(0));
-                kind == forms::SIGNATURE && self.scenario.is_kind(message, forms::ATTEST)
+                let message = self.scenario.term(term).map_or(forms::EMPTY, |record| record.term(0));
+                let attest = [forms::ATTEST, UNKNOWN].iter().any(|kind| self.scenario.is_kind(message, *kind));
+                kind == forms::SIGNATURE && attest
             }
             _ => true,
         }

@@ -1,58 +1,61 @@
 //! Commands in words.
 
-use crate::forms;
+use crate::forms::{self, attributes_text, listed};
 use crate::scenario::{Record, Scenario};
 
-/// What a command is to do, as a sentence.
-pub fn sentence(scenario: &Scenario, command: &Record) -> String {
+/// What a command does, or would do where it is refused, as a sentence.
+pub fn sentence(scenario: &Scenario, command: &Record, refused: bool) -> String {
     let s = scenario;
     let name = |t: u16| s.term_name_of(t);
-    let p = s.party_name(command.party(0));
+    let party = |i: usize| s.party_name(command.party(i));
     let r = command.term(1);
     // Field i of r.
     let of = |i: usize| name(s.term(r).map_or(forms::EMPTY, |record| record.term(i)));
-    match command.kind {
-        0x30 => format!("{p} hashes {}, for {}", of(0), name(r)),
-        0x31 => format!("{p} signs {} with {}, for {}", of(0), of(1), name(r)),
+    let (verb, rest) = match command.kind {
+        0x30 => ("hash", format!("{}, for {}", of(0), name(r))),
+        0x31 => ("sign", format!("{} with {}, for {}", of(0), of(1), name(r))),
         0x32 => {
             let attest = s.term(r).map_or(forms::EMPTY, |record| record.term(0));
             let key = s.named(attest, forms::ATTEST, 0).unwrap_or(forms::EMPTY);
-            format!("{p} certifies {} with {}, for {}", name(key), of(1), name(r))
+            ("certify", format!("{} with {}, for {}", name(key), of(1), name(r)))
         }
-        0x33 => format!("{p} makes {}, {}", name(r), article(s, r)),
-        0x34 => format!("{p} activates {} with {}, for {}", name(r), of(2), of(1)),
-        0x35 | 0x36 => format!("{p} makes {}, {}", name(r), article(s, r)),
-        0x37 => format!("{p} pairs {} and {}, for {}", of(0), of(1), name(r)),
-        0x38 => format!("{p} checks that {} is the hash of {}", name(r), name(command.term(2))),
+        0x33 | 0x35 | 0x36 => ("make", format!("{}, {}", name(r), article(s, r))),
+        0x34 => ("activate", format!("{} with {}, for {}", name(r), of(2), of(1))),
+        0x37 => ("pair", format!("{} and {}, for {}", of(0), of(1), name(r))),
+        0x38 => ("check", format!("that {} is the hash of {}", name(r), name(command.term(2)))),
         0x39 | 0x3A => {
-            format!("{p} checks that {} is signed by the private half of {}", name(r), name(command.term(2)))
+            ("check", format!("that {} is signed by the private half of {}", name(r), name(command.term(2))))
         }
-        0x3B => {
-            format!("{p} checks that {} has the attributes {}", name(r), forms::attributes_text(command.attributes()))
-        }
-        0x3C => format!("{p} sends {} to {}", name(command.term(2)), s.party_name(command.party(1))),
-        0x3D => format!("{p} issues {} itself, {}", name(r), article(s, r)),
+        0x3B => ("check", format!("that {} has the attributes {}", name(r), attributes_text(command.attributes()))),
+        0x3C => ("send", format!("{} to {}", name(command.term(2)), party(1))),
+        0x3D => ("issue", format!("{} itself, {}", name(r), article(s, r))),
         forms::CHALLENGE => {
             let credential = command.term(2);
-            format!("{p} answers {} with {}, {}", name(r), name(credential), article(s, credential))
+            ("answer", format!("{} with {}, {}", name(r), name(credential), article(s, credential)))
         }
         forms::ISSUE_IAK => {
             let (credential, r) = (command.term(2), command.term(3));
-            let returning = s.party_name(command.party(1));
-            format!(
-                "{p} issues {}, {}; the number of {} is returned by {returning}",
-                name(r),
-                article(s, r),
-                name(credential)
-            )
+            let returned = format!("the number of {} is returned by {}", name(credential), party(1));
+            ("issue", format!("{}, {}; {returned}", name(r), article(s, r)))
         }
         forms::ISSUE_IAKS => {
             let pairs = command.pairs();
             let each: Vec<String> = pairs.iter().map(|(c, r)| format!("{} for {}", name(*r), name(*c))).collect();
-            let each = if each.is_empty() { "nothing".into() } else { forms::listed(&each, "and") };
-            format!("{p} issues together {each}; the numbers are returned by {}", s.party_name(command.party(1)))
+            let each = if each.is_empty() { "nothing".into() } else { listed(&each, "and") };
+            ("issue", format!("together {each}; the numbers are returned by {}", party(1)))
         }
-        _ => format!("{p} issues {}, {}, on {}", name(command.term(2)), article(s, command.term(2)), name(r)),
+        _ => ("issue", format!("{}, {}, on {}", name(command.term(2)), article(s, command.term(2)), name(r))),
+    };
+    let verb = if refused { format!("would {verb}") } else { third_person(verb) };
+    format!("{} {verb} {rest}", party(0))
+}
+
+/// "hash" as "hashes".
+fn third_person(verb: &str) -> String {
+    match verb.strip_suffix('y') {
+        Some(start) => format!("{start}ies"),
+        None if verb.ends_with("sh") => format!("{verb}es"),
+        None => format!("{verb}s"),
     }
 }
 

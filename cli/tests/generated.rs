@@ -9,15 +9,15 @@ use birdweekly::{
     load, path, Buffers, Entry, LoadAnswer, PathAnswer, RunAnswer, LEDGER_ENTRIES, OUTCOME_BYTES, PATH_PLACES,
     STATE_BYTES,
 };
-use desk_view::effects::Effects;
-use desk_view::explain::{explain, NO_COLOURS};
-use desk_view::faults::fault;
-use desk_view::reasons::{meaning, reason};
-use desk_view::rehearsal::Rehearsal;
-use desk_view::scenario::Scenario;
-use desk_view::show::show;
-use desk_view::source::Source;
-use desk_view::text::assemble;
+use birdweekly_cli::effects::Effects;
+use birdweekly_cli::explain::{explain, NO_COLOURS};
+use birdweekly_cli::faults::fault;
+use birdweekly_cli::reasons::{meaning, reason};
+use birdweekly_cli::rehearsal::Rehearsal;
+use birdweekly_cli::scenario::Scenario;
+use birdweekly_cli::show::show;
+use birdweekly_cli::source::Source;
+use birdweekly_cli::text::assemble;
 
 type Generator = fn(u64) -> Vec<u8>;
 const GENERATORS: [(&str, Generator); 4] =

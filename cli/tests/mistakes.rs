@@ -1,9 +1,9 @@
 //! Mistakes in a scenario's text are told with their line and what was expected there.
 
-use desk_view::forms::KINDS;
-use desk_view::source::Source;
-use desk_view::text::assemble;
-use desk_view::{faults, reasons};
+use birdweekly_cli::forms::KINDS;
+use birdweekly_cli::source::Source;
+use birdweekly_cli::text::assemble;
+use birdweekly_cli::{faults, reasons};
 
 /// Lines that are in order, numbered 1 to 12; the mistakes below stand on line 13.
 const START: &str = "\
@@ -100,6 +100,13 @@ fn one_mistake_is_not_told_of_the_lines_below_it() {
     let Err(mistakes) = assemble(&text) else { panic!("there is a mistake") };
     assert_eq!(mistakes.len(), 1, "{mistakes:?}");
     assert_eq!((mistakes[0].line, mistakes[0].column, mistakes[0].width), (7, 14, 3));
+    // Nor of the terms below, which keep their numbers, nor of what is made of the one with the mistake.
+    let more = "of-key = attest of key\nattested = signature of of-key by key-private\nboard: certify attested\n";
+    for (right, wrong, line) in [("hash of key", "hash off key", 7), ("attest of key", "attest off key", 13)] {
+        let text = format!("{START}{more}").replace(right, wrong);
+        let Err(mistakes) = assemble(&text) else { panic!("there is a mistake") };
+        assert_eq!(mistakes.iter().map(|mistake| mistake.line).collect::<Vec<_>>(), [line], "{mistakes:?}");
+    }
 }
 
 /// A line that is no record may have been meant to declare any of its words.

@@ -70,7 +70,7 @@ fn samples_give_what_their_comments_say() {
 
         // Shown with its own names and assembled again, it is the same file.
         let shown = command(&["show", &sample]);
-        let again = desk_view::text::assemble(&text(&shown.stdout)).expect("what is shown is in order");
+        let again = birdweekly_cli::text::assemble(&text(&shown.stdout)).expect("what is shown is in order");
         assert_eq!(again.bytes, bytes.stdout, "{sample}");
 
         // explain has every refusal of the listing, and every certificate.
