@@ -1,5 +1,5 @@
-//! Links the proved engine, target/staticlib/libbirdweekly.a. Where it is not there, `rt staticlib birdweekly` makes it, which takes some
-//! minutes: it proves every function first.
+//! Links the proved engine, target/staticlib/libbirdweekly.a. Where it is not there, `bind/engine` makes it, which takes some minutes: every
+//! function is proved first.
 
 use std::path::Path;
 use std::process::Command;
@@ -9,8 +9,8 @@ fn main() {
     let folder = root.join("target/staticlib");
     let archive = folder.join("libbirdweekly.a");
     if !archive.exists() {
-        let made = Command::new("rt").args(["staticlib", "birdweekly"]).current_dir(&root).status();
-        assert!(made.is_ok_and(|status| status.success()), "rt staticlib birdweekly did not make {}", archive.display());
+        let made = Command::new(root.join("bind/engine")).status();
+        assert!(made.is_ok_and(|status| status.success()), "bind/engine did not make {}", archive.display());
     }
     println!("cargo:rustc-link-search=native={}", folder.display());
     println!("cargo:rustc-link-lib=static=birdweekly");

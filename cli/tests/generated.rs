@@ -78,7 +78,7 @@ fn what_comes_before_a_refused_record_is_shown() {
 
 #[test]
 fn reasons_have_the_engines_numbers() {
-    let mut numbers = [0u64; 256];
+    let (mut numbers, mut claims) = ([0u64; 256], 0);
     let (mut whole, mut before) = (Buffers::new(), Buffers::new());
     for (name, file) in files() {
         let RunAnswer::Ran { accepted, refused, .. } = whole.run_all(&file) else { continue };
@@ -93,11 +93,14 @@ fn reasons_have_the_engines_numbers() {
             let told = reason(&scenario, &effects, &before, i);
             let outcome = whole.outcomes()[i];
             assert_eq!(told.as_ref().map_or(0, |told| told.number), outcome, "{name}, command {i}: {told:?}");
+            let details = told.iter().flat_map(|told| &told.details);
+            claims += details.map(|detail| claims_are_true(detail, &scenario, &before)).sum::<usize>();
             numbers[outcome as usize] += 1;
         }
     }
     let seen: Vec<(usize, u64)> = numbers.iter().copied().enumerate().filter(|(_, count)| *count > 0).collect();
-    println!("{seen:?}");
+    println!("{seen:?}, {claims} claims");
+    assert!(claims > 1_000);
     for number in [0, 13, 14, 15, 16, 17, 18, 19, 20, 21, 23, 24, 25, 26, 27, 28, 29, 31, 32] {
         assert!(numbers[number] > 0, "no file gave {number}");
     }
@@ -124,6 +127,44 @@ fn read_back(printed: &str) -> (Vec<u8>, Vec<(u16, u16)>) {
         Some((certificate, line.split_once("depth ")?.1.split_once(',')?.0.parse().ok()?))
     };
     (outcomes, ledger.lines().filter_map(entry).collect())
+}
+
+/// What a detail says of who knows a term and whose TPM holds a key is so in the state before the command. How many such things it says.
+fn claims_are_true(detail: &str, scenario: &Scenario, before: &Buffers) -> usize {
+    let party = |name: &str| scenario.party_names.iter().position(|other| other == name).map(|p| p as u8);
+    let term = |name: &str| scenario.term_names.iter().position(|other| other == name).map(|t| t as u16);
+    let parties = |names: &str| -> Vec<u8> {
+        let names = names.split(", ").flat_map(|names| names.split(" and "));
+        names.map(|name| party(name).unwrap_or_else(|| panic!("{detail}"))).collect()
+    };
+    let those =
+        |test: &dyn Fn(u8) -> bool| -> Vec<u8> { (0..scenario.parties.len() as u8).filter(|p| test(*p)).collect() };
+    // A pair of a 43 stands in front of what is told of it.
+    let detail = detail.split_once(": ").filter(|(pair, _)| pair.contains(" for ")).map_or(detail, |(_, told)| told);
+    if let Some((p, rest)) = detail.split_once(" does not know ") {
+        let (told, who) = rest.split_once("; ").unwrap_or((rest, ""));
+        let t = term(told.split([' ', ',']).next().unwrap_or("")).expect("a term");
+        assert!(!before.knows(party(p).expect("a party"), t), "{detail}");
+        let knowers = those(&|q| before.knows(q, t));
+        match who.split("; ").next().and_then(|who| who.strip_prefix("known to ")) {
+            Some(names) => assert_eq!(parties(names), knowers, "{detail}"),
+            None => assert!(knowers.is_empty() || who.is_empty(), "{detail}"),
+        }
+        return 1;
+    }
+    if let Some((p, rest)) = detail.strip_prefix("the TPM of ").and_then(|rest| rest.split_once(" does not hold ")) {
+        let (told, who) = rest.rsplit_once("; ").expect("who holds it");
+        let t = term(told.split([' ', ',']).next().unwrap_or("")).expect("a term");
+        let holders = those(&|q| before.in_table(q, t));
+        assert!(!holders.contains(&party(p).expect("a party")), "{detail}");
+        let names = who.strip_prefix("the TPM of ").or(who.strip_prefix("the TPMs of "));
+        match names.and_then(|names| names.strip_suffix(" does").or(names.strip_suffix(" do"))) {
+            Some(names) => assert_eq!(parties(names), holders, "{detail}"),
+            None => assert!(holders.is_empty() && who == "no TPM does", "{detail}"),
+        }
+        return 1;
+    }
+    0
 }
 
 /// Where a detail names another command, that one was refused, or issued the certificate. How many it names.

@@ -5,6 +5,8 @@ use std::io::Write;
 use std::path::{Path, PathBuf};
 use std::process::{Command, Output, Stdio};
 
+use birdweekly_cli::reasons::meaning;
+
 /// The repository.
 fn root() -> PathBuf {
     Path::new(env!("CARGO_MANIFEST_DIR")).join("..")
@@ -103,6 +105,21 @@ fn samples_give_what_their_comments_say() {
             assert!(graph.contains(&format!("t{} -> t{};", fields[1], fields[2])), "{sample}: {line}");
             assert!(graph.contains(&format!(", depth {}\"", fields[3])), "{sample}: {line}");
         }
+    }
+}
+
+/// Every refusal and every form of its reason, word for word.
+#[test]
+fn refusals_are_told_in_these_words() {
+    let refused = |file: &str| text(&command(&["explain", "--refused", file]).stdout);
+    let expected = std::fs::read_to_string(root().join("cli/tests/every-refusal.explained")).expect("it is read");
+    let found = refused("cli/tests/every-refusal.scenario") + &refused("samples/slip-depth-9.scenario");
+    for (found, expected) in found.lines().zip(expected.lines()) {
+        assert_eq!(found, expected);
+    }
+    assert_eq!(found, expected);
+    for number in (13..=32).filter(|number| !matches!(number, 22 | 30)) {
+        assert!(expected.contains(&format!(" {number}: {}\n", meaning(number))), "{number}");
     }
 }
 
