@@ -72,6 +72,7 @@ pub fn check(files: &[OsString], as_json: bool, out: &mut impl Write) -> io::Res
         let mut waiting = BTreeMap::new();
         let mut lines = String::new();
         let (mut printed, mut done, mut drawn) = (0, 0, Instant::now());
+        print(&mut lines, bar.then_some((done, files.len())), out)?;
         for (i, result) in receiver {
             waiting.insert(i, result);
             done += 1;
@@ -154,19 +155,19 @@ fn unread_line(file: &str, unread: &Unread) -> String {
     format!("{file}: not loaded: {message}")
 }
 
-/// "line 7: " of a record at a place, in a text.
-fn at_line(source: &Source, place: usize) -> String {
-    source.line(place).map_or(String::new(), |line| format!("line {line}: "))
+/// "line 7: ", where there is a line.
+fn at_line(line: Option<usize>) -> String {
+    line.map_or(String::new(), |line| format!("line {line}: "))
 }
 
 fn refused_line(source: &Source, refused: &Refused) -> String {
-    format!("{}: not loaded: {}{refused}", source.name, at_line(source, refused.refusal.place as usize))
+    format!("{}: not loaded: {}{refused}", source.name, at_line(source.refused_line(refused)))
 }
 
 fn ran_line(source: &Source, rehearsal: &Rehearsal) -> String {
     let (accepted, refused, issued) = (rehearsal.accepted, rehearsal.refused, rehearsal.after().ledger().count());
     let first = rehearsal.refusals(&source.scenario).next().map(|(i, command, reason)| {
-        let (line, name) = (at_line(source, command.place), command.form().name);
+        let (line, name) = (at_line(source.line(command.place)), command.form().name);
         format!("; first: {line}command {i}, {name}, {} ({})", reason.number, meaning(reason.number))
     });
     let note =
@@ -205,7 +206,7 @@ fn refused_json(source: &Source, refused: &Refused) -> String {
     let rest = [
         ("number", number(refused.refusal.number)),
         ("place", number(refused.refusal.place)),
-        ("line", source.line(refused.refusal.place as usize).and_then(number)),
+        ("line", source.refused_line(refused).and_then(number)),
         ("reason", Some(json::string(faults::meaning(refused.refusal.number)))),
         ("details", Some(json::array([json::string(&refused.words)].into_iter()))),
     ];

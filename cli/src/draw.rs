@@ -4,8 +4,7 @@
 use std::collections::{BTreeMap, BTreeSet};
 use std::fmt::Write;
 
-use birdweekly::Mark;
-
+use crate::effects::{Effect, Effects};
 use crate::forms;
 use crate::reasons::{meaning, Reason};
 use crate::rehearsal::Rehearsal;
@@ -28,8 +27,9 @@ fn fill(family: &str) -> &'static str {
 
 /// The graph in dot's language.
 pub fn draw(name: &str, scenario: &Scenario, rehearsal: &Rehearsal) -> String {
-    let mut picture =
-        Picture { scenario, rehearsal, nodes: BTreeMap::new(), edges: String::new(), drawn: BTreeSet::new() };
+    let effects = Effects::of(scenario);
+    let (nodes, edges, drawn) = (BTreeMap::new(), String::new(), BTreeSet::new());
+    let mut picture = Picture { scenario, rehearsal, effects, nodes, edges, drawn };
     picture.endorsements();
     picture.issued();
     picture.refused();
@@ -39,6 +39,7 @@ pub fn draw(name: &str, scenario: &Scenario, rehearsal: &Rehearsal) -> String {
 struct Picture<'a> {
     scenario: &'a Scenario,
     rehearsal: &'a Rehearsal,
+    effects: Effects,
     /// Nodes by the party whose TPM they belong to; none for those outside.
     nodes: BTreeMap<Option<u8>, String>,
     edges: String,
@@ -99,16 +100,17 @@ impl Picture<'_> {
         self.scenario.term(body).filter(|record| matches!(record.kind, forms::IDEVID_REQUEST | forms::LDEVID_REQUEST))
     }
 
-    /// The request that a desk command is about.
-    fn request(&self, command: &Record) -> Option<u16> {
-        let opened = |credential: u16| match self.rehearsal.after().mark(credential) {
-            Mark::CredentialOpen { request, .. } | Mark::CredentialClosed { request, .. } => Some(request),
-            _ => None,
+    /// The requests that a desk command is about: of a credential, that of the challenge before which opened it.
+    fn requests(&self, i: usize, command: &Record) -> Vec<u16> {
+        let opened = |credential: u16| {
+            let before = self.effects.before(Effect::Opens, credential, i);
+            let by = before.iter().find(|i| self.rehearsal.reasons[**i].is_none());
+            by.map(|i| self.scenario.commands[*i].term(1))
         };
         match command.kind {
-            forms::ISSUE_IAK => opened(command.term(2)),
-            forms::ISSUE_IAKS => command.pairs().first().and_then(|(credential, _)| opened(*credential)),
-            _ => Some(command.term(1)),
+            forms::ISSUE_IAK => opened(command.term(2)).into_iter().collect(),
+            forms::ISSUE_IAKS => command.pairs().into_iter().filter_map(|(credential, _)| opened(credential)).collect(),
+            _ => vec![command.term(1)],
         }
     }
 
@@ -122,14 +124,16 @@ impl Picture<'_> {
             let mut label = vec![format!("{}, command {i} of {desk}", command.form().name)];
             label.extend(asked.iter().map(|t| format!("{}, {}", scenario.term_name_of(*t), scenario.subject_of(*t))));
             label.push(format!("refused, {}: {}", reason.number, meaning(reason.number)));
-            let body = self.request(command).and_then(|request| self.body(request));
-            let parent = body.map(|record| record.term(1));
+            let requests = self.requests(i, command);
+            let bodies: Vec<&Record> = requests.iter().filter_map(|request| self.body(*request)).collect();
+            let parents: BTreeSet<u16> = bodies.iter().map(|record| record.term(1)).collect();
             let named = |record: &Record| (record.kind == forms::IDEVID_REQUEST).then(|| record.term(2));
-            let key = asked.first().and_then(|t| self.certified(*t)).or_else(|| body.and_then(named));
+            let key =
+                asked.first().and_then(|t| self.certified(*t)).or_else(|| bodies.first().and_then(|body| named(body)));
             let tpm = self.tpm(key);
             let look = format!("fillcolor=\"{REFUSED}\", color=\"{REFUSED_EDGE}\", fontcolor=\"{REFUSED_EDGE}\", style=\"filled,dashed\"");
             self.node(tpm, &format!("c{i}"), &label, &look);
-            if let Some(parent) = parent.filter(|parent| self.drawn.contains(parent)) {
+            for parent in parents.intersection(&self.drawn) {
                 let _ = writeln!(self.edges, "  c{i} -> t{parent} [color=\"{REFUSED_EDGE}\", style=dashed];");
             }
         }

@@ -11,6 +11,8 @@ use crate::words::asked_for;
 pub enum Effect {
     /// A party learns it; the parts of it are not counted.
     Teaches(u8),
+    /// A party's TPM has a ticket for a hash then.
+    Tickets(u8),
     /// A credential is open then.
     Opens,
     /// A certificate is in the ledger then.
@@ -41,7 +43,8 @@ impl Effects {
 fn effects(scenario: &Scenario, command: &Record) -> Vec<(Effect, u16)> {
     let (p, r) = (command.party(0), command.term(1));
     match command.kind {
-        0x30..=0x33 | 0x35..=0x37 | 0x3D => vec![(Effect::Teaches(p), r)],
+        0x30 => vec![(Effect::Teaches(p), r), (Effect::Tickets(p), r)],
+        0x31..=0x33 | 0x35..=0x37 | 0x3D => vec![(Effect::Teaches(p), r)],
         0x34 => {
             scenario.named(r, forms::CREDENTIAL, 1).into_iter().map(|number| (Effect::Teaches(p), number)).collect()
         }

@@ -244,7 +244,13 @@ impl<'a> Before<'a> {
                 } else if self.setup().any(|other| makers(&other)) {
                     None
                 } else {
-                    Some(format!("its signer {} is not (yet) the signing key of a TPM maker", self.term(signer)))
+                    let signs = |other: &&Record| other.kind == forms::SIGNS_WITH && other.term(1) == signer;
+                    let whose = self.setup().find(signs).map(|other| other.party(0));
+                    let whose = whose.map_or("nobody's signing key so far".into(), |party| {
+                        let role = self.scenario.role(party).map_or("", role_words);
+                        format!("the signing key of {}, {role}", self.party(party))
+                    });
+                    Some(format!("its signer {} is {whose}; that of a TPM maker is called for", self.term(signer)))
                 }
             }
             kind => Some(format!(

@@ -261,11 +261,10 @@ fn files_of(path: &OsStr, files: &mut Vec<OsString>) -> Result<(), Failure> {
     let mut entries = entries.map_err(unreadable)?;
     entries.sort_by_key(|entry| entry.file_name());
     for entry in entries {
-        // A link to a folder is not followed: it may lead back.
-        if entry.file_type().is_ok_and(|kind| kind.is_dir()) {
-            files_of(entry.path().as_os_str(), files)?;
-        } else {
-            files.push(entry.path().into());
+        let (path, is_link) = (entry.path(), entry.file_type().is_ok_and(|kind| kind.is_symlink()));
+        // A link to a folder is left out: it may lead back.
+        if !(is_link && path.is_dir()) {
+            files_of(path.as_os_str(), files)?;
         }
     }
     Ok(())

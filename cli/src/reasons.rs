@@ -85,8 +85,12 @@ struct Tests<'a> {
 impl Tests<'_> {
     fn lowest(&self) -> Option<Reason> {
         let number = *ORDER.iter().find(|number| self.failed.iter().any(|(other, _)| other == *number))?;
-        let details =
-            self.failed.iter().filter(|(other, _)| *other == number).map(|(_, words)| words.clone()).collect();
+        let mut details: Vec<String> = Vec::new();
+        for (_, words) in self.failed.iter().filter(|(other, _)| *other == number) {
+            if !details.contains(words) {
+                details.push(words.clone());
+            }
+        }
         Some(Reason { number, details })
     }
 
@@ -171,7 +175,7 @@ impl Tests<'_> {
     /// Who knows a term that a party does not know, and what came of a command that would have taught it.
     fn knowers(&self, p: u8, t: u16) -> String {
         if self.scenario.is_kind(t, forms::PRIVATE_KEY) {
-            return "nobody knows a private key, it stays in its TPM".into();
+            return "nobody ever knows a private key".into();
         }
         let knowers = self.those(|q| self.before.knows(q, t));
         let who =
@@ -279,8 +283,10 @@ impl Tests<'_> {
             let others = this.those(|q| this.before.in_table(q, message));
             let why = if this.scenario.is_kind(content, forms::ATTEST) {
                 "; the hash of an attest gets none".to_string()
+            } else if let [.., i] = this.earlier(Effect::Tickets(p), message) {
+                format!("; command {i}, which would have made one, was refused")
             } else if others.is_empty() {
-                format!("; it gets one where {} hashes {}", this.party(p), this.name(content))
+                format!("; {} did not hash {}", this.party(p), this.name(content))
             } else {
                 format!("; that of {} has one", this.parties(&others))
             };
@@ -369,14 +375,14 @@ impl Tests<'_> {
 
     // ---- desk commands
 
-    /// A request is a pair of its body and a signature of the body's hash. Its body and signature, where the form is right.
-    fn form(&mut self, request: u16, body_kind: u8) -> Option<(u16, u16)> {
+    /// A request is a pair of its body and a signature of the body's hash. Its body and signature, where each is of the right kind.
+    fn form(&mut self, request: u16, body_kind: u8) -> (Option<u16>, Option<u16>) {
         let pair = |this: &Self, i| this.scenario.named(request, forms::PAIR, i);
         let (Some(body), Some(signature)) = (pair(self, 0), pair(self, 1)) else {
             self.need(19, false, |this| {
                 format!("{} is no request: a request is a pair of its body and a signature", this.told(request))
             });
-            return None;
+            return (None, None);
         };
         let kind = self.scenario.term(body).map_or(0, |record| record.kind);
         self.need(19, kind == body_kind, |this| {
@@ -392,12 +398,13 @@ impl Tests<'_> {
         self.need(19, signed.is_some(), |this| {
             format!("the second of {} is {}; a signature is called for", this.name(request), this.told(signature))
         });
+        let hash = signed.filter(|signed| self.scenario.is_kind(*signed, forms::HASH));
         if let Some(signed) = signed {
-            self.need(19, self.scenario.is_kind(signed, forms::HASH), |this| {
+            self.need(19, hash.is_some(), |this| {
                 format!("{} signs {}; a signature of a hash is called for", this.name(signature), this.told(signed))
             });
         }
-        Some((body, signature)).filter(|_| !self.failed.iter().any(|(number, _)| *number == 19))
+        (Some(body).filter(|_| kind == body_kind), hash.map(|_| signature))
     }
 
     /// The hash is that of the body, and the new key's private half signed it; that key is the one of a term.
@@ -452,33 +459,27 @@ impl Tests<'_> {
 
     fn challenge(&mut self, desk: u8, request: u16, r: u16) {
         self.known(desk, request);
-        if let Some((body, signature)) = self.form(request, forms::IDEVID_REQUEST) {
-            let Some(record) = self.scenario.term(body) else { return };
-            let (certificate, iak) = (record.term(1), record.term(2));
-            let subject = record.subject();
-            self.need(19, matches!(subject, Some(Subject::Device(_))), |this| {
-                format!(
-                    "{} is for {}; the Subject of a device is called for",
-                    this.name(body),
-                    subject.map_or(String::new(), subject_text)
-                )
-            });
-            self.proof(body, signature, iak, body);
-            let ek = self.scenario.named(certificate, forms::CERTIFICATE, 0).unwrap_or(forms::EMPTY);
-            let subject = self.scenario.term(certificate).and_then(|record| record.subject());
-            self.need(21, matches!(subject, Some(Subject::Tpm(_))), |this| {
-                format!(
-                    "{} is for {}; the Subject of a TPM is called for",
-                    this.name(certificate),
-                    subject.map_or(String::new(), subject_text)
-                )
-            });
-            self.signed_by(certificate, &[TPM_MAKER]);
-            self.attributes(iak, "the IAK", forms::ATTESTATION_KEY);
-            self.attributes(ek, "the EK", forms::ENDORSEMENT_KEY);
-            self.credential_called_for(r, iak, ek);
-        }
         self.fresh(desk, self.scenario.named(r, forms::CREDENTIAL, 1).unwrap_or(forms::EMPTY));
+        let (body, signature) = self.form(request, forms::IDEVID_REQUEST);
+        let Some((body, record)) = body.and_then(|body| Some((body, self.scenario.term(body)?))) else { return };
+        self.need(19, matches!(record.subject(), Some(Subject::Device(_))), |this| {
+            let subject = this.scenario.subject_of(body);
+            format!("{} is for {subject}; the Subject of a device is called for", this.name(body))
+        });
+        let (certificate, iak) = (record.term(1), record.term(2));
+        if let Some(signature) = signature {
+            self.proof(body, signature, iak, body);
+        }
+        let ek = self.scenario.named(certificate, forms::CERTIFICATE, 0).unwrap_or(forms::EMPTY);
+        let subject = self.scenario.term(certificate).and_then(|record| record.subject());
+        self.need(21, matches!(subject, Some(Subject::Tpm(_))), |this| {
+            let subject = this.scenario.subject_of(certificate);
+            format!("{} is for {subject}; the Subject of a TPM is called for", this.name(certificate))
+        });
+        self.signed_by(certificate, &[TPM_MAKER]);
+        self.attributes(iak, "the IAK", forms::ATTESTATION_KEY);
+        self.attributes(ek, "the EK", forms::ENDORSEMENT_KEY);
+        self.credential_called_for(r, iak, ek);
     }
 
     /// r is (hash of the public IAK, number, EK).
@@ -501,7 +502,8 @@ impl Tests<'_> {
         });
         let others: Vec<u8> = knowers.iter().copied().filter(|p| *p != desk).collect();
         self.need(24, others.is_empty(), |this| {
-            format!("{} is known to {} too; the desk alone may know it", this.told(number), this.parties(&others))
+            let too = if knowers.contains(&desk) { " too" } else { "" };
+            format!("{} is known to {}{too}; the desk alone may know it", this.told(number), this.parties(&others))
         });
         self.need(24, self.before.mark(number) != Mark::NumberUsed, |this| {
             format!("{} is used: an earlier challenge took it", this.told(number))
@@ -652,8 +654,8 @@ impl Tests<'_> {
 
     fn issue(&mut self, family: Family, desk: u8, request: u16, r: u16) {
         self.known(desk, request);
-        let Some((body, signature)) = self.form(request, forms::LDEVID_REQUEST) else { return };
-        let Some(record) = self.scenario.term(body) else { return };
+        let (body, signature) = self.form(request, forms::LDEVID_REQUEST);
+        let Some((body, record)) = body.and_then(|body| Some((body, self.scenario.term(body)?))) else { return };
         let (attested, parent) = (record.term(0), record.term(1));
         let attest = self.scenario.named(attested, forms::SIGNATURE, 0).unwrap_or(forms::EMPTY);
         let Some(key) = self.scenario.named(attest, forms::ATTEST, 0) else {
@@ -664,7 +666,9 @@ impl Tests<'_> {
         };
         let attester = self.scenario.named(attested, forms::SIGNATURE, 1).unwrap_or(forms::EMPTY);
         let parent_key = self.scenario.named(parent, forms::CERTIFICATE, 0).unwrap_or(forms::EMPTY);
-        self.proof(body, signature, key, attest);
+        if let Some(signature) = signature {
+            self.proof(body, signature, key, attest);
+        }
         let which = format!(", the key of {}", self.name(parent));
         self.paired(20, attested, attester, parent_key, &which);
         self.signed_by(parent, family.signers);

@@ -5,7 +5,7 @@ use std::collections::HashMap;
 use birdweekly::{Buffers, Entry, RunAnswer};
 
 use crate::effects::Effects;
-use crate::reasons::{meaning, reason, Reason};
+use crate::reasons::{reason, Reason};
 use crate::scenario::{Record, Scenario};
 use crate::words::{asked_for, family};
 
@@ -52,7 +52,7 @@ impl Rehearsal {
                 reached = Some(i);
             }
             let told = reason(scenario, &effects, &before, i).filter(|told| told.number == *outcome);
-            let general = || Reason { number: *outcome, details: vec![meaning(*outcome).into()] };
+            let general = || Reason { number: *outcome, details: Vec::new() };
             reasons.push(Some(told.unwrap_or_else(general)));
         }
         Rehearsal { after, accepted: accepted as usize, refused: refused as usize, reasons }

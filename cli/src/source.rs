@@ -136,10 +136,14 @@ impl Source {
         self.text.as_ref().and_then(|(assembled, _)| assembled.line(place))
     }
 
+    /// The line of the record that is refused, in a text; a file that is too long has none.
+    pub fn refused_line(&self, refused: &Refused) -> Option<usize> {
+        self.line(refused.refusal.place as usize).filter(|_| refused.refusal.number != 2)
+    }
+
     /// Why the file does not load, with its line where it is a text.
     pub fn told(&self, refused: &Refused) -> String {
-        let at = self.line(refused.refusal.place as usize).filter(|_| refused.refusal.number != 2);
-        match (at, &self.text) {
+        match (self.refused_line(refused), &self.text) {
             (Some(line), Some((_, text))) => {
                 let shown = text.lines().nth(line - 1).unwrap_or("");
                 let column = shown.chars().take_while(|c| c.is_whitespace()).count();

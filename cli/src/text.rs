@@ -270,6 +270,9 @@ impl Reader {
                 let what = format!("a kind of term ({})", listed(&names, "or"));
                 Err(with(line.expected(word, &what), alike))
             }
+            Section::Commands if line.is(2, "=") => {
+                Err(line.mistake(line.at(1), "expected \"=\" between the name and its term, found \":=\"".into()))
+            }
             Section::Commands if is(Section::SetUp) => {
                 Err(line.mistake(line.at(1), "expected no \":\" here: what follows is set-up, not a command".into()))
             }
@@ -287,6 +290,11 @@ impl Reader {
     /// A line that is no record: what its second word, or the want of one, tells.
     fn no_record(&self, line: &Line, alike: Option<String>) -> Mistake {
         let (first, second) = (line.at(0), line.at(1));
+        match first.map_or("", |word| word.text) {
+            ":" => return line.expected(first, "the name of a party before the \":\""),
+            "=" => return line.expected(first, "a name before the \"=\""),
+            _ => {}
+        }
         let named = |section: Section| second.is_some_and(|word| is_kind_of(word.text, section));
         let is_party = first.is_some_and(|word| matches!(self.names.get(word.text), Some((Meaning::Party(_), _))));
         if named(Section::Commands) && (is_party || !named(Section::Terms)) {
@@ -364,6 +372,7 @@ impl Reader {
             _ if self.doubtful.contains(word) && !self.names.contains_key(word) => Err(Wrong::ToldBefore),
             Field::Party => match self.names.get(word) {
                 Some((Meaning::Party(party), _)) => Ok(Value::Party(*party)),
+                Some((Meaning::Term(_, None), _)) => Err(Wrong::ToldBefore),
                 _ => Err(self.wrong_name(line, token, field).into()),
             },
             Field::AnyTerm | Field::Term(_) | Field::SignedAttest => match self.names.get(word) {
@@ -454,9 +463,10 @@ impl Reader {
                             field != Field::Party && kind.is_none_or(|kind| self.suits(*term, kind, field))
                         }
                     });
-                    let mut fitting: Vec<&str> = fitting.map(|(name, _)| name.as_str()).collect();
-                    fitting.sort_unstable();
-                    let alike = suggestion(token.text, fitting.into_iter());
+                    // Of names that are as near, the one declared last.
+                    let mut fitting: Vec<(usize, &str)> = fitting.map(|(name, (_, at))| (*at, name.as_str())).collect();
+                    fitting.sort_unstable_by(|a, b| b.cmp(a));
+                    let alike = suggestion(token.text, fitting.into_iter().map(|(_, name)| name));
                     return with(line.mistake(Some(token), format!("expected {what}; {name} is not declared")), alike);
                 }
             },
@@ -527,12 +537,13 @@ fn is_kind_of(word: &str, section: Section) -> bool {
     KINDS.iter().any(|kind| kind.section() == section && kind.name == word)
 }
 
-/// The candidate that is nearest to a word, if it is near.
+/// The candidate that is nearest to a word, if it is near; the first of them.
 pub fn suggestion<'a>(word: &str, candidates: impl Iterator<Item = &'a str>) -> Option<String> {
     let word = word.to_lowercase();
     let near = 1 + word.chars().count() / 4;
     let ranked = candidates.map(|candidate| (distance(&word, &candidate.to_lowercase()), candidate));
-    ranked.filter(|(d, _)| *d <= near && *d < word.chars().count()).min().map(|(_, candidate)| candidate.to_string())
+    let near = ranked.filter(|(d, _)| *d <= near && *d < word.chars().count());
+    near.min_by_key(|(d, _)| *d).map(|(_, candidate)| candidate.to_string())
 }
 
 /// How many letters are to be put in, taken out, changed or swapped with their neighbour.

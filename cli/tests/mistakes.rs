@@ -22,7 +22,7 @@ maker signs-with maker-private
 ";
 
 /// A line, the column of its mistake, and what is said.
-const MISTAKES: [(&str, usize, &str); 45] = [
+const MISTAKES: [(&str, usize, &str); 49] = [
     ("digest2 = hsh of key", 10, "expected a kind of term (public-key, private-key, hash, signature, attest, credential, number, idevid-request, ldevid-request, certificate or pair), found \"hsh\". Did you mean \"hash\"?"),
     ("digest2 = ", 9, "expected a kind of term (public-key, private-key, hash, signature, attest, credential, number, idevid-request, ldevid-request, certificate or pair), found the end of the line"),
     ("digest2 = hash key", 15, "expected \"of\", found \"key\""),
@@ -38,6 +38,10 @@ const MISTAKES: [(&str, usize, &str); 45] = [
     ("board: learns key", 5, "expected no \":\" here: what follows is set-up, not a command"),
     ("board = hash digest", 0, "\"board\" is a party (line 1); its commands stand behind \":\""),
     ("party = hash of key", 0, "\"party\" begins the line of a party and is no name"),
+    (": hash digest", 0, "expected the name of a party before the \":\", found \":\""),
+    ("= number 8", 0, "expected a name before the \"=\", found \"=\""),
+    ("k2 := public-key 7 sign", 3, "expected \"=\" between the name and its term, found \":=\""),
+    ("p2 = signature of digest by kez-private\nkex-private = private-key 7 sign", 28, "expected a private key; \"kez-private\" is not declared. Did you mean \"key-private\"?"),
     ("digest = hash of nonce", 0, "\"digest\" is declared already, on line 7"),
     ("oem = hash of nonce", 0, "\"oem\" is a party (line 3); its commands stand behind \":\""),
     ("7up = hash of nonce", 0, "expected a name (a letter, then letters, digits, - _ . and '), found \"7up\""),
@@ -112,7 +116,7 @@ fn one_mistake_is_not_told_of_the_lines_below_it() {
 /// A line that is no record may have been meant to declare any of its words.
 #[test]
 fn a_line_that_is_no_record_is_told_once() {
-    for line in ["prty maker tpm-maker", "Party maker tpm-maker", "maker"] {
+    for line in ["prty maker tpm-maker", "Party maker tpm-maker", "maker", "maker = tpm-maker"] {
         let text = START.replace("party maker tpm-maker", line);
         let Err(mistakes) = assemble(&text) else { panic!("there is a mistake") };
         assert_eq!(mistakes.iter().map(|mistake| mistake.line).collect::<Vec<_>>(), [2], "{mistakes:?}");

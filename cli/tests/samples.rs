@@ -26,7 +26,7 @@ fn samples() -> Vec<String> {
     let names = folder.map(|entry| entry.expect("a folder is read").file_name().to_string_lossy().into_owned());
     let mut names: Vec<String> = names.map(|name| format!("samples/{name}")).collect();
     names.sort();
-    assert!(names.iter().all(|name| name.ends_with(".scenario")) && names.len() > 20);
+    assert!(names.iter().all(|name| name.ends_with(".scenario")) && names.len() >= 26);
     names
 }
 
@@ -108,18 +108,51 @@ fn samples_give_what_their_comments_say() {
     }
 }
 
-/// Every refusal and every form of its reason, word for word.
+/// What is printed is held to stored files, whole: of every sample, and of a scenario with every refusal and every form of its reason.
+/// With BIRDWEEKLY_EXPECTED=write they are written anew, to be read before they are kept.
 #[test]
-fn refusals_are_told_in_these_words() {
-    let refused = |file: &str| text(&command(&["explain", "--refused", file]).stdout);
-    let expected = std::fs::read_to_string(root().join("cli/tests/every-refusal.explained")).expect("it is read");
-    let found = refused("cli/tests/every-refusal.scenario") + &refused("samples/slip-depth-9.scenario");
-    for (found, expected) in found.lines().zip(expected.lines()) {
-        assert_eq!(found, expected);
+fn what_is_printed_is_as_stored() {
+    let folder = root().join("cli/tests/expected");
+    let write = std::env::var_os("BIRDWEEKLY_EXPECTED").is_some_and(|word| word == "write");
+    let held = |name: &str, found: String| {
+        let path = folder.join(name);
+        if write {
+            std::fs::write(&path, &found).expect("it is written");
+        }
+        let expected = std::fs::read_to_string(&path).unwrap_or_else(|error| panic!("{}: {error}", path.display()));
+        for (found, expected) in found.lines().zip(expected.lines()) {
+            assert_eq!(found, expected, "{name}");
+        }
+        assert_eq!(found, expected, "{name}");
+    };
+    let printed = |words: &[&str]| text(&command(words).stdout);
+    let mut samples = samples();
+    samples.push("cli/tests/every-refusal.scenario".into());
+    for sample in &samples {
+        let name = Path::new(sample).file_stem().expect("a name").to_string_lossy();
+        held(&format!("{name}.explained"), printed(&["explain", sample]));
+        held(&format!("{name}.dot"), printed(&["draw", sample]));
     }
-    assert_eq!(found, expected);
-    for number in (13..=32).filter(|number| !matches!(number, 22 | 30)) {
-        assert!(expected.contains(&format!(" {number}: {}\n", meaning(number))), "{number}");
+    held("refused-alone.explained", printed(&["explain", "--refused", "samples/slip-ek-in-another-tpm.scenario"]));
+    let samples: Vec<&str> = samples.iter().map(|sample| &sample[..]).collect();
+    held("check.txt", printed(&[&["check"], &samples[..]].concat()));
+    held("check.json", printed(&[&["check", "--json"], &samples[..]].concat()));
+    // Every refusal is among them.
+    let refusals = std::fs::read_to_string(folder.join("every-refusal.explained")).expect("it is read");
+    for number in (13..=32).filter(|number| !matches!(number, 22 | 29 | 30)) {
+        assert!(refusals.contains(&format!(" {number}: {}\n", meaning(number))), "{number}");
+    }
+}
+
+/// -o writes what goes to standard output else.
+#[test]
+fn results_go_to_a_file_too() {
+    let folder = Scratch::new("out");
+    for call in ["assemble", "show", "draw"] {
+        let (sample, out) = ("samples/honest-lak.scenario", folder.path(call));
+        let written = command(&[call, sample, "-o", &out]);
+        assert_eq!((written.status.code(), written.stdout.is_empty()), (Some(0), true), "{call}");
+        assert_eq!(std::fs::read(&out).expect("it is written"), command(&[call, sample]).stdout, "{call}");
     }
 }
 
@@ -259,6 +292,8 @@ fn folders_are_checked_whole() {
     );
     assert!(lines[1].ends_with("inner/most/honest.scenario: 9 accepted, 0 refused, 1 issued"), "{lines:?}");
     assert_eq!(lines[2], "2 files: 2 with no refusal, 0 with refused commands, 0 not loaded");
+    std::os::unix::fs::symlink(folder.path("inner"), folder.path("inner/most/round")).expect("it is linked");
+    assert_eq!(command(&["check", &folder.path("")]).status.code(), Some(0));
     std::os::unix::fs::symlink("nowhere", folder.path("inner/broken.scenario")).expect("it is linked");
     assert_eq!(command(&["check", &folder.path("")]).status.code(), Some(2));
 }
