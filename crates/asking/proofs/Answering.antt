@@ -1,30 +1,34 @@
--- A question asked after a run, by the run's answer.
+-- A question asked after a run, by what the run left.
 --     totals-told, refused-told     what is told in numbers
 --     askable                       what a run leaves can be asked
 --     ask-ran                       the whole promise
 -- Assumes nothing.
 use mathlib.Core.Path.{_≡_, refl, sym, ap, subst, _∙_}
+use mathlib.Core.Bool.{Bool, true, false, cond}
 use mathlib.Core.List.{List, [], _∷_}
-use Prim.Native.Nat.{ℕ, min}
+use Prim.Native.Nat.{ℕ, _<_, _≤_}
 use native.Mathlib.Omega.{arith}
-use lib.ListN.{length, take, length-take}
-use Rattle.rules.specs.declared.RunAnswer.{RunAnswer}
-use Rattle.rules.specs.declared.RunAnswer.the-variants as ran
+use native.Mathlib.Decide.{decLt}
+use lib.Dec.{eqb}
+use lib.ListN.{length, take}
+use borrow.Author.Tests.{eq-eqb, ne-eqb}
+use Rattle.rules.specs.declared.Entry.{Entry}
 use Rattle.rules.specs.declared.Question.{Question}
 use Rattle.rules.specs.declared.Question.the-variants.{Totals, Stock}
 use Rattle.rules.specs.declared.AskAnswer.{AskAnswer}
 use Rattle.rules.specs.declared.AskAnswer.the-variants as told
 use Rattle.rules.specs.Limits.{commandLimit, stateBytes}
-use Rattle.rules.specs.Lent.{success, refusal, runInNumbers, Lent, runAnswer, runLeaves}
+use Rattle.rules.specs.Run.{reached}
+use Rattle.rules.specs.Lent.{Answer, success, refusal, Lent, runAnswer, runLeaves}
 use Rattle.rules.specs.Stock.{boardsLeft, stockAnswer}
 use Rattle.rules.specs.Questions.{askInNumbers, countOf, answerOf, leavesOf}
 use Rattle.theorems.proofs.Asking.{refused-first, asked-loaded, left-as-run}
-use Rattle.entries.specs.Words.{entriesIn}
 use Rattle.loaded.specs.Loaded.{fileIn}
-use Rattle.engine.specs.declared.Answered.{Answered}
-use Rattle.engine.specs.Runs.{Left, Ran}
-use Rattle.engine.proofs.Answers.{ran-loaded}
-use Rattle.asking.specs.Asks.{Askable, Answers, AskRan}
+use Rattle.engine.specs.Runs.{lentWith}
+use Rattle.runs.specs.declared.Finished.{Finished}
+use Rattle.runs.specs.Raw.{ranIn, Ran, Runs, Stood}
+use Rattle.runs.proofs.Whole.{run-left, run-stood, near-place}
+use Rattle.asking.specs.Asks.{Askable, Answers}
 
 pub totals-told : (accepted refused issued : ℕ) → askInNumbers (told.Totals accepted refused issued) ≡ success (accepted ∷ refused ∷ issued ∷ [])
 unfolding askInNumbers
@@ -34,46 +38,58 @@ pub refused-told : (number place : ℕ) → askInNumbers (told.Refused number pl
 unfolding askInNumbers
 refused-told number place = refl
 
--- what a run leaves can be asked
-pub askable : (y : RunAnswer) (n parties terms : ℕ) (bs s tables words : List ℕ) → Left bs n (take stateBytes s) tables words y parties terms → Askable y bs s parties terms
-askable (ran.Ran a r i) n parties terms bs s tables words w =
-    let x = w a r i refl in
-    let m : min stateBytes (length s) ≡ stateBytes = sym (length-take stateBytes s) ∙ x .stands .holds .room in
-    (omega (arith, m), record { holds = x .stands .holds; partiesAre = x .partiesAre; termsAre = x .termsAre })
-askable (ran.Refused number place) n parties terms bs s tables words w = tt
+-- the answer of a run in numbers, by its number
+pub ran-numbers : (r : Finished) → r .begun .number ≡ 0 → ranIn r ≡ success (r .progress .accepted ∷ r .progress .refused ∷ r .progress .issued ∷ [])
+ran-numbers r z = rw (eq-eqb (r .begun .number) 0 z) refl
+
+pub refused-numbers : (r : Finished) → (r .begun .number ≡ 0 → ⊥) → ranIn r ≡ refusal (r .begun .number) (r .begun .place)
+refused-numbers r z = rw (ne-eqb (r .begun .number) 0 z) refl
+
+module _ (bs : List ℕ) (n : ℕ) (s : List ℕ) (l : List Entry) (out s′ : List ℕ) {l′ : List Entry} {out′ tables : List ℕ} {r : Finished} (w : Runs bs n (length l) s l out s′ l′ out′ tables r) (ls : length s′ ≡ length s) where
+  abbrev stood : r .begun .number ≡ 0 → Stood bs n (lentWith s l out) s′ l′ tables r
+  stood z = run-stood bs n s l out s′ w z ls
+
+  -- what a run leaves can be asked
+  pub askable : Askable r bs s′
+  askable = record {
+    room = λ z. stood z .room;
+    standing = λ z. record { holds = stood z .stands .holds; partiesAre = stood z .partiesAre; termsAre = stood z .termsAre };
+    few = λ z. (omega (arith, stood z .few), (omega (arith, stood z .few), omega (arith, stood z .stands .enters .few)));
+    near = near-place bs n (length l) s l out s′ w;
+  }
 
 module _ (bs : List ℕ) (lent : Lent) where
   -- the run's refusal is the answer
-  refused-by : (question : Question) (number place : ℕ) → runInNumbers (ran.Refused number place) ≡ runAnswer bs (countOf question) lent → refusal number place ≡ answerOf question bs lent
-  unfolding runInNumbers countOf answerOf stockAnswer
+  refused-by : (question : Question) (number place : ℕ) → refusal number place ≡ runAnswer bs (countOf question) lent → refusal number place ≡ answerOf question bs lent
+  unfolding countOf answerOf stockAnswer
   refused-by (Totals n) number place q = q
   refused-by (Stock party iaks) number place q = sym (refused-first (boardsLeft party iaks) bs commandLimit lent number place (sym q))
 
   -- what is told of what the run left is the answer
-  ran-by : (question : Question) (a r i parties terms : ℕ) (s tables w : List ℕ) (x : AskAnswer) → runInNumbers (ran.Ran a r i) ≡ runAnswer bs (countOf question) lent
-      → Left bs (countOf question) (take stateBytes s) tables w (ran.Ran a r i) parties terms → Answers (ran.Ran a r i) question bs s x → askInNumbers x ≡ answerOf question bs lent
-  unfolding runInNumbers countOf answerOf stockAnswer
-  ran-by (Totals n) a r i parties terms s tables w x q left h = h [] ∙ q
-  ran-by (Stock party iaks) a r i parties terms s tables w x q left h =
-      let l = left a r i refl in
-      h (entriesIn w i)
-      ∙ ap (boardsLeft party iaks (fileIn bs)) (l .state)
-      ∙ sym (asked-loaded (boardsLeft party iaks) commandLimit bs lent (ran-loaded bs commandLimit lent a r i q .1) (fileIn bs) (l .stands .holds .loads))
+  ran-by : (question : Question) (s : List ℕ) {l : List Entry} {tables : List ℕ} {r : Finished} (x : AskAnswer) → r .begun .number ≡ 0 → ranIn r ≡ runAnswer bs (countOf question) lent
+      → Stood bs (countOf question) lent s l tables r → Answers r question bs s x → askInNumbers x ≡ answerOf question bs lent
+  unfolding countOf answerOf stockAnswer
+  ran-by (Totals n) s {l} {tables} {r} x z q left h = h .told z [] ∙ sym (ran-numbers r z) ∙ q
+  ran-by (Stock party iaks) s {l} {tables} {r} x z q left h =
+      h .told z (reached (fileIn bs) commandLimit .ledger)
+      ∙ ap (boardsLeft party iaks (fileIn bs)) (left .state)
+      ∙ sym (asked-loaded (boardsLeft party iaks) commandLimit bs lent (left .enough) (fileIn bs) (left .stands .holds .loads))
 
-  by-answer : (question : Question) (y : RunAnswer) (parties terms : ℕ) (s tables w : List ℕ) (x : AskAnswer) → runInNumbers y ≡ runAnswer bs (countOf question) lent
-      → Left bs (countOf question) (take stateBytes s) tables w y parties terms → Answers y question bs s x → askInNumbers x ≡ answerOf question bs lent
-  by-answer question (ran.Ran a r i) parties terms s tables w x q left h = ran-by question a r i parties terms s tables w x q left h
-  by-answer question (ran.Refused number place) parties terms s tables w x q left h = h ∙ refused-by question number place q
+-- the whole: answer, state, ledger and outcomes
+abbrev pub AskRan : List ℕ → Question → Lent → List ℕ → List Entry → List ℕ → AskAnswer → Type 0
+AskRan bs question lent s l out x = (askInNumbers x ≡ answerOf question bs lent) × (s ≡ leavesOf question bs lent .state) × (l ≡ leavesOf question bs lent .ledger) × (out ≡ leavesOf question bs lent .outcomes)
 
-  pub ask-ran : (question : Question) (n : ℕ) → n ≡ countOf question → (s out w tables : List ℕ) (r : Answered) (x : AskAnswer) → Ran bs n lent s out w r
-      → Left bs n (take stateBytes s) tables w (r .answer) (r .parties) (r .terms) → Answers (r .answer) question bs s x → AskRan bs question lent s out w (r .places) x
-  ask-ran question n e s out w tables r x run left h =
-      let run′ : Ran bs (countOf question) lent s out w r = subst (λ (m : ℕ). Ran bs m lent s out w r) e run in
+module _ (bs : List ℕ) (question : Question) (s : List ℕ) (l : List Entry) (out s′ : List ℕ) {l′ : List Entry} {out′ tables : List ℕ} {r : Finished} where
+  asked-of : Runs bs (countOf question) (length l) s l out s′ l′ out′ tables r → length s′ ≡ length s → (x : AskAnswer) → Answers r question bs s′ x → AskRan bs question (lentWith s l out) s′ l′ out′ x
+  asked-of w ls x h =
+      let lent = lentWith s l out in
+      let run = run-left bs (countOf question) s l out s′ w in
       let left′ : runLeaves bs (countOf question) lent ≡ leavesOf question bs lent = sym (left-as-run question bs lent) in
-      record {
-        answer = by-answer question (r .answer) (r .parties) (r .terms) s tables w x (run′ .answer) (subst (λ (m : ℕ). Left bs m (take stateBytes s) tables w (r .answer) (r .parties) (r .terms)) e left) h;
-        state = run′ .state ∙ ap (λ (y : Lent). y .state) left′;
-        outcomes = run′ .outcomes ∙ ap (λ (y : Lent). y .outcomes) left′;
-        words = run′ .words;
-        places = run′ .places;
-      }
+      (go (decLt 0 (r .begun .number)) (run .answer), run .state ∙ ap (λ (y : Lent). y .state) left′, run .ledger ∙ ap (λ (y : Lent). y .ledger) left′, run .outcomes ∙ ap (λ (y : Lent). y .outcomes) left′)
+    where
+      go : Dec (0 < r .begun .number) → ranIn r ≡ runAnswer bs (countOf question) (lentWith s l out) → askInNumbers x ≡ answerOf question bs (lentWith s l out)
+      go (no g) q = let z : r .begun .number ≡ 0 = omega (arith, g) in ran-by bs (lentWith s l out) question s′ x z q (run-stood bs (countOf question) s l out s′ w z ls) h
+      go (yes g) q = let z : r .begun .number ≡ 0 → ⊥ = λ e. omega (arith, g, e) in h .refused z ∙ refused-by bs (lentWith s l out) question (r .begun .number) (r .begun .place) (sym (refused-numbers r z) ∙ q)
+
+  pub ask-ran : {n : ℕ} → n ≡ countOf question → Runs bs n (length l) s l out s′ l′ out′ tables r → length s′ ≡ length s → (x : AskAnswer) → Answers r question bs s′ x → AskRan bs question (lentWith s l out) s′ l′ out′ x
+  ask-ran e w ls x h = asked-of (subst (λ (m : ℕ). Runs bs m (length l) s l out s′ l′ out′ tables r) e w) ls x h

@@ -1,7 +1,7 @@
-// Run, then ask: the calls that are lent Run's buffers alone, below the slice of entries.
+// What is asked after a run: the calls that are lent Run's buffers alone, by what the run left.
 use rules::AskAnswer;
 use rules::Question;
-use rules::RunAnswer;
+use runs::Finished;
 ghost use mathlib.Core.Path.{_≡_};
 ghost use mathlib.Core.List.{List};
 ghost use Rattle.rules.specs.declared.Entry.{Entry};
@@ -9,16 +9,10 @@ ghost use Rattle.rules.specs.Questions.{askInNumbers, countOf};
 ghost use Rattle.state.specs.View.{view};
 ghost use Rattle.state.proofs.Exact.{stateOf};
 ghost use Rattle.loaded.specs.Loaded.{fileIn};
-ghost use Rattle.asking.specs.Asks.{Standing, toldOf, Askable, Answers, Asks};
-
-// The answer, and how many places of the ledger are to be written: 0 or 1,024.
-pub struct Asked {
-    pub places: usize,
-    pub answer: AskAnswer,
-}
+ghost use Rattle.asking.specs.Asks.{Standing, toldOf, Askable, Answers};
 
 // How many commands are run before a question is asked.
-fn count_of(question: Question) -> usize
+pub fn count_of(question: Question) -> usize
     ensures { λ n. ⌜ n ≡ countOf question ⌝ }
 {
     match question {
@@ -55,50 +49,23 @@ fn told(
 }
 
 // What is told where there was a run, else the run's refusal.
-fn answer(
-    ran: RunAnswer,
-    question: Question,
-    file: &[u8],
-    state: &[u8],
-    parties: usize,
-    terms: usize,
-) -> AskAnswer
-    requires { ⌜ Askable ran (now file) (now state) parties terms ⌝ }
-    ensures { λ x. ⌜ Answers ran question (now (file .entry)) (now (state .entry)) x ⌝ }
+pub fn answer(done: Finished, question: Question, file: &[u8], state: &[u8]) -> AskAnswer
+    requires { ⌜ Askable done (now file) (now state) ⌝ }
+    ensures { λ x. ⌜ Answers done question (now (file .entry)) (now (state .entry)) x ⌝ }
 {
-    match ran {
-        RunAnswer::Ran(accepted, refused, issued) => told(
-            question,
-            accepted,
-            refused,
-            issued,
-            file,
-            &state[..rules::STATE_BYTES],
-            parties,
-            terms,
-        ),
-        RunAnswer::Refused(number, place) => AskAnswer::Refused(number, place),
+    let b = done.begun;
+    let p = done.progress;
+    if b.number != 0 {
+        return AskAnswer::Refused(b.number, b.place as u32);
     }
-}
-
-// Runs a file as `engine::run` does, and answers a question.
-pub fn ask(
-    file: &[u8],
-    question: Question,
-    room: usize,
-    state: &mut [u8],
-    outcomes: &mut [u8],
-    words: &mut [u16; entries::WORDS],
-    tables: &mut [u16; tables::WORDS],
-) -> Asked
-    ensures { λ r. ⌜ Asks (now (file .entry)) question room (now (state .entry)) (now (outcomes .entry)) (now (state .exit)) (now (outcomes .exit)) (now (words .exit)) (r .places) (r .answer) ⌝ }
-{
-    let n = count_of(question);
-    let done = engine::run(file, n, room, state, outcomes, words, tables);
-    let ran = done.answer;
-    let told = answer(ran, question, file, state, done.parties, done.terms);
-    Asked {
-        places: done.places,
-        answer: told,
-    }
+    told(
+        question,
+        p.accepted as u32,
+        p.refused as u32,
+        p.issued as u32,
+        file,
+        &state[..rules::STATE_BYTES],
+        b.parties,
+        b.terms,
+    )
 }

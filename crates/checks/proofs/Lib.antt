@@ -1,3 +1,4 @@
 pub mod Alike
 pub mod Records
 pub mod Tests
+pub mod Plain

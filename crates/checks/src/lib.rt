@@ -2,16 +2,19 @@
 use rules::Attributes;
 use rules::Field;
 ghost use mathlib.Core.Path.{_≡_};
-ghost use Prim.Native.Nat.{_+_, _*_, _<_, _≤_};
+ghost use mathlib.Core.Bool.{true};
+ghost use Prim.Native.Nat.{ℕ, _+_, _*_, _<_, _≤_};
 ghost use lib.Dec.{ltb};
 ghost use lib.ListN.{length, getD};
 ghost use Rattle.rules.specs.declared.Field.the-variants.{TermOf, SignedAttest, IakPairField};
 ghost use Rattle.rules.specs.Limits.{rowWidth};
-ghost use Rattle.rules.specs.Record.{width as widthOf, word};
+ghost use Rattle.rules.specs.Record.{bodyLength, width as widthOf, word};
 ghost use Rattle.rules.specs.Load.{refuseUnless, emptyPair};
+ghost use Rattle.records.specs.Codes.{FieldRows};
 ghost use Rattle.state.specs.View.{view};
 ghost use Rattle.learning.specs.There.{kindThere};
 ghost use Rattle.checks.specs.There.{headFault, roleThere, TermsThere, fieldFaultThere};
+ghost use Rattle.checks.specs.Plain.{Plain};
 
 // 3 to 6 at a record, by its kind's section and the place where it ends: 0, or the refusal.
 pub fn head_fault(
@@ -197,4 +200,180 @@ pub fn command_fault(
         Field::SignedAttest => field_fault(file, state, body, field, i, parties, terms),
         Field::IakPairField => field_fault(file, state, body, field, i, parties, terms),
     }
+}
+
+// 7, 8 at the term that a command from 30 to 37 makes, by its field: 0, or the refusal; 7 where it is no such field.
+fn made_fault(file: &[u8], state: &[u8], body: &[u8], field: Field, terms: usize) -> u8
+    requires { ⌜ TermsThere (now file) (now state) terms × (2 < length (now body)) ⌝ }
+    ensures { λ r. ⌜ (r ≡ 0 → (parties : ℕ) → fieldFaultThere (now (file .entry)) (view (now (state .entry)) .place) parties terms field 1 (now (body .entry)) ≡ 0) ⌝ }
+{
+    if let Field::TermOf(kind) = field {
+        return kind_fault(file, state, body, 1, kind, terms);
+    }
+    if let Field::SignedAttest = field {
+        return attest_fault(file, state, body, 1, terms);
+    }
+    7
+}
+
+// Whether the command from 30 to 37 that stands from a place to another is whole and its fields are right.
+fn made_right(
+    table: &[u64; rules::KIND_COUNT],
+    file: &[u8],
+    state: &[u8],
+    at: usize,
+    end: usize,
+    kind: u8,
+    parties: usize,
+    terms: usize,
+) -> bool
+    requires { ⌜ FieldRows (now table) × TermsThere (now file) (now state) terms × (at < length (now file)) × (kind ≡ getD (now file) at 0) × (0x30 ≤ kind) × (kind ≤ 0x37) × (end ≡ at + 4) ⌝ }
+    ensures { λ r. ⌜ (r ≡ true → Plain (now (file .entry)) (view (now (state .entry)) .place) parties terms at end) ⌝ }
+{
+    let start = at + 1;
+    if file.len() < end {
+        return false;
+    }
+    let body = &file[start..end];
+    if byte_fault(body, 0, parties) != 0 {
+        return false;
+    }
+    let fields = records::fields_in(table, kind);
+    let field = records::low_field(fields / 256);
+    if made_fault(file, state, body, field, terms) != 0 {
+        return false;
+    }
+    true
+}
+
+// The same of a 3C.
+fn sent_right(
+    file: &[u8],
+    state: &[u8],
+    at: usize,
+    end: usize,
+    parties: usize,
+    terms: usize,
+) -> bool
+    requires { ⌜ (at < length (now file)) × (getD (now file) at 0 ≡ 0x3C) × (end ≡ at + 5) ⌝ }
+    ensures { λ r. ⌜ (r ≡ true → Plain (now (file .entry)) (view (now (state .entry)) .place) parties terms at end) ⌝ }
+{
+    let start = at + 1;
+    if file.len() < end {
+        return false;
+    }
+    let body = &file[start..end];
+    if byte_fault(body, 0, parties) != 0 {
+        return false;
+    }
+    if byte_fault(body, 1, parties) != 0 {
+        return false;
+    }
+    if declared_fault(body, 2, terms) != 0 {
+        return false;
+    }
+    true
+}
+
+// The same of a command from 40 to 42.
+fn issue_right(
+    file: &[u8],
+    state: &[u8],
+    at: usize,
+    end: usize,
+    kind: u8,
+    parties: usize,
+    terms: usize,
+) -> bool
+    requires { ⌜ TermsThere (now file) (now state) terms × (at < length (now file)) × (kind ≡ getD (now file) at 0) × (0x40 ≤ kind) × (kind ≤ 0x42) × (end ≡ at + 6) ⌝ }
+    ensures { λ r. ⌜ (r ≡ true → Plain (now (file .entry)) (view (now (state .entry)) .place) parties terms at end) ⌝ }
+{
+    let start = at + 1;
+    if file.len() < end {
+        return false;
+    }
+    let body = &file[start..end];
+    if byte_fault(body, 0, parties) != 0 {
+        return false;
+    }
+    if declared_fault(body, 1, terms) != 0 {
+        return false;
+    }
+    if kind_fault(file, state, body, 3, 0x19, terms) != 0 {
+        return false;
+    }
+    true
+}
+
+// The same of a 43.
+fn pairs_right(
+    file: &[u8],
+    state: &[u8],
+    at: usize,
+    end: usize,
+    parties: usize,
+    terms: usize,
+) -> bool
+    requires { ⌜ TermsThere (now file) (now state) terms × (at < length (now file)) × (getD (now file) at 0 ≡ 0x43) × (end ≡ at + 19) ⌝ }
+    ensures { λ r. ⌜ (r ≡ true → Plain (now (file .entry)) (view (now (state .entry)) .place) parties terms at end) ⌝ }
+{
+    let start = at + 1;
+    if file.len() < end {
+        return false;
+    }
+    let body = &file[start..end];
+    if byte_fault(body, 0, parties) != 0 {
+        return false;
+    }
+    if byte_fault(body, 1, parties) != 0 {
+        return false;
+    }
+    if pair_fault(file, state, body, 2, terms) != 0 {
+        return false;
+    }
+    if pair_fault(file, state, body, 6, terms) != 0 {
+        return false;
+    }
+    if pair_fault(file, state, body, 10, terms) != 0 {
+        return false;
+    }
+    if pair_fault(file, state, body, 14, terms) != 0 {
+        return false;
+    }
+    true
+}
+
+// Whether the record that stands from a place to another is a whole command of the most frequent kinds and its fields are right; false says nothing.
+pub fn is_plain(
+    table: &[u64; rules::KIND_COUNT],
+    file: &[u8],
+    state: &[u8],
+    at: usize,
+    end: usize,
+    parties: usize,
+    terms: usize,
+) -> bool
+    requires { ⌜ FieldRows (now table) × TermsThere (now file) (now state) terms × (at < length (now file)) × (end ≡ at + 1 + bodyLength (getD (now file) at 0)) ⌝ }
+    ensures { λ r. ⌜ (r ≡ true → Plain (now (file .entry)) (view (now (state .entry)) .place) parties terms at end) ⌝ }
+{
+    let kind = file[at];
+    if kind < 0x30 {
+        return false;
+    }
+    if kind <= 0x37 {
+        return made_right(table, file, state, at, end, kind, parties, terms);
+    }
+    if kind == 0x3C {
+        return sent_right(file, state, at, end, parties, terms);
+    }
+    if kind < 0x40 {
+        return false;
+    }
+    if kind <= 0x42 {
+        return issue_right(file, state, at, end, kind, parties, terms);
+    }
+    if kind == 0x43 {
+        return pairs_right(file, state, at, end, parties, terms);
+    }
+    false
 }

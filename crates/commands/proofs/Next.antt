@@ -1,15 +1,15 @@
--- What stands after the command at a place: where it is refused, and where one that enters nothing in the ledger, or a desk's, is accepted.
+-- What a command at a place does: where it is refused, and where one that enters nothing in the ledger, or a desk's, is accepted.
 --     finds-kept                                                           the tables find what they found, where only the places of entries change
---     open-requested, parents-entered, ledgered, some-ledger, accepts                    what a desk command asks of what stands
---     zero-decided                                                         0 is the outcome of an accepted command
---     refused-left, device-left, desk-left, device-stands, desk-stands     what is left, and that it stands
+--     open-requested, parents-entered, ledgered, some-ledger, accepts      what a desk command asks of what stands
+--     refused-does, device-does, device-done, desk-does                    what is left, and that it stands
 -- Assumes nothing.
-use mathlib.Core.Path.{_≡_, sym, ap, subst, subst⁻¹, _∙_}
-use mathlib.Core.List.{List}
-use Prim.Native.Nat.{ℕ, _≤_}
+use mathlib.Core.Path.{_≡_, refl, sym, ap, subst, subst⁻¹, _∙_}
+use mathlib.Core.List.{List, _++_, append-nil}
+use Prim.Native.Nat.{ℕ, zero, suc, _+_, _≤_}
 use native.Mathlib.Omega.{arith}
 use lib.Dec.{eqb}
 use lib.ListN.{length}
+use Rattle.rules.specs.declared.Entry.{Entry}
 use Rattle.rules.specs.State.{State}
 use Rattle.rules.specs.Desk.{parentCertificateOf}
 use Rattle.rules.specs.Run.{outcome, effectOf, after}
@@ -19,8 +19,9 @@ use Rattle.theorems.proofs.Requests.{parent-listed}
 use Rattle.state.specs.View.{view}
 use Rattle.state.proofs.Exact.{stateOf}
 use Rattle.tables.specs.Regions.{tablesIn}
-use Rattle.entries.specs.Words.{entriesIn}
-use Rattle.entries.proofs.Words.{entries-length}
+use Rattle.gained.specs.declared.Gained.{Gained}
+use Rattle.gained.specs.Took.{took, Whole}
+use Rattle.gained.proofs.Took.{took-none, took-length}
 use Rattle.index.specs.Indexed.{passes}
 use Rattle.lookup.specs.There.{commandThere}
 use Rattle.lookup.specs.Commands.{CommandAt}
@@ -31,7 +32,7 @@ use Rattle.loaded.proofs.Ledger.{column-some}
 use Rattle.requests.specs.Formed.{OpenRequested}
 use Rattle.desk.specs.Dispatch.{SomeLedger}
 use Rattle.issuance.specs.Issues.{ParentsEntered}
-use Rattle.commands.specs.Standing.{stateIn, Kept, Stands}
+use Rattle.commands.specs.Standing.{Kept, Stands, Does}
 use Rattle.commands.proofs.Keeping.{kept-after}
 use Rattle.loaded.proofs.Room.{ledger-below}
 
@@ -43,33 +44,30 @@ finds-kept {bs} d k = record {
   words = k .words ∙ d .words;
 }
 
-module _ {bs s tables words : List ℕ} {n : ℕ} (st : Stands bs s tables words n) where
+module _ {bs s tables : List ℕ} {n : ℕ} {ledger : List Entry} (st : Stands bs s tables n ledger) where
   pub open-requested : OpenRequested bs s
   open-requested c e = st .kept .requested c e
 
   -- a desk's certificate that somebody knows is listed
   pub parents-entered : ParentsEntered bs s tables
   parents-entered p q w =
-      column-some (parentCertificateOf (fileIn bs) q) (st .enters) (parent-listed (fileIn bs) (checked-here (st .holds)) (stateIn s words n) (st .kept .sound) p q w)
+      column-some (parentCertificateOf (fileIn bs) q) (st .enters) (parent-listed (fileIn bs) (checked-here (st .holds)) (stateOf (view s) ledger) (st .kept .sound) p q w)
 
-  pub ledgered : Ledgered bs s tables words n (entriesIn words n)
+  pub ledgered : Ledgered bs s tables n ledger
   ledgered = record { enters = st .enters; boards = st .boards; sound = st .kept .sound }
 
-  pub some-ledger : SomeLedger bs s tables words
-  some-ledger = (n, entriesIn words n, ledgered)
+  pub some-ledger : SomeLedger bs s tables
+  some-ledger = (n, ledger, ledgered)
 
   module _ {at : ℕ} (w : CommandAt (Wellformed (fileIn bs)) bs at) where
     abbrev Before : State
-    Before = stateIn s words n
+    Before = stateOf (view s) ledger
 
     abbrev After : State
     After = after (fileIn bs) Before (commandThere bs at)
 
-    pub refused-left : {x : ℕ} → x ≡ outcome (fileIn bs) Before (commandThere bs at) → (x ≡ 0 → ⊥) → Before ≡ After
-    refused-left e r = sym (after-refused (fileIn bs) Before (commandThere bs at) (λ z. r (e ∙ z)))
-
     -- what stands after the command
-    next : {s′ tables′ words′ : List ℕ} {r : ℕ} → length s′ ≡ length s → view s′ .place ≡ view s .place → Finds bs tables′ → Enters tables′ words′ r (entriesIn words′ r) → Boarded (fileIn bs) (tablesIn tables′ .boards) (entriesIn words′ r) → stateIn s′ words′ r ≡ After → Stands bs s′ tables′ words′ r
+    next : {s′ tables′ : List ℕ} {m : ℕ} {l : List Entry} → length s′ ≡ length s → view s′ .place ≡ view s .place → Finds bs tables′ → Enters tables′ m l → Boarded (fileIn bs) (tablesIn tables′ .boards) l → stateOf (view s′) l ≡ After → Stands bs s′ tables′ m l
     next l p d e b left = record {
       holds = holds-kept (st .holds) l p;
       finds = d;
@@ -78,38 +76,60 @@ module _ {bs s tables words : List ℕ} {n : ℕ} (st : Stands bs s tables words
       kept = subst⁻¹ (Kept (fileIn bs)) left (kept-after (checked-here (st .holds)) Before (commandThere bs at) (w .known) (st .kept));
     }
 
-    module _ {x : ℕ} (e : x ≡ outcome (fileIn bs) Before (commandThere bs at)) (z : x ≡ 0) where
-      pub zero-decided : 0 ≡ outcome (fileIn bs) Before (commandThere bs at)
-      zero-decided = sym z ∙ e
+    module _ (g : Gained) (z : g .count ≡ 0) where
+      same : ledger ++ took g ≡ ledger
+      same = ap (λ (l : List Entry). ledger ++ l) (took-none g z) ∙ append-nil ledger
 
-      pub accepts : Accepts bs s tables words n (commandThere bs at)
-      accepts = record {
-        ledger = entriesIn words n;
-        enters = st .enters;
-        accepted = sym zero-decided;
-        more = omega (arith, ledger-below (checked-here (st .holds)) (st .kept .sound), entries-length words n);
+      as-many : n + g .count ≡ n
+      as-many = omega (arith, z)
+
+      still : {s′ : List ℕ} → Stands bs s′ tables n ledger → Stands bs s′ tables (n + g .count) (ledger ++ took g)
+      still {s′} v = subst⁻¹ (λ (m : ℕ). Stands bs s′ tables m (ledger ++ took g)) as-many (subst⁻¹ (Stands bs s′ tables n) same v)
+
+      pub refused-does : {x : ℕ} → x ≡ outcome (fileIn bs) Before (commandThere bs at) → (x ≡ 0 → ⊥) → Does bs s n at ledger s tables (record { outcome = x; gained = g })
+      refused-does e r = record {
+        decided = e;
+        left = ap (stateOf (view s)) same ∙ sym (after-refused (fileIn bs) Before (commandThere bs at) (λ y. r (e ∙ y)));
+        stands = still st;
+        places = refl;
       }
 
-      pub accepts-ledgered : Ledgered bs s tables words n (accepts .ledger)
+      pub device-does : {x : ℕ} → x ≡ outcome (fileIn bs) Before (commandThere bs at) → x ≡ 0 → {s′ : List ℕ} → Leaves bs s s′ (commandThere bs at) → length s′ ≡ length s → Does bs s n at ledger s′ tables (record { outcome = 0; gained = g })
+      device-does e y {s′} v l =
+          let done : After ≡ effectOf (fileIn bs) Before (commandThere bs at) = after-accepted (fileIn bs) Before (commandThere bs at) (sym e ∙ y) in
+          let left : stateOf (view s′) ledger ≡ After = v .columns ledger ∙ sym done in
+          record {
+            decided = sym y ∙ e;
+            left = ap (stateOf (view s′)) same ∙ left;
+            stands = still (next l (v .places) (st .finds) (st .enters) (st .boards) left);
+            places = v .places;
+          }
+
+      -- accepted or refused
+      pub device-done : (x : ℕ) {s′ : List ℕ} → x ≡ outcome (fileIn bs) Before (commandThere bs at) → (x ≡ 0 → Leaves bs s s′ (commandThere bs at)) → ((x ≡ 0 → ⊥) → s′ ≡ s) → length s′ ≡ length s → Does bs s n at ledger s′ tables (record { outcome = x; gained = g })
+      device-done zero e left kept l = device-does e refl (left refl) l
+      device-done (suc x) e left kept l = subst⁻¹ (λ (u : List ℕ). Does bs s n at ledger u tables (record { outcome = suc x; gained = g })) (kept (λ z. omega (arith, z))) (refused-does e (λ z. omega (arith, z)))
+
+    module _ {x : ℕ} (e : x ≡ outcome (fileIn bs) Before (commandThere bs at)) (z : x ≡ 0) where
+      pub accepts : Accepts bs s tables n (commandThere bs at)
+      accepts = record {
+        ledger = ledger;
+        enters = st .enters;
+        accepted = sym e ∙ z;
+        more = omega (arith, ledger-below (checked-here (st .holds)) (st .kept .sound), st .enters .count);
+      }
+
+      pub accepts-ledgered : Ledgered bs s tables n (accepts .ledger)
       unfolding accepts
       accepts-ledgered = ledgered
 
-      done : After ≡ effectOf (fileIn bs) Before (commandThere bs at)
-      done = after-accepted (fileIn bs) Before (commandThere bs at) (sym zero-decided)
-
-      module _ {s′ : List ℕ} (v : Leaves bs s s′ (commandThere bs at)) where
-        pub device-left : stateIn s′ words n ≡ After
-        device-left = v .columns (entriesIn words n) ∙ sym done
-
-        pub device-stands : length s′ ≡ length s → Stands bs s′ tables words n
-        device-stands l = next l (v .places) (st .finds) (st .enters) (st .boards) device-left
-
-      module _ {s′ tables′ words′ : List ℕ} {r : ℕ} (v : DeskLeaves bs s tables words n (commandThere bs at) s′ tables′ words′ r) where
-        enters-now : Enters tables′ words′ r (v .ledger (entriesIn words n))
-        enters-now = v .enters (entriesIn words n) (st .enters)
-
-        pub desk-left : stateIn s′ words′ r ≡ After
-        desk-left = ap (stateOf (view s′)) (sym (enters-now .same)) ∙ v .columns (entriesIn words n) (st .enters) ∙ sym done
-
-        pub desk-stands : length s′ ≡ length s → Stands bs s′ tables′ words′ r
-        desk-stands l = next l (v .places) (finds-kept (st .finds) (v .keys)) (subst (Enters tables′ words′ r) (enters-now .same) enters-now) (subst (Boarded (fileIn bs) (tablesIn tables′ .boards)) (enters-now .same) (v .boards (entriesIn words n) ledgered)) desk-left
+      pub desk-does : {s′ tables′ : List ℕ} {g : Gained} → Whole g → DeskLeaves bs s tables n (commandThere bs at) s′ tables′ (took g) → length s′ ≡ length s → Does bs s n at ledger s′ tables′ (record { outcome = 0; gained = g })
+      desk-does {s′} {tables′} {g} whole v l =
+          let on = v .on ledger (record { ledgered = ledgered; accepted = sym e ∙ z }) in
+          let left : stateOf (view s′) (ledger ++ took g) ≡ After = on .columns ∙ sym (after-accepted (fileIn bs) Before (commandThere bs at) (sym e ∙ z)) in
+          record {
+            decided = sym z ∙ e;
+            left = left;
+            stands = next l (v .places) (finds-kept (st .finds) (v .keys)) (subst (λ (m : ℕ). Enters tables′ (n + m) (ledger ++ took g)) (took-length g whole) (on .enters)) (on .boards) left;
+            places = v .places;
+          }

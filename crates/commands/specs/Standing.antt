@@ -1,23 +1,23 @@
--- What stands while a file's commands run: the rules' state in the lent bytes and words, and what every command keeps.
+-- What stands while a file's commands run: the rules' state in the lent bytes, and what every command keeps.
 use mathlib.Core.Path.{_≡_}
 use mathlib.Core.Bool.{false}
-use mathlib.Core.List.{List}
-use Prim.Native.Nat.{ℕ, _≤_}
+use mathlib.Core.List.{List, _++_}
+use Prim.Native.Nat.{ℕ, _+_, _≤_}
 use lib.ListN.{length}
+use Rattle.rules.specs.declared.Entry.{Entry}
 use Rattle.rules.specs.File.{File}
+use Rattle.rules.specs.Run.{outcome, after}
 use Rattle.rules.specs.State.{State, credentialOpen}
 use Rattle.theorems.proofs.Invariant.{Invariant}
 use Rattle.state.specs.View.{view}
 use Rattle.state.proofs.Exact.{stateOf}
 use Rattle.tables.specs.Regions.{tablesIn}
-use Rattle.entries.specs.Words.{entriesIn}
 use Rattle.loaded.specs.Loaded.{fileIn, Holds, Finds}
 use Rattle.loaded.specs.Entries.{Enters, Boarded}
+use Rattle.lookup.specs.There.{commandThere}
 use Rattle.requests.specs.Formed.{Requested}
-
--- the state that bytes and the words of n entries hold
-abbrev pub stateIn : List ℕ → List ℕ → ℕ → State
-stateIn s words n = stateOf (view s) (entriesIn words n)
+use Rattle.gained.specs.Took.{took, Whole}
+use Rattle.commands.specs.declared.Executed.{Executed}
 
 -- nothing is said of a term
 pub record Blank (x : State) (t : ℕ) : Type 0 where
@@ -33,10 +33,24 @@ pub record Kept (f : File) (x : State) : Type 0 where
   pub requested : (c : ℕ) → x .mark c ≡ credentialOpen → Requested f (x .request c)
   pub blank : (t : ℕ) → length (f .terms) ≤ t → Blank x t
 
--- bytes, tables and words between commands
-pub record Stands (bs s tables words : List ℕ) (n : ℕ) : Type 0 where
+-- bytes and tables between commands, of a ledger of n entries
+pub record Stands (bs s tables : List ℕ) (n : ℕ) (ledger : List Entry) : Type 0 where
   pub holds : Holds bs s
   pub finds : Finds bs tables
-  pub enters : Enters tables words n (entriesIn words n)
-  pub boards : Boarded (fileIn bs) (tablesIn tables .boards) (entriesIn words n)
-  pub kept : Kept (fileIn bs) (stateIn s words n)
+  pub enters : Enters tables n ledger
+  pub boards : Boarded (fileIn bs) (tablesIn tables .boards) ledger
+  pub kept : Kept (fileIn bs) (stateOf (view s) ledger)
+
+-- some ledger
+abbrev pub SomeStands : List ℕ → List ℕ → List ℕ → ℕ → Type 0
+SomeStands bs s tables n = (ledger : List Entry) × Stands bs s tables n ledger
+
+-- what a command does: its outcome, what is left, with the entries that the ledger gains, and that it stands
+pub record Does (bs s : List ℕ) (n at : ℕ) (ledger : List Entry) (s′ tables′ : List ℕ) (r : Executed) : Type 0 where
+  pub decided : r .outcome ≡ outcome (fileIn bs) (stateOf (view s) ledger) (commandThere bs at)
+  pub left : stateOf (view s′) (ledger ++ took (r .gained)) ≡ after (fileIn bs) (stateOf (view s) ledger) (commandThere bs at)
+  pub stands : Stands bs s′ tables′ (n + r .gained .count) (ledger ++ took (r .gained))
+  pub places : view s′ .place ≡ view s .place
+
+abbrev pub Executes : List ℕ → List ℕ → List ℕ → ℕ → ℕ → List ℕ → List ℕ → Executed → Type 0
+Executes bs s tables n at s′ tables′ r = Whole (r .gained) × ((ledger : List Entry) → Stands bs s tables n ledger → Does bs s n at ledger s′ tables′ r)

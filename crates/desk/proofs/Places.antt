@@ -4,9 +4,9 @@
 --     issue-read                3F by numbers that were read
 --     decided-as, issues-as, challenge-as     what it decides and leaves, where its record reads as that command
 -- Assumes nothing.
-use mathlib.Core.Path.{_≡_, refl, sym, subst, subst⁻¹, _∙_}
+use mathlib.Core.Path.{_≡_, refl, sym, ap, subst, subst⁻¹, _∙_}
 use mathlib.Core.Bool.{Bool, true, false}
-use mathlib.Core.List.{List}
+use mathlib.Core.List.{List, [], _++_, append-nil}
 use Prim.Native.Nat.{ℕ, _+_, _*_, _<_, _≤_}
 use native.Mathlib.Omega.{arith}
 use lib.Dec.{eqb}
@@ -19,7 +19,9 @@ use Rattle.rules.specs.Families.{requestFamilies, familyOf}
 use Rattle.rules.specs.File.{Command, issueIak, issue}
 use Rattle.rules.specs.Run.{outcome}
 use Rattle.theorems.proofs.Loading.{Wellformed}
+use Rattle.rules.specs.declared.Entry.{Entry}
 use Rattle.state.specs.View.{view}
+use Rattle.tables.specs.Regions.{tablesIn}
 use Rattle.state.proofs.Exact.{stateOf}
 use Rattle.learning.specs.There.{kindThere}
 use Rattle.lookup.specs.There.{commandThere}
@@ -27,15 +29,10 @@ use Rattle.lookup.specs.Commands.{CommandAt}
 use Rattle.lookup.proofs.Left.{command-range}
 use Rattle.lookup.proofs.Fields.{command-ends, issue-length, issue-there}
 use Rattle.loaded.specs.Loaded.{fileIn, Leaves}
-use Rattle.loaded.specs.Entries.{Entered, DecidesBy, Accepts, DeskLeaves}
-use Rattle.desk.specs.Dispatch.{SomeLedger}
+use Rattle.loaded.specs.Entries.{Enters, Boarded, DecidesListed, Accepts, DeskLeaves}
 
 pub issue-read : {k : Command} {p q m n c r : ℕ} → k ≡ issueIak p q m n → c ≡ m → r ≡ n → k ≡ issueIak p q c r
 issue-read {p = p} {q = q} e h i = e ∙ (λ x. issueIak p q (sym h x) (sym i x))
-
--- some ledger's entries
-pub some-entered : {bs s tables words : List ℕ} → SomeLedger bs s tables words → Entered tables words
-some-entered k = (k .0, k .1, k .2 .enters)
 
 module _ {bs : List ℕ} {at : ℕ} (w : CommandAt (Wellformed (fileIn bs)) bs at) where
   -- the others are 40 on
@@ -69,20 +66,29 @@ module _ {bs : List ℕ} {at : ℕ} (w : CommandAt (Wellformed (fileIn bs)) bs a
           omega (arith, issue-length (kindThere bs at) (k .0) (k .1), command-ends bs at (kindThere bs at) refl (w .whole))
 
 module _ (bs : List ℕ) (at : ℕ) {c : Command} (e : commandThere bs at ≡ c) where
-  pub decided-as : (s tables words : List ℕ) (x : ℕ) → DecidesBy bs s tables words c x → DecidesBy bs s tables words (commandThere bs at) x
-  decided-as s tables words x d = subst⁻¹ (λ (k : Command). DecidesBy bs s tables words k x) e d
+  pub decided-as : (s tables : List ℕ) (x : ℕ) → DecidesListed bs s tables c x → DecidesListed bs s tables (commandThere bs at) x
+  decided-as s tables x d = subst⁻¹ (λ (k : Command). DecidesListed bs s tables k x) e d
 
-  pub issues-as : {s tables words : List ℕ} {n : ℕ} {s′ tables′ words′ : List ℕ} {r : ℕ} → DeskLeaves bs s tables words n c s′ tables′ words′ r → DeskLeaves bs s tables words n (commandThere bs at) s′ tables′ words′ r
-  issues-as {s} {tables} {words} {n} {s′} {tables′} {words′} {r} d = subst⁻¹ (λ (k : Command). DeskLeaves bs s tables words n k s′ tables′ words′ r) e d
+  pub issues-as : {s tables : List ℕ} {n : ℕ} {s′ tables′ : List ℕ} {gs hs : List Entry} → gs ≡ hs → DeskLeaves bs s tables n c s′ tables′ hs → DeskLeaves bs s tables n (commandThere bs at) s′ tables′ gs
+  issues-as {s} {tables} {n} {s′} {tables′} {gs} q d = subst⁻¹ (λ (k : Command). DeskLeaves bs s tables n k s′ tables′ gs) e (subst⁻¹ (DeskLeaves bs s tables n c s′ tables′) q d)
 
   -- 3E enters nothing
-  pub challenge-as : {s tables words : List ℕ} {n : ℕ} {s′ : List ℕ} → Leaves bs s s′ c → DeskLeaves bs s tables words n (commandThere bs at) s′ tables words n
-  challenge-as {s} {tables} {words} {n} {s′} d =
-      subst⁻¹ (λ (k : Command). DeskLeaves bs s tables words n k s′ tables words n) e
-      (record { ledger = λ old. old; columns = λ old h. d .columns old; enters = λ old h. h; boards = λ old k. k .boards; places = d .places; keys = record { words = refl; signer = refl; half = refl } })
+  pub challenge-as : {s tables : List ℕ} {n : ℕ} {s′ : List ℕ} {gs : List Entry} → gs ≡ [] → Leaves bs s s′ c → DeskLeaves bs s tables n (commandThere bs at) s′ tables gs
+  challenge-as {s} {tables} {n} {s′} q d = issues-as q (record {
+    on = λ old o. record {
+      columns = ap (stateOf (view s′)) (append-nil old) ∙ d .columns old;
+      enters = subst⁻¹ (λ (m : ℕ). Enters tables m (old ++ [])) (none n) (subst⁻¹ (Enters tables n) (append-nil old) (o .ledgered .enters));
+      boards = subst⁻¹ (Boarded (fileIn bs) (tablesIn tables .boards)) (append-nil old) (o .ledgered .boards);
+    };
+    places = d .places;
+    keys = record { words = refl; signer = refl; half = refl };
+  })
+    where
+      none : (k : ℕ) → k + 0 ≡ k
+      none k = omega arith
 
-  pub accepts-as : {s tables words : List ℕ} {n : ℕ} → Accepts bs s tables words n (commandThere bs at) → Accepts bs s tables words n c
-  accepts-as {s} {tables} {words} {n} a = subst (λ (k : Command). Accepts bs s tables words n k) e a
+  pub accepts-as : {s tables : List ℕ} {n : ℕ} → Accepts bs s tables n (commandThere bs at) → Accepts bs s tables n c
+  accepts-as {s} {tables} {n} a = subst (λ (k : Command). Accepts bs s tables n k) e a
 
-  pub accepted-as : {s tables words : List ℕ} {n : ℕ} (a : Accepts bs s tables words n (commandThere bs at)) → outcome (fileIn bs) (stateOf (view s) (a .ledger)) c ≡ 0
+  pub accepted-as : {s tables : List ℕ} {n : ℕ} (a : Accepts bs s tables n (commandThere bs at)) → outcome (fileIn bs) (stateOf (view s) (a .ledger)) c ≡ 0
   accepted-as {s} a = subst (λ (k : Command). outcome (fileIn bs) (stateOf (view s) (a .ledger)) k ≡ 0) e (a .accepted)

@@ -14,17 +14,17 @@ use Rattle.loaded.specs.Entries.{Ledgered, Accepts}
 use Rattle.requests.specs.Formed.{OpenRequested}
 use Rattle.issuance.specs.Issues.{ParentsEntered}
 
--- the words and the tables hold some ledger
-abbrev pub SomeLedger : List ℕ → List ℕ → List ℕ → List ℕ → Type 0
-SomeLedger bs s tables words = (n : ℕ) × (ledger : List Entry) × Ledgered bs s tables words n ledger
+-- the tables hold some ledger
+abbrev pub SomeLedger : List ℕ → List ℕ → List ℕ → Type 0
+SomeLedger bs s tables = (n : ℕ) × (ledger : List Entry) × Ledgered bs s tables n ledger
 
 -- what an accepted desk command is done by
-pub record DeskEffectReady (bs s tables words : List ℕ) (n at : ℕ) : Type 0 where
+pub record DeskEffectReady (bs s tables : List ℕ) (n at : ℕ) : Type 0 where
   pub holds : Holds bs s
   pub keys : length tables ≡ tableWords
   pub command : CommandAt (Wellformed (fileIn bs)) bs at
   pub isDesk : 0x3D < kindThere bs at
   pub opened : OpenRequested bs s
   pub parents : ParentsEntered bs s tables
-  pub accepts : Accepts bs s tables words n (commandThere bs at)
-  pub ledgered : Ledgered bs s tables words n (accepts .ledger)
+  pub accepts : Accepts bs s tables n (commandThere bs at)
+  pub ledgered : Ledgered bs s tables n (accepts .ledger)

@@ -463,24 +463,6 @@ fn decide_issued(file: &[u8], state: &[u8], at: usize) -> u8
     decide_self_issue(file, state, party, r)
 }
 
-// What the device command at a place decides.
-pub fn decide(file: &[u8], state: &[u8], tables: &[u16; tables::WORDS], at: usize) -> u8
-    requires { ⌜ Holds (now file) (now state) × Finds (now file) (now tables) × CommandAt (Wellformed (fileIn (now file))) (now file) at × (kindThere (now file) at < 0x3E) ⌝ }
-    ensures { λ x. ⌜ Decides (now (file .entry)) (now (state .entry)) (commandThere (now (file .entry)) at) x ⌝ }
-{
-    let kind = file[at];
-    if kind < 0x38 {
-        return decide_made(file, state, tables, at, kind);
-    }
-    if kind < 0x3C {
-        return decide_checked(file, state, tables, at, kind);
-    }
-    if kind == 0x3C {
-        return decide_sent(file, state, at);
-    }
-    decide_issued(file, state, at)
-}
-
 // What 30 to 37 leave, by the record: the party learns what it made.
 fn effect_made(file: &[u8], state: &mut [u8], at: usize, kind: u8)
     requires { ⌜ Holds (now file) (now state) × CommandAt (Wellformed (fileIn (now file))) (now file) at × (kindThere (now file) at ≡ kind) × (0x30 ≤ kind) × (kind ≤ 0x37) ⌝ }
@@ -515,22 +497,37 @@ fn effect_issued(file: &[u8], state: &mut [u8], at: usize)
     loaded::learn(file, state, party, r);
 }
 
-// What the device command at a place leaves, where it is accepted; checks leave nothing.
-pub fn effect(file: &[u8], state: &mut [u8], at: usize)
-    requires { ⌜ Holds (now file) (now state) × CommandAt (Wellformed (fileIn (now file))) (now file) at × (kindThere (now file) at < 0x3E) ⌝ }
-    ensures { λ _. ⌜ Leaves (now (file .entry)) (now (state .entry)) (now (state .exit)) (commandThere (now (file .entry)) at) ⌝ }
+// Executes the device command at a place: what it decides, and what it leaves where it is accepted. Checks leave nothing.
+pub fn execute(file: &[u8], state: &mut [u8], tables: &[u16; tables::WORDS], at: usize) -> u8
+    requires { ⌜ Holds (now file) (now state) × Finds (now file) (now tables) × CommandAt (Wellformed (fileIn (now file))) (now file) at × (kindThere (now file) at < 0x3E) ⌝ }
+    ensures decided { λ x. ⌜ Decides (now (file .entry)) (now (state .entry)) (commandThere (now (file .entry)) at) x ⌝ }
+    ensures left { λ x. ⌜ (x ≡ 0 → Leaves (now (file .entry)) (now (state .entry)) (now (state .exit)) (commandThere (now (file .entry)) at)) ⌝ }
+    ensures kept { λ x. ⌜ ((x ≡ 0 → ⊥) → now (state .exit) ≡ now (state .entry)) ⌝ }
 {
     let kind = file[at];
     if kind < 0x38 {
+        let made = decide_made(file, state, tables, at, kind);
+        if made != 0 {
+            return made;
+        }
         effect_made(file, state, at, kind);
-        return;
+        return 0;
     }
     if kind < 0x3C {
-        return;
+        return decide_checked(file, state, tables, at, kind);
     }
     if kind == 0x3C {
+        let sent = decide_sent(file, state, at);
+        if sent != 0 {
+            return sent;
+        }
         effect_sent(file, state, at);
-        return;
+        return 0;
+    }
+    let issued = decide_issued(file, state, at);
+    if issued != 0 {
+        return issued;
     }
     effect_issued(file, state, at);
+    0
 }

@@ -13,8 +13,7 @@ use Rattle.rules.specs.State.{start}
 use Rattle.rules.specs.Run.{run, outcomes, firstCommands, reached, outcomesOf}
 use Rattle.theorems.proofs.Laws.{totals}
 use Rattle.engine.specs.All.{AllCommands}
-use Rattle.engine.proofs.Ended.{few-outcomes}
-use Rattle.engine.proofs.Answers.{loaded-short}
+use Rattle.engine.proofs.Few.{few-outcomes, loaded-short}
 
 module _ (bytes : List ℕ) (f : File) (loads : load bytes ≡ loaded f) where
   few : length (f .commands) ≤ commandLimit

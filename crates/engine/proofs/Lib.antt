@@ -1,6 +1,4 @@
-pub mod Started
-pub mod Ended
-pub mod Written
-pub mod Answers
-pub mod Refused
+pub mod Begins
+pub mod Few
 pub mod All
+pub mod Refused

@@ -30,6 +30,7 @@ indexed-none bs place links keys tables el ek et =
       halves = λ t l. absurd (omega arith);
       unpaired = λ t _. tables-none tables et t .0;
       unlisted = λ t. tables-none tables et t .1;
+      shallow = λ t. tables-none tables et t .2;
       unlinked = unlinked-none tables et;
     }
 
@@ -46,6 +47,7 @@ module _ {bs : List ℕ} {place place′ : ℕ → ℕ} {n : ℕ} (h : (t : ℕ)
     halves = λ t l. found-same (λ u m. rw (h t l, h u m) refl) (i .halves t l);
     unpaired = i .unpaired;
     unlisted = i .unlisted;
+    shallow = i .shallow;
     unlinked = i .unlinked;
   }
 

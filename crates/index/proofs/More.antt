@@ -187,5 +187,6 @@ module _ {bs : List ℕ} (bytes : Bytes bs) {place : ℕ → ℕ} {links keys ta
           halves = rw eh (h .halves);
           unpaired = rw eh (h .unpaired);
           unlisted = λ t. ap (λ (v : Tables). v .entry t) et ∙ i .unlisted t;
+          shallow = λ t. ap (λ (v : Tables). v .depth t) et ∙ i .shallow t;
           unlinked = subst⁻¹ Unlinked (ap (λ (v : Tables). v .boards) et) (i .unlinked);
         })

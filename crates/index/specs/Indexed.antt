@@ -52,6 +52,7 @@ pub record Indexed (bs : List ℕ) (place : ℕ → ℕ) (links keys tables : Li
   pub halves : Halves bs place (tablesIn tables .half) n
   pub unpaired : (t : ℕ) → n ≤ t → tablesIn tables .half t ≡ 0
   pub unlisted : (t : ℕ) → tablesIn tables .entry t ≡ 0
+  pub shallow : (t : ℕ) → tablesIn tables .depth t ≡ 0
   pub unlinked : Unlinked (tablesIn tables .boards)
 
 -- what the way of a key found: a term of the kind, else one of another kind, and where a new term enters

@@ -1,31 +1,27 @@
 -- The ledger with an entry more.
 --     entry-appended              the places of a ledger with an entry more
---     appended                    what writing the entry, its place and its EK leaves
+--     depth-appended              and its depths
+--     appended                    what writing its place, its depth and its EK leaves
 --     linked-known, linked-new, enters-linked, keys-linked  what linking it leaves
 -- Assumes nothing.
 use mathlib.Core.Path.{_≡_, refl, sym, ap, subst⁻¹, _∙_}
 use mathlib.Core.Bool.{Bool, true, false, cond, _||_, false≢true}
 use mathlib.Core.List.{List, [], _∷_, _++_}
-use Prim.Native.Nat.{ℕ, suc, _+_, _<_}
+use Prim.Native.Nat.{ℕ, suc, _+_}
 use native.Mathlib.Omega.{arith}
 use lib.Dec.{eqb}
-use lib.ListN.{length, getD}
+use lib.ListN.{length, length-append}
 use borrow.Author.Tests.{eqb-true, eqb-false, eq-eqb, ne-eqb}
 use Rattle.rules.specs.declared.Entry.{Entry}
 use Rattle.rules.specs.declared.Subject.{Subject}
 use Rattle.rules.specs.declared.Subject.the-variants.{Tpm, Device}
-use Rattle.rules.specs.Limits.{termLimit}
-use Rattle.rules.specs.State.{put, listed}
-use Rattle.tables.specs.Regions as regions
-use Rattle.tables.specs.Regions.{Boards, Tables, tablesIn, withBoards, withEk, linked}
+use Rattle.rules.specs.State.{put, listed, depthOf}
+use Rattle.tables.specs.Regions.{Boards, Tables, tablesIn, withEntry, withDepth, withBoards, withEk, linked}
 use Rattle.boards.specs.Linked.{Falls, entryOf}
 use Rattle.boards.proofs.Walk.{falls-linked, falls-more}
-use Rattle.entries.specs.Words.{ledgerWords, entriesIn, withEntry}
-use Rattle.entries.proofs.Words.{words-length, entries-next, beyond-next}
 use Rattle.loaded.specs.Entries.{entryFrom, Enters, SameKeys}
 use Rattle.loaded.proofs.Boards.{falls-ek}
 use Rattle.issuance.specs.Appends.{Appends, linkedBy}
-use Rattle.loaded.proofs.Ledger.{ledger-length}
 
 entry-last : (es : List Entry) (i c : ℕ) (e : Entry) → e .certificate ≡ c → listed es c ≡ false → entryFrom i (es ++ (e ∷ [])) c ≡ suc (i + length es)
 unfolding entryFrom listed
@@ -52,29 +48,66 @@ entry-appended es e c h = go (eqb c (e .certificate)) refl
         omega (arith, w)
     go false q = entry-other es 0 c e (λ m. eqb-false c (e .certificate) q (sym m))
 
--- what the entry, its place and its EK leave, where they are written
-module _ (tables tables₁ tables′ : List ℕ) (n ek : ℕ) (e : Entry)
-    (t : tablesIn tables₁ ≡ regions.withEntry (tablesIn tables) (put (tablesIn tables .entry) (e .certificate) (n + 1)))
-    (k : tablesIn tables′ ≡ withBoards (tablesIn tables₁) (withEk (tablesIn tables₁ .boards) (put (tablesIn tables₁ .boards .ek) n ek))) where
-  written : tablesIn tables′ ≡ withBoards (regions.withEntry (tablesIn tables) (put (tablesIn tables .entry) (e .certificate) (n + 1))) (withEk (tablesIn tables .boards) (put (tablesIn tables .boards .ek) n ek))
-  written = k ∙ ap (λ (v : Tables). withBoards v (withEk (v .boards) (put (v .boards .ek) n ek))) t
+-- its depth
+depth-last : (es : List Entry) (c : ℕ) (e : Entry) → e .certificate ≡ c → listed es c ≡ false → depthOf (es ++ (e ∷ [])) c ≡ e .depth
+unfolding depthOf listed
+depth-last [] c e q h = rw (eq-eqb (e .certificate) c q) refl
+depth-last (x ∷ es) c e q h = go (eqb (x .certificate) c) h (λ w. depth-last es c e q w)
+  where
+    go : (b : Bool) → (b || listed es c) ≡ false → (listed es c ≡ false → depthOf (es ++ (e ∷ [])) c ≡ e .depth) → cond b (x .depth) (depthOf (es ++ (e ∷ [])) c) ≡ e .depth
+    go true w more = absurd (false≢true (sym w))
+    go false w more = more w
 
-  places-next : {words : List ℕ} {ledger : List Entry} → Enters tables words n ledger → listed ledger (e .certificate) ≡ false → (c : ℕ) → tablesIn tables′ .entry c ≡ entryFrom 0 (ledger ++ (e ∷ [])) c
-  unfolding put
-  places-next {ledger = ledger} h new c =
-      ap (λ (v : Tables). v .entry c) written
-      ∙ ap (cond (eqb c (e .certificate)) (n + 1)) (h .place c)
-      ∙ ap (λ (m : ℕ). put (entryFrom 0 ledger) (e .certificate) (m + 1) c) (sym (ledger-length c h))
-      ∙ sym (entry-appended ledger e c new)
+depth-other : (es : List Entry) (c : ℕ) (e : Entry) → (e .certificate ≡ c → ⊥) → depthOf (es ++ (e ∷ [])) c ≡ depthOf es c
+unfolding depthOf
+depth-other [] c e q = rw (ne-eqb (e .certificate) c q) refl
+depth-other (x ∷ es) c e q = ap (cond (eqb (x .certificate) c) (x .depth)) (depth-other es c e q)
 
-  pub appended : {words words′ : List ℕ} → n < termLimit → length words ≡ ledgerWords → words′ ≡ withEntry words n e → Appends tables words n e ek tables′ words′
-  appended {words} {words′} l room w = record {
-    enters = λ ledger h new. record {
-      few = omega arith;
-      room = ap length w ∙ words-length words n e ∙ room;
-      same = ap (λ (es : List Entry). es ++ (e ∷ [])) (h .same) ∙ sym (entries-next words n e l room) ∙ ap (λ (ws : List ℕ). entriesIn ws (n + 1)) (sym w);
-      beyond = λ j m. ap (λ (ws : List ℕ). getD ws j 0) w ∙ beyond-next words n e (h .beyond) j m;
-      place = places-next h new;
+pub depth-appended : (es : List Entry) (e : Entry) (c : ℕ) → listed es (e .certificate) ≡ false → depthOf (es ++ (e ∷ [])) c ≡ put (depthOf es) (e .certificate) (e .depth) c
+unfolding put
+depth-appended es e c h = go (eqb c (e .certificate)) refl
+  where
+    go : (b : Bool) → eqb c (e .certificate) ≡ b → depthOf (es ++ (e ∷ [])) c ≡ cond b (e .depth) (depthOf es c)
+    go true q = let m = eqb-true c (e .certificate) q in depth-last es c e (sym m) (ap (listed es) m ∙ h)
+    go false q = depth-other es c e (λ m. eqb-false c (e .certificate) q (sym m))
+
+-- what the entry's place, its depth and its EK leave, where they are written
+module _ (tables tables₁ tables₂ tables′ : List ℕ) (n certificate depth ek : ℕ)
+    (t : tablesIn tables₁ ≡ withEntry (tablesIn tables) (put (tablesIn tables .entry) certificate (n + 1)))
+    (d : tablesIn tables₂ ≡ withDepth (tablesIn tables₁) (put (tablesIn tables₁ .depth) certificate depth))
+    (k : tablesIn tables′ ≡ withBoards (tablesIn tables₂) (withEk (tablesIn tables₂ .boards) (put (tablesIn tables₂ .boards .ek) n ek))) where
+  written : tablesIn tables′ ≡ withBoards (withDepth (withEntry (tablesIn tables) (put (tablesIn tables .entry) certificate (n + 1))) (put (tablesIn tables .depth) certificate depth)) (withEk (tablesIn tables .boards) (put (tablesIn tables .boards .ek) n ek))
+  written = k ∙ ap (λ (v : Tables). withBoards v (withEk (v .boards) (put (v .boards .ek) n ek))) (d ∙ ap (λ (v : Tables). withDepth v (put (v .depth) certificate depth)) t)
+
+  module _ {ledger : List Entry} (e : Entry) (q : e .certificate ≡ certificate) (m : e .depth ≡ depth) (h : Enters tables n ledger) (new : listed ledger certificate ≡ false) where
+    new-one : listed ledger (e .certificate) ≡ false
+    new-one = ap (listed ledger) q ∙ new
+
+    places-next : (c : ℕ) → tablesIn tables′ .entry c ≡ entryFrom 0 (ledger ++ (e ∷ [])) c
+    unfolding put
+    places-next c =
+        ap (λ (v : Tables). v .entry c) written
+        ∙ ap (cond (eqb c certificate) (n + 1)) (h .place c)
+        ∙ ap (λ (x : ℕ). put (entryFrom 0 ledger) x (n + 1) c) (sym q)
+        ∙ ap (λ (x : ℕ). put (entryFrom 0 ledger) (e .certificate) (x + 1) c) (sym (h .count))
+        ∙ sym (entry-appended ledger e c new-one)
+
+    depths-next : (c : ℕ) → tablesIn tables′ .depth c ≡ depthOf (ledger ++ (e ∷ [])) c
+    unfolding put
+    depths-next c =
+        ap (λ (v : Tables). v .depth c) written
+        ∙ ap (cond (eqb c certificate) depth) (h .depth c)
+        ∙ ap (λ (x : ℕ). put (depthOf ledger) x depth c) (sym q)
+        ∙ ap (λ (x : ℕ). put (depthOf ledger) (e .certificate) x c) (sym m)
+        ∙ sym (depth-appended ledger e c new-one)
+
+  pub appended : Appends tables n certificate depth ek tables′
+  appended = record {
+    enters = λ ledger e q m h l new. record {
+      few = omega (arith, l);
+      count = length-append ledger (e ∷ []) ∙ ap (λ (x : ℕ). x + 1) (h .count);
+      place = places-next e q m h new;
+      depth = depths-next e q m h new;
       falls = subst⁻¹ (λ (b : Boards). Falls b (n + 1)) (ap (λ (v : Tables). v .boards) written) (falls-ek _ _ (n + 1) (falls-more _ n (h .falls)));
     };
     keys = record { words = ap (λ (v : Tables). v .words) written; signer = ap (λ (v : Tables). v .signer) written; half = ap (λ (v : Tables). v .half) written };
@@ -91,14 +124,13 @@ module _ (v : Tables) (n : ℕ) {x : Subject} {m e : ℕ} (q : x ≡ Device m) (
 
 module _ (tables tables′ : List ℕ) (n : ℕ) where
   pub enters-linked :
-      {words : List ℕ} {ledger : List Entry} (x : Subject) → tablesIn tables′ ≡ linkedBy (tablesIn tables) n x → Falls (tablesIn tables .boards) n → Enters tables words (n + 1) ledger
-      → Enters tables′ words (n + 1) ledger
+      {ledger : List Entry} (x : Subject) → tablesIn tables′ ≡ linkedBy (tablesIn tables) n x → Falls (tablesIn tables .boards) n → Enters tables (n + 1) ledger
+      → Enters tables′ (n + 1) ledger
   enters-linked x k f h = record {
     few = h .few;
-    room = h .room;
-    same = h .same;
-    beyond = h .beyond;
+    count = h .count;
     place = λ c. ap (λ (v : Tables). v .entry c) k ∙ place x c ∙ h .place c;
+    depth = λ c. ap (λ (v : Tables). v .depth c) k ∙ depth x c ∙ h .depth c;
     falls = subst⁻¹ (λ (b : Boards). Falls b (n + 1)) (ap (λ (v : Tables). v .boards) k) (falls x);
   }
     where
@@ -107,6 +139,14 @@ module _ (tables tables′ : List ℕ) (n : ℕ) where
       place (Device m) c = go (eqb (entryOf (tablesIn tables .boards) m) 0)
         where
           go : (b : Bool) → cond b (withBoards (tablesIn tables) (linked (tablesIn tables .boards) n m)) (tablesIn tables) .entry c ≡ tablesIn tables .entry c
+          go true = refl
+          go false = refl
+
+      depth : (x : Subject) (c : ℕ) → linkedBy (tablesIn tables) n x .depth c ≡ tablesIn tables .depth c
+      depth (Tpm m) c = refl
+      depth (Device m) c = go (eqb (entryOf (tablesIn tables .boards) m) 0)
+        where
+          go : (b : Bool) → cond b (withBoards (tablesIn tables) (linked (tablesIn tables .boards) n m)) (tablesIn tables) .depth c ≡ tablesIn tables .depth c
           go true = refl
           go false = refl
 

@@ -2,9 +2,9 @@
 --     signatureAt, halfAt, newAt, parentAt, keyAt, signerAt   what its request names
 --     asked                                  what a request has whose form was accepted
 --     here, half-declared, new-declared, parent-is, key-declared, by-declared     what it names is declared
---     parent-noted, parent-entered           the place of the parent's entry, which the ledger lists where a desk signed it
+--     parent-noted                           the parent's entry has a place where a desk signed it
 --     attest-goes, parentage-goes            parts that pass
---     attest-read to entry-read              parts by what was read are parts by the request
+--     attest-read to called-read             parts by what was read are parts by the request
 --     issue-chain                        the outcome as a chain of its tests, part by part
 -- Assumes nothing.
 use mathlib.Core.Path.{_≡_, refl, ap, _∙_}
@@ -34,7 +34,7 @@ use Rattle.theorems.proofs.Chain.{in-order, chain-rest, passed}
 use Rattle.loaded.proofs.Standing.{checked-here, term-here, kind-declared, signing-key-declared, certified-key-declared, signer-declared}
 use Rattle.requests.specs.Formed.{Formed}
 use Rattle.requests.specs.Tests.{calledTests, attestTests, parentageTests}
-use Rattle.issuance.specs.Tests.{entryTests}
+use Rattle.issuance.specs.Tests.{entryTests, parentTests, belowTests}
 use Rattle.issuance.specs.Issues.{ParentsEntered}
 use Rattle.requests.proofs.Read.{is-kind-kind}
 use Rattle.loaded.proofs.Ledger.{entry-most}
@@ -97,17 +97,6 @@ module _ {bs s : List ℕ} {q : ℕ} (h : Holds bs s) (w : Asked (fileIn bs) q) 
   pub by-declared : signerAt (fileIn bs) q < length (fileIn bs .terms)
   by-declared = signer-declared h (kind-declared bs parent-is (λ e. omega arith)) parent-is
 
-  -- past 21 a desk signed the parent
-  pub parent-entered :
-      {tables words : List ℕ} {n : ℕ} {ledger : List Entry} {family : Family} (p : ℕ) → List·Memᴰ family requestFamilies → ParentsEntered bs s tables → Enters tables words n ledger → view s .knows p q ≡ true
-      → chain (parentageTests (fileIn bs) family (halfAt (fileIn bs) q) (newAt (fileIn bs) q) (keyAt (fileIn bs) q) (signerAt (fileIn bs) q)) ≡ 0
-      → (0 < tablesIn tables .entry (parentAt (fileIn bs) q)) × (tablesIn tables .entry (parentAt (fileIn bs) q) ≤ termLimit)
-  unfolding parentCertificateOf requestBody
-  parent-entered {tables} {family = family} p row noted e k z =
-      let a = passed 20 _ _ (omega arith) z in
-      let b = passed 21 _ _ (omega arith) (a .1) in
-      (parent-noted bs s tables p q noted (record { known = k; pair = w .formed .pair; body = w .body; family = family; row = row; signed = b .0 }), entry-most (parentAt (fileIn bs) q) e)
-
 module _ (f : File) (ys : List Test) where
   pub attest-goes : (t : ℕ) → chain (attestTests f t) ≡ 0 → chain (attestTests f t ++ ys) ≡ chain ys
   attest-goes t e = chain-rest (attestTests f t) ys refl e
@@ -131,15 +120,16 @@ module _ (f : File) (q : ℕ) {body signature : ℕ} (b : body ≡ leftOf f q) (
       parent-read : parent ≡ parentAt f q
       parent-read = c ∙ ap (ldevidCertificate f) b
 
-      pub parentage-read : (family : Family) {x half key by : ℕ} → half ≡ signingKey f signature → key ≡ certifiedKey f parent → by ≡ signer f parent → x ≡ chain (parentageTests f family half new key by) → x ≡ chain (parentageTests f family (halfAt f q) (newAt f q) (keyAt f q) (signerAt f q))
-      parentage-read family h i j e = e ∙ rw (h, i, j, new-read, parent-read, s, b) refl
+      pub below-read : {x half : ℕ} (ledger : List Entry) (family : Family) (p r : ℕ) → half ≡ signingKey f signature → x ≡ chain (belowTests f ledger family p r half new parent) → x ≡ chain (belowTests f ledger family p r (halfAt f q) (newAt f q) (parentAt f q))
+      below-read ledger family p r h e = e ∙ rw (h, new-read, parent-read, s, b) refl
 
-      pub called-read : {x : ℕ} (p r : ℕ) {wanted : Subject} → wanted ≡ subject f parent → x ≡ chain (calledTests f p r new wanted) → x ≡ chain (calledTests f p r (newAt f q) (subject f (parentAt f q)))
-      called-read p r {wanted} w e =
-          e ∙ ap (λ (t : ℕ). chain (calledTests f p r t wanted)) new-read ∙ ap (λ (x : Subject). chain (calledTests f p r (newAt f q) x)) (w ∙ ap (subject f) parent-read)
+-- the parent's certificate by what was read of it
+module _ (f : File) (parent : ℕ) {x : ℕ} where
+  pub parentage-read : (family : Family) (half new : ℕ) {key by : ℕ} → key ≡ certifiedKey f parent → by ≡ signer f parent → x ≡ chain (parentageTests f family half new key by) → x ≡ chain (parentTests f family half new parent)
+  parentage-read family half new i j e = e ∙ rw (i, j) refl
 
-      pub entry-read : {x : ℕ} (ledger : List Entry) (r : ℕ) → x ≡ chain (entryTests ledger r parent) → x ≡ chain (entryTests ledger r (parentAt f q))
-      entry-read ledger r e = e ∙ ap (λ (t : ℕ). chain (entryTests ledger r t)) parent-read
+  pub called-read : (p r new : ℕ) {named : Subject} → named ≡ subject f parent → x ≡ chain (calledTests f p r new named) → x ≡ chain (calledTests f p r new (subject f parent))
+  called-read p r new w e = e ∙ rw w refl
 
 -- 40, 41, 42
 pub issue-chain :

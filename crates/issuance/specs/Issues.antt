@@ -15,11 +15,11 @@ use Rattle.loaded.specs.Entries.{Accepts}
 use Rattle.requests.specs.Formed.{Requested}
 
 -- 3F, with the returning party that it was accepted for
-pub record IssuesIak (bs s tables ws : List ℕ) (n party c r : ℕ) : Type 0 where
+pub record IssuesIak (bs s tables : List ℕ) (n party c r : ℕ) : Type 0 where
   pub other : ℕ
   pub wellformed : Wellformed (fileIn bs) (issueIak party other c r)
   pub requested : Requested (fileIn bs) (view s .request c)
-  pub accepts : Accepts bs s tables ws n (issueIak party other c r)
+  pub accepts : Accepts bs s tables n (issueIak party other c r)
   pub words : length tables ≡ tableWords
 
 -- the tables have an entry for the certificate in each known 18 request, where a desk signed it that may
@@ -27,9 +27,9 @@ abbrev pub ParentsEntered : List ℕ → List ℕ → List ℕ → Type 0
 ParentsEntered bs s tables = (p q : ℕ) → DeskParent (fileIn bs) (view s .knows) p q → 0 < tablesIn tables .entry (parentCertificateOf (fileIn bs) q)
 
 -- 40, 41 or 42, with the family that it was accepted for
-pub record IssuesOnRequest (bs s tables ws : List ℕ) (n party q r : ℕ) : Type 0 where
+pub record IssuesOnRequest (bs s tables : List ℕ) (n party q r : ℕ) : Type 0 where
   pub family : Family
   pub wellformed : Wellformed (fileIn bs) (issue family party q r)
-  pub accepts : Accepts bs s tables ws n (issue family party q r)
+  pub accepts : Accepts bs s tables n (issue family party q r)
   pub words : length tables ≡ tableWords
   pub parents : ParentsEntered bs s tables

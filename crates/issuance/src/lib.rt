@@ -1,45 +1,37 @@
 // Certificates issued, 3F and 40 to 42: what each command decides and leaves.
+use rules::Entry;
 use rules::Family;
 use rules::Subject;
 ghost use mathlib.Core.Path.{_≡_};
-ghost use mathlib.Core.List.{List};
-ghost use Prim.Native.Nat.{ℕ, _+_, _-_, _<_, _≤_};
+ghost use mathlib.Core.List.{List, [], _∷_};
+ghost use Prim.Native.Nat.{ℕ, _-_, _<_, _≤_};
 ghost use lib.ListN.{length};
 ghost use Rattle.rules.specs.declared.Entry.{Entry};
 ghost use Rattle.rules.specs.declared.Family.{Family};
-ghost use Rattle.rules.specs.Limits.{termLimit};
-ghost use Rattle.rules.specs.File.{File, issueIak, issue};
-ghost use Rattle.rules.specs.State.{credentialOpen, listed, depthOf};
+ghost use Rattle.rules.specs.Limits.{partyLimit, termLimit};
+ghost use Rattle.rules.specs.Term.{certificateKind};
+ghost use Rattle.rules.specs.File.{File, kind, issueIak, issue};
+ghost use Rattle.rules.specs.State.{credentialOpen, listed};
 ghost use Rattle.rules.specs.Desk.{allEndAt};
 ghost use Rattle.theorems.proofs.Ends.{OneEk};
 ghost use Rattle.theorems.proofs.Loading.{Wellformed};
 ghost use Rattle.state.specs.View.{view};
 ghost use Rattle.tables.specs.Regions.{tableWords, tablesIn};
 ghost use Rattle.boards.specs.Linked.{Falls};
-ghost use Rattle.entries.specs.Words.{ledgerWords};
 ghost use Rattle.theorems.specs.Chain.{chain};
 ghost use Rattle.loaded.specs.Loaded.{fileIn, Holds, Finds};
-ghost use Rattle.loaded.specs.Entries.{Enters, Entered, Boarded, DecidesListed, DecidesBy, DeskLeaves};
+ghost use Rattle.loaded.specs.Entries.{Enters, Boarded, DecidesListed, DeskLeaves};
 ghost use Rattle.requests.specs.Formed.{Requested};
-ghost use Rattle.issuance.specs.Tests.{iakEntryTests, entryTests};
+ghost use Rattle.issuance.specs.Tests.{iakEntryTests, entryTests, belowTests};
 ghost use Rattle.issuance.specs.Appends.{Appends, linkedBy};
-ghost use Rattle.issuance.specs.Issues.{IssuesIak, ParentsEntered, IssuesOnRequest};
+ghost use Rattle.issuance.specs.Issues.{IssuesIak, IssuesOnRequest};
 
 // Whether the ledger lists a certificate, by the tables' column of places.
 fn is_listed(tables: &[u16; tables::WORDS], t: usize) -> bool
     requires { ⌜ t < termLimit ⌝ }
-    ensures { λ x. ⌜ ((words : List ℕ) (n : ℕ) (ledger : List Entry) → Enters (now (tables .entry)) words n ledger → x ≡ listed ledger t) ⌝ }
+    ensures { λ x. ⌜ ((n : ℕ) (ledger : List Entry) → Enters (now (tables .entry)) n ledger → x ≡ listed ledger t) ⌝ }
 {
     tables::entry_of(tables, t) != 0
-}
-
-// The depth of a listed certificate, by the ledger's words.
-fn depth_of(tables: &[u16; tables::WORDS], words: &[u16; entries::WORDS], t: usize) -> u16
-    requires { ⌜ (t < termLimit) × (0 < tablesIn (now tables) .entry t) × (tablesIn (now tables) .entry t ≤ termLimit) ⌝ }
-    ensures { λ x. ⌜ ((n : ℕ) (ledger : List Entry) → Enters (now (tables .entry)) (now (words .entry)) n ledger → x ≡ depthOf ledger t) ⌝ }
-{
-    let entry = tables::entry_of(tables, t) as usize;
-    entries::depth_of(words, entry - 1)
 }
 
 // The EK at the end of a listed certificate's path, by the tables' column of places.
@@ -70,7 +62,7 @@ fn ends_at(tables: &[u16; tables::WORDS], wanted: Subject, ek: usize) -> bool
 // The entry of an IAK certificate: none so far, and no other EK with its Subject.
 fn iak_allowed(tables: &[u16; tables::WORDS], r: usize, wanted: Subject, ek: usize) -> u8
     requires { ⌜ (r < termLimit) × Falls (tablesIn (now tables) .boards) termLimit ⌝ }
-    ensures { λ x. ⌜ ((f : File) (words : List ℕ) (n : ℕ) (ledger : List Entry) → Enters (now (tables .entry)) words n ledger → Boarded f (tablesIn (now (tables .entry)) .boards) ledger → OneEk f ledger → x ≡ chain (iakEntryTests f ledger r wanted ek)) ⌝ }
+    ensures { λ x. ⌜ ((f : File) (n : ℕ) (ledger : List Entry) → Enters (now (tables .entry)) n ledger → Boarded f (tablesIn (now (tables .entry)) .boards) ledger → OneEk f ledger → x ≡ chain (iakEntryTests f ledger r wanted ek)) ⌝ }
 {
     if is_listed(tables, r) {
         return 28;
@@ -124,23 +116,56 @@ pub fn decide_issue_iak(
 }
 
 // The entry of a certificate below its parent's: none so far, and not too deep.
-fn entry_allowed(
-    tables: &[u16; tables::WORDS],
-    words: &[u16; entries::WORDS],
-    r: usize,
-    parent: usize,
-) -> u8
-    requires { ⌜ (r < termLimit) × (parent < termLimit) × (0 < tablesIn (now tables) .entry parent) × (tablesIn (now tables) .entry parent ≤ termLimit) ⌝ }
-    ensures { λ x. ⌜ ((n : ℕ) (ledger : List Entry) → Enters (now (tables .entry)) (now (words .entry)) n ledger → x ≡ chain (entryTests ledger r parent)) ⌝ }
+fn entry_allowed(tables: &[u16; tables::WORDS], r: usize, parent: usize) -> u8
+    requires { ⌜ (r < termLimit) × (parent < termLimit) ⌝ }
+    ensures { λ x. ⌜ ((n : ℕ) (ledger : List Entry) → Enters (now (tables .entry)) n ledger → x ≡ chain (entryTests ledger r parent)) ⌝ }
 {
     if is_listed(tables, r) {
         return 28;
     }
-    let depth = depth_of(tables, words, parent);
+    let depth = tables::depth_of(tables, parent);
     if depth >= rules::DEPTH_LIMIT {
         return 29;
     }
     0
+}
+
+// What follows the request's own tests of 40, 41, 42: the parent's certificate, the certificate called for, and its entry.
+fn below(
+    file: &[u8],
+    state: &[u8],
+    tables: &[u16; tables::WORDS],
+    parties: usize,
+    family: Family,
+    party: usize,
+    r: usize,
+    half: usize,
+    new: usize,
+    parent: usize,
+) -> u8
+    requires { ⌜ Holds (now file) (now state) × Finds (now file) (now tables) × (parties ≡ length (fileIn (now file) .roles)) × (party < partyLimit) × (half < length (fileIn (now file) .terms)) × (new < length (fileIn (now file) .terms)) × (kind (fileIn (now file)) parent ≡ certificateKind) × (kind (fileIn (now file)) r ≡ certificateKind) ⌝ }
+    ensures { λ x. ⌜ ((n : ℕ) (ledger : List Entry) → Enters (now (tables .entry)) n ledger → x ≡ chain (belowTests (fileIn (now (file .entry))) ledger family party r half new parent)) ⌝ }
+{
+    let certificate = requests::certificate_of(file, state, parent);
+    let descends = requests::parentage(
+        file,
+        state,
+        tables,
+        parties,
+        family,
+        half,
+        new,
+        certificate,
+    );
+    if descends != 0 {
+        return descends;
+    }
+    let wanted = certificate.subject;
+    let called = requests::called_for(file, state, tables, party, r, new, wanted);
+    if called != 0 {
+        return called;
+    }
+    entry_allowed(tables, r, parent)
 }
 
 // 40, 41, 42: what differs is the family.
@@ -148,15 +173,14 @@ pub fn decide_issue(
     file: &[u8],
     state: &[u8],
     tables: &[u16; tables::WORDS],
-    words: &[u16; entries::WORDS],
     parties: usize,
     family: Family,
     party: usize,
     q: usize,
     r: usize,
 ) -> u8
-    requires { ⌜ Holds (now file) (now state) × Finds (now file) (now tables) × (parties ≡ length (fileIn (now file) .roles)) × Wellformed (fileIn (now file)) (issue family party q r) × Entered (now tables) (now words) × ParentsEntered (now file) (now state) (now tables) ⌝ }
-    ensures { λ x. ⌜ DecidesBy (now (file .entry)) (now (state .entry)) (now (tables .entry)) (now (words .entry)) (issue family party q r) x ⌝ }
+    requires { ⌜ Holds (now file) (now state) × Finds (now file) (now tables) × (parties ≡ length (fileIn (now file) .roles)) × Wellformed (fileIn (now file)) (issue family party q r) ⌝ }
+    ensures { λ x. ⌜ DecidesListed (now (file .entry)) (now (state .entry)) (now (tables .entry)) (issue family party q r) x ⌝ }
 {
     if !loaded::is_role(file, party, family.desk) {
         return 13;
@@ -179,45 +203,29 @@ pub fn decide_issue(
         return proved;
     }
     let parent = asked.certificate;
-    let certificate = requests::certificate_of(file, state, parent);
-    let descends = requests::parentage(
+    below(
         file,
         state,
         tables,
         parties,
         family,
+        party,
+        r,
         attested.signer,
         new,
-        certificate,
-    );
-    if descends != 0 {
-        return descends;
-    }
-    let wanted = certificate.subject;
-    let called = requests::called_for(file, state, tables, party, r, new, wanted);
-    if called != 0 {
-        return called;
-    }
-    entry_allowed(tables, words, r, parent)
+        parent,
+    )
 }
 
-// An entry is written after the others, its place noted, and the EK at the end of its path.
-fn append(
-    tables: &mut [u16; tables::WORDS],
-    words: &mut [u16; entries::WORDS],
-    n: usize,
-    certificate: usize,
-    parent: usize,
-    depth: u16,
-    ek: u16,
-)
-    requires { ⌜ (length (now tables) ≡ tableWords) × (length (now words) ≡ ledgerWords) × (n < termLimit) × (certificate < termLimit) × (parent < termLimit) ⌝ }
-    ensures { λ _. ⌜ Appends (now (tables .entry)) (now (words .entry)) n (record { certificate = certificate; parent = parent; depth = depth }) ek (now (tables .exit)) (now (words .exit)) ⌝ }
+// The place and the depth of an entry after the others are noted, and the EK at the end of its path.
+fn append(tables: &mut [u16; tables::WORDS], n: usize, certificate: usize, depth: u16, ek: u16)
+    requires { ⌜ (length (now tables) ≡ tableWords) × (n < termLimit) × (certificate < termLimit) ⌝ }
+    ensures { λ _. ⌜ Appends (now (tables .entry)) n certificate depth ek (now (tables .exit)) ⌝ }
 {
     let place = (n + 1) as u16;
     tables::note_entry(tables, certificate, place);
+    tables::note_depth(tables, certificate, depth);
     tables::note_ek(tables, n, ek);
-    entries::note_entry(words, n, certificate as u16, parent as u16, depth);
 }
 
 // The entry at a place is linked by its Subject, where that finds none.
@@ -235,20 +243,19 @@ fn link(tables: &mut [u16; tables::WORDS], n: usize, subject: Subject)
     tables::link(tables, n, serial);
 }
 
-// What 3F leaves: the desk learns the certificate, the credential is closed, and the ledger has the certificate under that of the EK, linked by
-// its Subject.
+// What 3F leaves: the desk learns the certificate, and the credential is closed. Answers the entry that the ledger gains: the certificate under that
+// of the EK. It is linked by its Subject.
 pub fn effect_issue_iak(
     file: &[u8],
     state: &mut [u8],
     tables: &mut [u16; tables::WORDS],
-    words: &mut [u16; entries::WORDS],
     n: usize,
     party: usize,
     c: usize,
     r: usize,
-)
-    requires { ⌜ Holds (now file) (now state) × IssuesIak (now file) (now state) (now tables) (now words) n party c r ⌝ }
-    ensures { λ _. ⌜ ((other : ℕ) → DeskLeaves (now (file .entry)) (now (state .entry)) (now (tables .entry)) (now (words .entry)) n (issueIak party other c r) (now (state .exit)) (now (tables .exit)) (now (words .exit)) (n + 1)) ⌝ }
+) -> Entry
+    requires { ⌜ Holds (now file) (now state) × IssuesIak (now file) (now state) (now tables) n party c r ⌝ }
+    ensures { λ x. ⌜ ((other : ℕ) → DeskLeaves (now (file .entry)) (now (state .entry)) (now (tables .entry)) n (issueIak party other c r) (now (state .exit)) (now (tables .exit)) (x ∷ [])) ⌝ }
 {
     let q = state::request_of(state, c);
     let request = requests::pair_of(file, state, q);
@@ -256,30 +263,39 @@ pub fn effect_issue_iak(
     let ek = loaded::certified_key_of(file, state, asked.certificate);
     loaded::learn(file, state, party, r);
     state::note_mark(state, c, rules::CREDENTIAL_CLOSED);
-    append(tables, words, n, r, asked.certificate, 1, ek as u16);
+    append(tables, n, r, 1, ek as u16);
     let named = asked.subject;
     link(tables, n, named);
+    Entry {
+        certificate: r as u16,
+        parent: asked.certificate as u16,
+        depth: 1,
+    }
 }
 
-// What 40, 41 and 42 leave: the desk learns the certificate, and the ledger has it under the request's certificate, one deeper.
+// What 40, 41 and 42 leave: the desk learns the certificate. Answers the entry that the ledger gains: the certificate under the request's, one deeper.
 pub fn effect_issue(
     file: &[u8],
     state: &mut [u8],
     tables: &mut [u16; tables::WORDS],
-    words: &mut [u16; entries::WORDS],
     n: usize,
     party: usize,
     q: usize,
     r: usize,
-)
-    requires { ⌜ Holds (now file) (now state) × IssuesOnRequest (now file) (now state) (now tables) (now words) n party q r ⌝ }
-    ensures { λ _. ⌜ ((family : Family) → DeskLeaves (now (file .entry)) (now (state .entry)) (now (tables .entry)) (now (words .entry)) n (issue family party q r) (now (state .exit)) (now (tables .exit)) (now (words .exit)) (n + 1)) ⌝ }
+) -> Entry
+    requires { ⌜ Holds (now file) (now state) × IssuesOnRequest (now file) (now state) (now tables) n party q r ⌝ }
+    ensures { λ x. ⌜ ((family : Family) → DeskLeaves (now (file .entry)) (now (state .entry)) (now (tables .entry)) n (issue family party q r) (now (state .exit)) (now (tables .exit)) (x ∷ [])) ⌝ }
 {
     let request = requests::pair_of(file, state, q);
     let asked = requests::ldevid_request_of(file, state, request.left);
     let parent = asked.certificate;
-    let depth = depth_of(tables, words, parent);
+    let depth = tables::depth_of(tables, parent);
     let ek = ek_of(tables, parent);
     loaded::learn(file, state, party, r);
-    append(tables, words, n, r, parent, depth + 1, ek);
+    append(tables, n, r, depth + 1, ek);
+    Entry {
+        certificate: r as u16,
+        parent: parent as u16,
+        depth: depth + 1,
+    }
 }

@@ -1,6 +1,7 @@
 -- The term of a record by the words where they stand.
 --     byte-at, word-at                 what stands in a body, by where it stands in the file
 --     inside                           where the body of a record ends in the file
+--     body-there                       the term of a record of a kind, by its body
 --     public-key-there to pair-there   the term of a record, one law a kind
 --     idevid-certificate-there, idevid-key-there, signer-there   the fields behind a Subject
 --     tpm-byte, device-byte            the byte of a Subject
@@ -8,7 +9,7 @@
 --     key-attributes, no-attributes    the attributes of keys; other terms have none
 --     no-parts                         terms of other kinds than 13, 14 and 17 to 1A have no parts
 -- Assumes nothing.
-use mathlib.Core.Path.{_≡_, refl, ap₂, subst}
+use mathlib.Core.Path.{_≡_, refl, ap, ap₂, subst}
 use mathlib.Core.Bool.{Bool, true, false, cond, not, _||_}
 use mathlib.Core.List.{List, [], _∷_}
 use Prim.Native.Nat.{ℕ, suc, _+_, _*_, _-_, _<_, _≤_}
@@ -84,6 +85,10 @@ module _ (bs : List ℕ) (at : ℕ) where
       let h = term-kinds (kindThere bs at) (r .isTerm) in
       let l : bodyLength (kindThere bs at) ≡ bodyBytes (kindThere bs at) = agree bodyLength bodyBytes 0x10 11 refl (kindThere bs at) (h .0) (omega (arith, h .1)) in
       subst (λ (k : ℕ). at + 1 + bodyBytes k ≤ length bs) e (omega (arith, r .rest, l))
+
+  pub body-there : (k : ℕ) → kindThere bs at ≡ k → termThere bs at ≡ termAt k (take (bodyLength k) (drop (at + 1) bs))
+  unfolding termThere
+  body-there k e = ap (λ (x : ℕ). termAt x (take (bodyLength x) (drop (at + 1) bs))) e
 
   -- 10 (identifier, attributes)
   pub public-key-there : kindThere bs at ≡ publicKeyKind → termThere bs at ≡ PublicKey (word bs (at + 1)) (record { bits = getD bs (at + 3) 0 })

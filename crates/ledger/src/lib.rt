@@ -1,12 +1,12 @@
 // The ledger: a lent slice of entries. `append` writes an entry, `read_one` reads one.
+use gained::Gained;
 use rules::Entry;
 ghost use mathlib.Core.Path.{_≡_};
-ghost use Prim.Native.Nat.{_<_, _≤_};
+ghost use Prim.Native.Nat.{_+_, _<_, _≤_};
 ghost use lib.ListN.{length, set, getD};
-ghost use Rattle.rules.specs.Limits.{termLimit};
+ghost use Rattle.rules.specs.Limits.{pairCount};
 ghost use Rattle.rules.specs.Lent.{noEntry};
-ghost use Rattle.entries.specs.Words.{entryIn};
-ghost use Rattle.ledger.specs.Filled.{filled};
+ghost use Rattle.ledger.specs.Placed.{cleared, puts};
 
 // An entry is written at a place.
 pub fn append(ledger: &mut [Entry], at: usize, e: Entry)
@@ -24,29 +24,38 @@ pub fn read_one(ledger: &[Entry], at: usize) -> Entry
     ledger[at]
 }
 
-// The entry at a place of the ledger in words.
-pub fn entry_at(words: &[u16; entries::WORDS], i: usize) -> Entry
-    requires { ⌜ i < termLimit ⌝ }
-    ensures { λ r. ⌜ r ≡ entryIn (now (words .entry)) i ⌝ }
+// No entry.
+fn no_entry() -> Entry
+    ensures { λ r. ⌜ r ≡ noEntry ⌝ }
 {
-    let certificate = entries::certificate_of(words, i);
-    let parent = entries::parent_of(words, i);
-    let depth = entries::depth_of(words, i);
     Entry {
-        certificate: certificate,
-        parent: parent,
-        depth: depth,
+        certificate: 0,
+        parent: 0,
+        depth: 0,
     }
 }
 
-// The first entries in words go to the first places of the ledger.
-pub fn copy_out(ledger: &mut [Entry], words: &[u16; entries::WORDS], places: usize)
-    requires { ⌜ (places ≤ length (now ledger)) × (places ≤ termLimit) ⌝ }
-    ensures { λ _. ⌜ now (ledger .exit) ≡ filled (now (words .entry)) places (now (ledger .entry)) ⌝ }
+// The first places are cleared.
+pub fn clear(ledger: &mut [Entry], places: usize)
+    requires { ⌜ places ≤ length (now ledger) ⌝ }
+    ensures { λ _. ⌜ now (ledger .exit) ≡ cleared (now (ledger .entry)) places ⌝ }
 {
+    let e = no_entry();
     let mut i = 0;
     while i < places {
-        append(ledger, i, entry_at(words, i));
+        append(ledger, i, e);
+        i += 1;
+    }
+}
+
+// The entries that a command gains are written from a place on.
+pub fn append_gained(ledger: &mut [Entry], from: usize, gained: Gained)
+    requires { ⌜ (from + gained .count ≤ length (now ledger)) × (gained .count ≤ pairCount) ⌝ }
+    ensures { λ _. ⌜ now (ledger .exit) ≡ puts (now (ledger .entry)) from (gained .entries) (gained .count) ⌝ }
+{
+    let mut i = 0;
+    while i < gained.count {
+        append(ledger, from + i, gained::entry_at(gained, i));
         i += 1;
     }
 }

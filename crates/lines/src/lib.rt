@@ -1,34 +1,91 @@
 // The listing of a file, in a buffer and on standard output.
 use libc::STDOUT_FILENO;
-use rules::RunAnswer;
+use rules::Entry;
+use runs::Finished;
+ghost use mathlib.Core.Path.{_≡_};
 ghost use Prim.Native.Nat.{_≤_};
 ghost use lib.ListN.{length};
+ghost use Rattle.rules.specs.Lent.{noEntry};
 ghost use Rattle.rules.specs.Listing.{listing};
 ghost use Rattle.lister.specs.Text.{listingBytes, Listed};
-ghost use Rattle.lines.specs.Lines.{AnswerListable, AnswerListed};
+ghost use Rattle.lines.specs.Lines.{HeadReady, Headed, entriesOf, LastReady, Ended, ListReady};
 
-// The listing of a run where there was one, else its refusal.
-fn list_answer(
-    ran: RunAnswer,
-    outcomes: &[u8],
-    words: &[u16; entries::WORDS],
+// The lines before the entries: those of the refused commands, or that of the file's refusal.
+fn head(done: Finished, outcomes: &[u8], out: &mut [u8]) -> usize
+    requires { ⌜ HeadReady done (now outcomes) (now out) ⌝ }
+    ensures { λ n. ⌜ Headed done (now (outcomes .entry)) (now (out .entry)) (now (out .exit)) n ⌝ }
+{
+    let b = done.begun;
+    let p = done.progress;
+    if b.number != 0 {
+        return lister::fault_line(out, 0, b.number, b.place as u32);
+    }
+    lister::refusals_into(out, 0, outcomes, p.accepted + p.refused)
+}
+
+// How many entries a run gained.
+fn entries_of(done: Finished) -> usize
+    ensures { λ n. ⌜ n ≡ entriesOf done ⌝ }
+{
+    let b = done.begun;
+    let p = done.progress;
+    if b.number != 0 {
+        return 0;
+    }
+    p.issued
+}
+
+// The line after the entries, if there was a run.
+fn last(done: Finished, out: &mut [u8], at: usize) -> usize
+    requires { ⌜ LastReady done (now out) at ⌝ }
+    ensures { λ n. ⌜ Ended done (now (out .entry)) at (now (out .exit)) n ⌝ }
+{
+    let b = done.begun;
+    let p = done.progress;
+    if b.number != 0 {
+        return at;
+    }
+    lister::total_line(out, at, p.accepted as u32, p.refused as u32, p.issued)
+}
+
+// No entry.
+fn no_entry() -> Entry
+    ensures { λ r. ⌜ r ≡ noEntry ⌝ }
+{
+    Entry {
+        certificate: 0,
+        parent: 0,
+        depth: 0,
+    }
+}
+
+// Fills a buffer with the listing of a file, with a ledger of its own, walked by hand.
+fn list_with(
+    file: &[u8],
+    state: &mut [u8],
+    outcomes: &mut [u8],
+    tables: &mut [u16; tables::WORDS],
     out: &mut [u8],
 ) -> usize
-    requires { ⌜ AnswerListable ran (now outcomes) (now out) ⌝ }
-    ensures { λ n. ⌜ AnswerListed ran (now (outcomes .entry)) (now (words .entry)) (now (out .entry)) (now (out .exit)) n ⌝ }
+    requires { ⌜ ListReady (now state) (now outcomes) (now out) ⌝ }
+    ensures { λ n. ⌜ Listed (listing (now (file .entry))) (now (out .entry)) (now (out .exit)) n ⌝ }
 {
-    match ran {
-        RunAnswer::Ran(accepted, refused, issued) => lister::list_run(
-            out,
-            outcomes,
-            (accepted + refused) as usize,
-            words,
-            issued as usize,
-            accepted,
-            refused,
-        ),
-        RunAnswer::Refused(number, place) => lister::list_fault(out, number, place),
-    }
+    let commands = file.len();
+    let e = no_entry();
+    let mut ledger = [e; rules::TERM_LIMIT];
+    let done = runs::run(
+        file,
+        commands,
+        rules::TERM_LIMIT,
+        state,
+        &mut ledger,
+        outcomes,
+        tables,
+    );
+    let at = head(done, outcomes, out);
+    let count = entries_of(done);
+    let next = lister::entries_into(&ledger, out, at, count);
+    last(done, out, next)
 }
 
 // Fills a buffer with the listing of a file. Answers how many bytes it has.
@@ -38,19 +95,8 @@ pub fn list_into(file: &[u8], out: &mut [u8]) -> usize
 {
     let mut state = [0u8; rules::STATE_BYTES];
     let mut outcomes = [0u8; rules::COMMAND_LIMIT];
-    let mut words = [0u16; entries::WORDS];
     let mut tables = [0u16; tables::WORDS];
-    let done = engine::run(
-        file,
-        file.len(),
-        rules::TERM_LIMIT,
-        &mut state,
-        &mut outcomes,
-        &mut words,
-        &mut tables,
-    );
-    let ran = done.answer;
-    list_answer(ran, &outcomes, &words, out)
+    list_with(file, &mut state, &mut outcomes, &mut tables, out)
 }
 
 // Prints the listing of a file.

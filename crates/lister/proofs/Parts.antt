@@ -1,11 +1,12 @@
 -- The parts of a listing, one line more at a time.
---     refusals-start, entries-start     no lines
---     refusals-next, entries-next     the lines so far, and the next
+--     refusals-start     no lines
+--     refusals-next     the lines so far, and the next
+--     Lines, lines-start, lines-room, lines-next, lines-end     those of a ledger's entries
 -- Assumes nothing.
 use mathlib.Core.Bool.{cond}
-use mathlib.Core.Path.{_≡_, refl, ap, sym, _∙_}
+use mathlib.Core.Path.{_≡_, refl, ap, sym, subst, _∙_}
 use mathlib.Core.List.{List, [], _∷_, _++_, append-assoc, append-nil}
-use Prim.Native.Nat.{ℕ, suc, _+_, _<_}
+use Prim.Native.Nat.{ℕ, suc, _+_, _*_, _<_, _≤_}
 use native.Mathlib.Omega.{arith}
 use lib.Dec.{eqb}
 use lib.ListN.{length, getD, take}
@@ -13,9 +14,10 @@ use lib.Seq.{take-suc, length-take-le}
 use Rattle.rules.specs.declared.Entry.{Entry}
 use Rattle.rules.specs.Listing.{line, refusalLines, entryLines}
 use Rattle.decimal.specs.Text.{Written}
-use Rattle.entries.specs.Words.{entriesIn}
+use Rattle.rules.specs.Lent.{noEntry}
 use Rattle.lister.specs.Parts.{outcomeLine, entryLine}
-use Rattle.decimal.proofs.Writing.{written-none, written-then}
+use Rattle.decimal.proofs.Writing.{written-none, written-then, written-length}
+use Rattle.lister.specs.Text.{entryBytes}
 
 refusals-append : (xs ys : List ℕ) (i : ℕ) → refusalLines i (xs ++ ys) ≡ refusalLines i xs ++ refusalLines (i + length xs) ys
 unfolding refusalLines
@@ -40,28 +42,47 @@ refusals-suc xs i h =
     ∙ refusals-append (take i xs) (getD xs i 0 ∷ []) 0
     ∙ ap (λ (l : List ℕ). refusalLines 0 (take i xs) ++ l) (append-nil _ ∙ ap (λ (k : ℕ). outcomeLine k (getD xs i 0)) e)
 
-entries-suc : (xs : List ℕ) (i : ℕ) → entryLines (entriesIn xs (suc i)) ≡ entryLines (entriesIn xs i) ++ entryLine xs i
-unfolding entryLines entriesIn
-entries-suc xs i =
-    entries-append (entriesIn xs i) _
-    ∙ ap (λ (l : List ℕ). entryLines (entriesIn xs i) ++ l) (append-nil _)
+entries-suc : (xs : List Entry) (i : ℕ) → i < length xs → entryLines (take (suc i) xs) ≡ entryLines (take i xs) ++ entryLine (getD xs i noEntry)
+unfolding entryLines
+entries-suc xs i h =
+    ap entryLines (take-suc xs i noEntry h) ∙ entries-append (take i xs) (getD xs i noEntry ∷ [])
+    ∙ ap (λ (l : List ℕ). entryLines (take i xs) ++ l) (append-nil (entryLine (getD xs i noEntry)))
+
+-- the lines of the first i entries are written
+pub record Lines (l : List Entry) (out₀ : List ℕ) (at issued i : ℕ) (out : List ℕ) (next : ℕ) : Type 0 where
+  pub within : i ≤ issued
+  pub near : next ≤ at + entryBytes * i
+  pub written : Written out₀ at (entryLines (take i l)) out next
+
+pub lines-start : (l : List Entry) (out : List ℕ) (at issued : ℕ) → Lines l out at issued 0 out at
+unfolding entryLines
+lines-start l out at issued = record { within = omega arith; near = omega arith; written = written-none out at }
+
+module _ {l : List Entry} {out₀ : List ℕ} {at issued i : ℕ} {out : List ℕ} {next : ℕ} (w : Lines l out₀ at issued i out next) where
+  pub lines-room : i < issued → at + entryBytes * issued ≤ length out₀ → next + entryBytes ≤ length out
+  lines-room h r = omega (arith, w .near, h, r, written-length (w .written))
+
+  pub lines-next : i < issued → issued ≤ length l → {e : Entry} → e ≡ getD l i noEntry → {out′ : List ℕ} {next′ : ℕ} → Written out next (entryLine e) out′ next′ → next′ ≤ next + entryBytes → Lines l out₀ at issued (i + 1) out′ next′
+  lines-next h k {e} read {out′} {next′} v n =
+      let q : i + 1 ≡ suc i = omega arith in
+      record {
+        within = omega (arith, h);
+        near = omega (arith, w .near, n);
+        written = rw (q, entries-suc l i (omega (arith, h, k))) (written-then (w .written) (subst (λ (d : Entry). Written out next (entryLine d) out′ next′) read v));
+      }
+
+  pub lines-end : issued ≤ i → Written out₀ at (entryLines (take issued l)) out next × (next ≤ at + entryBytes * issued)
+  lines-end h =
+      let q : i ≡ issued = omega (arith, h, w .within) in
+      (subst (λ (k : ℕ). Written out₀ at (entryLines (take k l)) out next) q (w .written), omega (arith, w .near, q))
 
 module _ (out₀ : List ℕ) (at : ℕ) (xs : List ℕ) where
   pub refusals-start : Written out₀ at (refusalLines 0 (take 0 xs)) out₀ at
   unfolding refusalLines
   refusals-start = written-none out₀ at
 
-  pub entries-start : Written out₀ at (entryLines (entriesIn xs 0)) out₀ at
-  unfolding entryLines entriesIn
-  entries-start = written-none out₀ at
-
   module _ {out out′ : List ℕ} {next next′ : ℕ} (i : ℕ) where
     pub refusals-next : i < length xs → Written out₀ at (refusalLines 0 (take i xs)) out next → Written out next (outcomeLine i (getD xs i 0)) out′ next′ → Written out₀ at (refusalLines 0 (take (i + 1) xs)) out′ next′
     refusals-next h v w =
         let e : i + 1 ≡ suc i = omega arith in
         rw (e, refusals-suc xs i h) (written-then v w)
-
-    pub entries-next : Written out₀ at (entryLines (entriesIn xs i)) out next → Written out next (entryLine xs i) out′ next′ → Written out₀ at (entryLines (entriesIn xs (i + 1))) out′ next′
-    entries-next v w =
-        let e : i + 1 ≡ suc i = omega arith in
-        rw (e, entries-suc xs i) (written-then v w)

@@ -1,4 +1,5 @@
 // The listing as bytes.
+use rules::Entry;
 ghost use mathlib.Core.Path.{_≡_};
 ghost use mathlib.Core.List.{[], _∷_};
 ghost use Prim.Native.Nat.{_+_, _*_, _<_, _≤_};
@@ -6,9 +7,8 @@ ghost use lib.ListN.{length, take};
 ghost use Rattle.rules.specs.Limits.{commandLimit, termLimit};
 ghost use Rattle.rules.specs.Listing.{decimal, line, refusalLines, entryLines};
 ghost use Rattle.decimal.specs.Text.{Room, Written};
-ghost use Rattle.lister.specs.Text.{refusalBytes, entryBytes, totalBytes, faultBytes, listingBytes, Listed};
-ghost use Rattle.entries.specs.Words.{entriesIn};
-ghost use Rattle.lister.specs.Parts.{outcomeLine, entryLine, runLines, Listable};
+ghost use Rattle.lister.specs.Text.{refusalBytes, entryBytes, totalBytes, faultBytes};
+ghost use Rattle.lister.specs.Parts.{outcomeLine, entryLine};
 
 // Bytes that are enough for the listing of every file.
 pub const LISTING_BYTES: usize = rules::COMMAND_LIMIT * 11 + rules::TERM_LIMIT * 20 + 29;
@@ -71,7 +71,7 @@ fn entry_line(out: &mut [u8], at: usize, certificate: u16, parent: u16, depth: u
 }
 
 // "T accepted refused issued".
-fn total_line(out: &mut [u8], at: usize, accepted: u32, refused: u32, issued: usize) -> usize
+pub fn total_line(out: &mut [u8], at: usize, accepted: u32, refused: u32, issued: usize) -> usize
     requires { ⌜ (issued ≤ termLimit) × (at + totalBytes ≤ length (now out)) ⌝ }
     ensures { λ r. ⌜ Written (now (out .entry)) at (line 0x54 (accepted ∷ refused ∷ issued ∷ [])) (now (out .exit)) r ⌝ }
     ensures { λ r. ⌜ r ≤ at + totalBytes ⌝ }
@@ -87,7 +87,7 @@ fn total_line(out: &mut [u8], at: usize, accepted: u32, refused: u32, issued: us
 }
 
 // "F number place".
-fn fault_line(out: &mut [u8], at: usize, number: u32, place: u32) -> usize
+pub fn fault_line(out: &mut [u8], at: usize, number: u32, place: u32) -> usize
     requires { ⌜ at + faultBytes ≤ length (now out) ⌝ }
     ensures { λ r. ⌜ Written (now (out .entry)) at (line 0x46 (number ∷ place ∷ [])) (now (out .exit)) r ⌝ }
     ensures { λ r. ⌜ r ≤ at + faultBytes ⌝ }
@@ -122,60 +122,25 @@ pub fn refusals_into(out: &mut [u8], at: usize, outcomes: &[u8], n: usize) -> us
     next
 }
 
-// The line of the entry at a place of the ledger.
-fn ledger_line(out: &mut [u8], at: usize, ledger: &[u16; entries::WORDS], i: usize) -> usize
-    requires { ⌜ (i < termLimit) × (at + entryBytes ≤ length (now out)) ⌝ }
-    ensures { λ r. ⌜ Written (now (out .entry)) at (entryLine (now (ledger .entry)) i) (now (out .exit)) r ⌝ }
-    ensures { λ r. ⌜ r ≤ at + entryBytes ⌝ }
+// The line of an entry.
+pub fn ledger_line(out: &mut [u8], at: usize, e: Entry) -> usize
+    requires { ⌜ at + entryBytes ≤ length (now out) ⌝ }
+    ensures { λ r. ⌜ Written (now (out .entry)) at (entryLine e) (now (out .exit)) r × (r ≤ at + entryBytes) ⌝ }
 {
-    let certificate = entries::certificate_of(ledger, i);
-    let parent = entries::parent_of(ledger, i);
-    let depth = entries::depth_of(ledger, i);
-    entry_line(out, at, certificate, parent, depth)
+    entry_line(out, at, e.certificate, e.parent, e.depth)
 }
 
-// The lines of a ledger's entries.
-pub fn entries_into(
-    out: &mut [u8],
-    at: usize,
-    ledger: &[u16; entries::WORDS],
-    issued: usize,
-) -> usize
-    requires { ⌜ (issued ≤ termLimit) × (at + entryBytes * issued ≤ length (now out)) ⌝ }
-    ensures { λ r. ⌜ Written (now (out .entry)) at (entryLines (entriesIn (now (ledger .entry)) issued)) (now (out .exit)) r ⌝ }
-    ensures { λ r. ⌜ r ≤ at + entryBytes * issued ⌝ }
+// The lines of the first entries of a ledger, walked by hand.
+pub fn entries_into(ledger: &[Entry], out: &mut [u8], at: usize, issued: usize) -> usize
+    requires { ⌜ (issued ≤ length (now ledger)) × (at + entryBytes * issued ≤ length (now out)) ⌝ }
+    ensures { λ r. ⌜ Written (now (out .entry)) at (entryLines (take issued (now (ledger .entry)))) (now (out .exit)) r × (r ≤ at + entryBytes * issued) ⌝ }
 {
     let mut next = at;
-    let mut i: usize = 0;
+    let mut i = 0;
     while i < issued {
-        next = ledger_line(out, next, ledger, i);
+        let e = ledger::read_one(ledger, i);
+        next = ledger_line(out, next, e);
         i += 1;
     }
     next
-}
-
-// The listing of a run: the outcomes of its commands, the ledger and the totals. Answers how many bytes it has.
-pub fn list_run(
-    out: &mut [u8],
-    outcomes: &[u8],
-    commands: usize,
-    ledger: &[u16; entries::WORDS],
-    issued: usize,
-    accepted: u32,
-    refused: u32,
-) -> usize
-    requires { ⌜ Listable (now outcomes) commands issued (now out) ⌝ }
-    ensures { λ r. ⌜ Listed (runLines (now (outcomes .entry)) commands (now (ledger .entry)) issued accepted refused) (now (out .entry)) (now (out .exit)) r ⌝ }
-{
-    let entries = refusals_into(out, 0, outcomes, commands);
-    let total = entries_into(out, entries, ledger, issued);
-    total_line(out, total, accepted, refused, issued)
-}
-
-// The listing of a file that is not loaded.
-pub fn list_fault(out: &mut [u8], number: u32, place: u32) -> usize
-    requires { ⌜ listingBytes ≤ length (now out) ⌝ }
-    ensures { λ r. ⌜ Listed (line 0x46 (number ∷ place ∷ [])) (now (out .entry)) (now (out .exit)) r ⌝ }
-{
-    fault_line(out, 0, number, place)
 }

@@ -76,7 +76,7 @@ module _ (f : File) (l : List Entry) (b : Boards) (w : Boarded f b l) (ek : ℕ)
       ∙ allowed-one one m (omega arith)
       ∙ ap (λ (t : ℕ). eqb t ek) (ap (λ (t : ℕ). b .ek (t - 1)) (sym k) ∙ sym h))
 
-pub entered-falls : {tables words : List ℕ} → Entered tables words → Falls (tablesIn tables .boards) termLimit
+pub entered-falls : {tables : List ℕ} → Entered tables → Falls (tablesIn tables .boards) termLimit
 entered-falls (n, l, e) = record { newest = λ i. omega (arith, e .falls .newest i, e .few); earlier = e .falls .earlier }
 
 pub boarded-none : (f : File) (b : Boards) → Unlinked b → Boarded f b []

@@ -1,10 +1,9 @@
 -- The ledger by the places of its entries.
---     entry-at                         the entry at a place of the words
 --     listed-entry                     a listed certificate has an entry
 --     entry-inside, entry-most         the tables' column of places stays within the ledger
 --     column-none, column-listed, column-some     whether a certificate is listed, by that column
 --     entry-listed                     its entry
---     depth-read, parent-read, parent-none     its depth and parent
+--     parent-read, parent-none         its parent
 -- Assumes nothing.
 use mathlib.Core.Path.{_≡_, refl, sym, ap, _∙_}
 use mathlib.Core.Bool.{Bool, true, false, cond, not, _||_}
@@ -21,8 +20,6 @@ use Rattle.rules.specs.Limits.{termLimit}
 use Rattle.rules.specs.State.{listed, depthOf, parentOf}
 use Rattle.rules.specs.Lent.{noEntry}
 use Rattle.tables.specs.Regions.{tablesIn}
-use Rattle.entries.specs.Words.{entryIn, entriesIn}
-use Rattle.entries.proofs.Words.{entries-length}
 use Rattle.loaded.specs.Entries.{entryFrom, Enters}
 
 -- the first entry of a certificate; zeros where there is none
@@ -64,26 +61,6 @@ entry-placed (y ∷ es) i c x e = go (eqb (y .certificate) c) e (entry-placed es
         (λ w. let z : suc (x - suc (suc i)) ≡ x - suc i = omega (arith, w .0) in inr (omega (arith, w .0), omega (arith, w .1), w .2 ∙ ap (λ (k : ℕ). getD (y ∷ es) k noEntry) z))
         (more q)
 
--- the entries of the words, one by one
-last-entry : (es : List Entry) (e : Entry) (n : ℕ) → length es ≡ n → getD (es ++ (e ∷ [])) n noEntry ≡ e
-last-entry [] e zero q = refl
-last-entry [] e (suc n) q = absurd (omega arith)
-last-entry (x ∷ es) e zero q = absurd (omega arith)
-last-entry (x ∷ es) e (suc n) q = last-entry es e n (omega arith)
-
-pub entry-at : (words : List ℕ) (n j : ℕ) → j < n → getD (entriesIn words n) j noEntry ≡ entryIn words j
-unfolding entriesIn
-entry-at words zero j l = absurd (omega arith)
-entry-at words (suc n) j l = go (eqb j n) refl (entry-at words n j)
-  where
-    go : (b : Bool) → eqb j n ≡ b → (j < n → getD (entriesIn words n) j noEntry ≡ entryIn words j) → getD (entriesIn words n ++ (entryIn words n ∷ [])) j noEntry ≡ entryIn words j
-    go true q more =
-        let e = eqb-true j n q in
-        ap (λ (k : ℕ). getD (entriesIn words n ++ (entryIn words n ∷ [])) k noEntry) e ∙ last-entry (entriesIn words n) (entryIn words n) n (entries-length words n) ∙ ap (entryIn words) (sym e)
-    go false q more =
-        let m = eqb-false j n q in
-        List·getD-append (entriesIn words n) (entryIn words n ∷ []) noEntry j (omega (arith, entries-length words n)) ∙ more (omega arith)
-
 pub listed-entry : (es : List Entry) (i c : ℕ) → listed es c ≡ not (eqb (entryFrom i es c) 0)
 unfolding listed entryFrom
 listed-entry [] i c = refl
@@ -111,9 +88,9 @@ entry-there (y ∷ es) i c x e l = go (eqb (y .certificate) c) refl e (λ q. ent
         (omega arith, w .1, ap (getElem? (y ∷ es)) (let z : x - suc i ≡ suc (x - suc (suc i)) = omega arith in z) ∙ w .2, w .3, w .4)
 
 -- by the tables' column
-module _ {tables words : List ℕ} {n : ℕ} {ledger : List Entry} (t : ℕ) (e : Enters tables words n ledger) where
+module _ {tables : List ℕ} {n : ℕ} {ledger : List Entry} (t : ℕ) (e : Enters tables n ledger) where
   pub ledger-length : length ledger ≡ n
-  ledger-length = ap length (e .same) ∙ entries-length words n
+  ledger-length = e .count
 
   placed : (x : ℕ) → x ≡ tablesIn tables .entry t → Placed ledger 0 x (entryOf ledger t)
   placed x q = entry-placed ledger 0 t x (sym (e .place t) ∙ sym q)
@@ -139,19 +116,12 @@ module _ {tables words : List ℕ} {n : ℕ} {ledger : List Entry} (t : ℕ) (e 
   pub entry-listed : 0 < tablesIn tables .entry t → (g : Entry) × (getElem? ledger (tablesIn tables .entry t - 1) ≡ some g) × (g .certificate ≡ t) × (g .depth ≡ depthOf ledger t)
   entry-listed l = let w = entry-there ledger 0 t (tablesIn tables .entry t) (sym (e .place t)) l in (w .1, w .2, w .3, w .4)
 
-  entry-read : (x : ℕ) → x ≡ tablesIn tables .entry t → 0 < x → entryIn words (x - 1) ≡ entryOf ledger t
-  entry-read x q l =
+  -- its entry's parent
+  pub parent-read : 0 < tablesIn tables .entry t → getD ledger (tablesIn tables .entry t - 1) noEntry .parent ≡ parentOf ledger t
+  parent-read l =
       ⊎-elim (λ w. absurd (omega (arith, w .0)))
-      (λ w.
-      let m = ledger-length in
-      sym (w .2 ∙ ap (λ (es : List Entry). getD es (x - 1) noEntry) (e .same) ∙ entry-at words n (x - 1) (omega (arith, w .1))))
-      (placed x q)
-
-  pub depth-read : {x : ℕ} → x ≡ tablesIn tables .entry t → 0 < x → entryIn words (x - 1) .depth ≡ depthOf ledger t
-  depth-read {x} q l = ap (λ (z : Entry). z .depth) (entry-read x q l) ∙ sym (depth-of-entry ledger t)
-
-  pub parent-read : {x : ℕ} → x ≡ tablesIn tables .entry t → 0 < x → entryIn words (x - 1) .parent ≡ parentOf ledger t
-  parent-read {x} q l = ap (λ (z : Entry). z .parent) (entry-read x q l) ∙ sym (parent-of-entry ledger t)
+      (λ w. sym (parent-of-entry ledger t ∙ ap (λ (z : Entry). z .parent) (w .2)))
+      (placed (tablesIn tables .entry t) refl)
 
   pub parent-none : tablesIn tables .entry t ≡ 0 → 0 ≡ parentOf ledger t
   parent-none z =

@@ -60,6 +60,7 @@ module _ (bytes s signers : List ℕ) (r : Scanned) (found : ScanResult bytes s 
           ∙ ap (λ (column : ℕ → ℕ). passes test (column k)) (sym (signed .half));
       declared = λ k. let e = ap (λ (column : ℕ → ℕ). column k) (signed .half) in omega (arith, half-most k, d .termsAre, e);
       entry = λ t. ap (λ (column : ℕ → ℕ). column t) (signed .entry) ∙ indexed .unlisted t;
+      depth = λ t. ap (λ (column : ℕ → ℕ). column t) (signed .depth) ∙ indexed .shallow t;
       unlinked = subst⁻¹ Unlinked (signed .boards) (indexed .unlinked);
       words = signed .words ∙ indexed .words;
     }

@@ -20,6 +20,7 @@ pub record Tabled (f : File) (v : Tables) : Type 0 where
   pub half : (test : ℕ → Bool) (k : ℕ) → k < length (f .terms) → halfIn f test k ≡ passes test (v .half k)
   pub declared : (k : ℕ) → v .half k ≤ length (f .terms)
   pub entry : (t : ℕ) → v .entry t ≡ 0
+  pub depth : (t : ℕ) → v .depth t ≡ 0
   pub unlinked : Unlinked (v .boards)
   pub words : v .words ≡ tableWords
 
@@ -48,5 +49,6 @@ pub record Signed (signers : List ℕ) (v w : Tables) (n : ℕ) : Type 0 where
   pub signer : (p : ℕ) → p < n → w .signer p ≡ getD signers p 0
   pub half : w .half ≡ v .half
   pub entry : w .entry ≡ v .entry
+  pub depth : w .depth ≡ v .depth
   pub boards : w .boards ≡ v .boards
   pub words : w .words ≡ v .words

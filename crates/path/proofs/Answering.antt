@@ -1,47 +1,82 @@
 -- Path by what Run gives: its answer, the buffers and the list.
---     path-short     a list that is too short leaves all untouched
---     askable        a run's ledger is one in which paths are found
---     refused-answers     a refusal of the run is Path's
+--     room-fits, first-ready, climb-ready, answer-ready     what a run leaves is what Path needs
 --     path-ran       what a run and the path by its ledger leave is what the rules say
 -- Assumes nothing.
-use mathlib.Core.Path.{_≡_, refl, sym, ap, subst, _∙_}
-use mathlib.Core.Bool.{Bool, true, false, cond, _&&_}
-use mathlib.Core.List.{List}
-use Prim.Native.Nat.{ℕ, _<_, _≤_}
+use mathlib.Core.Path.{_≡_, refl, sym, ap, subst, subst⁻¹, _∙_}
+use mathlib.Core.Bool.{Bool, true, false, cond, _&&_, _||_}
+use mathlib.Core.List.{List, [], _∷_, _++_}
+use Prim.Native.Nat.{ℕ, zero, suc, _+_, _-_, _^_, _<_, _≤_}
 use native.Mathlib.Omega.{arith}
-use lib.Dec.{leb}
-use lib.ListN.{length, replicate}
-use borrow.Author.Tests.{le-leb, lt-leb}
+use native.Mathlib.Decide.{decLt}
+use lib.Dec.{eqb, leb}
+use lib.ListN.{length, drop}
+use lib.Seq.{sets, sets-eq}
+use borrow.Author.Tests.{eq-eqb, ne-eqb, le-leb, lt-leb}
 use Rattle.rules.specs.declared.Entry.{Entry}
-use Rattle.rules.specs.declared.RunAnswer.{RunAnswer}
-use Rattle.rules.specs.declared.RunAnswer.the-variants as ran
 use Rattle.rules.specs.declared.PathAnswer.{PathAnswer}
-use Rattle.rules.specs.declared.PathAnswer.the-variants as path
-use Rattle.rules.specs.Limits.{pathPlaces}
-use Rattle.rules.specs.File.{File}
-use Rattle.rules.specs.Load.{loaded, refused, load}
-use Rattle.rules.specs.Run.{reached, issued}
-use Rattle.rules.specs.Lent.{refusal, runInNumbers, pathInNumbers, Lent, longEnough, answered, runAnswer, runLeaves, asked, stepsFrom, pathAnswer, pathBuffers, pathWritten, pathListed, pathLeaves}
+use Rattle.rules.specs.Limits.{fileLimit, termLimit, commandLimit, stateBytes, depthLimit, pathPlaces}
+use Rattle.rules.specs.Load.{Load, loaded, refused, load}
+use Rattle.rules.specs.State.{listed, depthOf, parentOf}
+use Rattle.rules.specs.Run.{reached}
+use Rattle.rules.specs.Lent.{Answer, success, refusal, pathInNumbers, Lent, longEnough, answered, runAnswer, runLeaves, asked, steps, stepsFrom, pathAnswer, pathBuffers, pathWritten, pathListed, pathLeaves}
 use Rattle.theorems.proofs.Ledgers.{listed-found}
-use Rattle.entries.specs.Words.{ledgerWords, entriesIn, ledgerOf}
-use Rattle.loaded.specs.Entries.{Enters}
-use Rattle.commands.specs.Standing.{Stands}
-use Rattle.engine.specs.declared.Answered.{Answered}
-use Rattle.engine.specs.Runs.{gained, Left, Ran}
-use Rattle.engine.proofs.Ended.{ledger-none}
-use Rattle.engine.proofs.Answers.{answered-refusal, run-by, ran-loaded, ledger-read}
-use Rattle.path.specs.Finding.{foundIn, listedIn}
-use Rattle.path.specs.Paths.{Askable, Answers, PathRan}
+use Rattle.tables.specs.Regions.{tablesIn}
+use Rattle.loaded.specs.Loaded.{fileIn}
+use Rattle.loaded.proofs.Ledger.{column-none, column-listed}
+use Rattle.turns.specs.declared.Begun.{Begun}
+use Rattle.engine.specs.Begins.{roomy, stops}
+use Rattle.engine.specs.Runs.{lentWith}
+use Rattle.runs.specs.declared.Finished.{Finished}
+use Rattle.runs.specs.Raw.{ranIn, Ran, Runs, Stood}
+use Rattle.runs.proofs.Whole.{run-left, run-stood, near-place, run-short}
+use Rattle.path.specs.declared.Stage.{Stage}
+use Rattle.path.specs.Climbing.{placeAt, climbed, firstLength, FirstReady, firstStage, ClimbReady, AnswerReady, Answers}
+use Rattle.path.proofs.Climbing.{climbed-none, climbed-steps}
+
+-- the places asked for are there
+pub room-fits : (list room : ℕ) {k : ℕ} → k ≡ cond (leb pathPlaces list) room 0 → k ≤ room
+room-fits list room {k} e = go (leb pathPlaces list) e
+  where
+    go : (b : Bool) → k ≡ cond b room 0 → k ≤ room
+    go true q = omega (arith, q)
+    go false q = omega (arith, q)
 
 -- a test that fails, behind another
 second-fails : (a b : Bool) → b ≡ false → a && b ≡ false
 second-fails true b e = e
 second-fails false b e = refl
 
+-- a ledger of no places is too short
+no-room : (a c : ℕ) → roomy a 0 c ≡ false
+no-room a c = go (leb stateBytes a) (leb commandLimit c)
+  where
+    go : (x y : Bool) → x && leb termLimit 0 && y ≡ false
+    go true y = rw (lt-leb termLimit 0 (omega arith)) refl
+    go false y = refl
+
+steps-length : (ledger : List Entry) (n c : ℕ) → length (steps ledger n c) ≡ n + 1
+unfolding steps
+steps-length ledger zero c = refl
+steps-length ledger (suc n) c = omega (arith, steps-length ledger n (parentOf ledger c))
+
 -- a refusal of loading is Path's
+answered-refusal : (n : ℕ) (l : Load) (number place : ℕ) → refusal number place ≡ answered n l → l ≡ refused number place
+unfolding answered
+answered-refusal n (loaded f) number place e = absurd (let z : _≡_ {A = ℕ} 0 3 = ap (λ (x : Answer). length (x .values)) e in omega arith)
+answered-refusal n (refused m at) number place e = sym (λ k. refused (e k .number) (e k .place))
+
 refused-is : (n t number place : ℕ) (list : List ℕ) → (refusal number place ≡ asked (stepsFrom t) n (refused number place)) × (list ≡ pathListed n t list (refused number place))
 unfolding asked pathListed
 refused-is n t number place list = (refl, refl)
+
+run-by : (bs : List ℕ) (n : ℕ) (lent : Lent) (b : Bool) → longEnough lent ≡ b → runAnswer bs n lent ≡ cond b (answered n (load bs)) (refusal 1 0)
+unfolding runAnswer
+run-by bs n lent b e = rw e refl
+
+-- the whole promise
+abbrev pub PathRan : List ℕ → ℕ → Lent → ℕ → List ℕ → List ℕ → List Entry → List ℕ → List ℕ → PathAnswer → Type 0
+PathRan bs n lent t list s l out list′ x =
+    (pathInNumbers x ≡ pathAnswer bs n lent t list) × (s ≡ pathBuffers bs n lent t list .state) × (l ≡ pathBuffers bs n lent t list .ledger) × (out ≡ pathBuffers bs n lent t list .outcomes) × (list′ ≡ pathLeaves bs n lent t list)
 
 module _ (bs : List ℕ) (n : ℕ) (lent : Lent) (t : ℕ) (list : List ℕ) where
   -- too short a list
@@ -57,17 +92,6 @@ module _ (bs : List ℕ) (n : ℕ) (lent : Lent) (t : ℕ) (list : List ℕ) whe
     no-list : list ≡ pathLeaves bs n lent t list
     unfolding pathLeaves
     no-list = sym (ap (λ (b : Bool). cond b (pathListed n t list (load bs)) list) (second-fails (longEnough lent) (leb pathPlaces (length list)) (lt-leb pathPlaces (length list) short)))
-
-    pub path-short : PathRan bs n lent t list (lent .state) (lent .outcomes) list (replicate ledgerWords 0) (record { places = 0; answer = path.Refused 1 0 })
-    unfolding pathInNumbers
-    path-short = record {
-      answer = no-answer;
-      state = ap (λ (x : Lent). x .state) no-buffers;
-      outcomes = ap (λ (x : Lent). x .outcomes) no-buffers;
-      steps = no-list;
-      words = rw (lt-leb pathPlaces (length list) short) ledger-none;
-      places = rw (lt-leb pathPlaces (length list) short) refl;
-    }
 
   -- a list that is long enough
   module _ (long : pathPlaces ≤ length list) where
@@ -97,59 +121,169 @@ module _ (bs : List ℕ) (n : ℕ) (lent : Lent) (t : ℕ) (list : List ℕ) whe
         (w .0 ∙ sym (answer-by true e ∙ ap (asked (stepsFrom t) n) l), w .1 ∙ sym (list-by true e ∙ ap (pathListed n t list) l))
     refused-by false e number place q = (q ∙ sym (answer-by false e), sym (list-by false e))
 
-    refused-path : (number place : ℕ) → runInNumbers (ran.Refused number place) ≡ runAnswer bs n lent → (refusal number place ≡ pathAnswer bs n lent t list) × (list ≡ pathLeaves bs n lent t list)
-    unfolding runInNumbers
+    refused-path : (number place : ℕ) → refusal number place ≡ runAnswer bs n lent → (refusal number place ≡ pathAnswer bs n lent t list) × (list ≡ pathLeaves bs n lent t list)
     refused-path number place q = refused-by (longEnough lent) refl number place (q ∙ run-by bs n lent (longEnough lent) refl)
 
-    -- the ledger of a run
-    module _ (tables w s : List ℕ) (a r i : ℕ) (q : runInNumbers (ran.Ran a r i) ≡ runAnswer bs n lent) (same : w ≡ ledgerOf (gained bs n lent)) (stands : Stands bs s tables w i) where
-      ledger-is : (f : File) → load bs ≡ loaded f → i ≡ issued f n → longEnough lent ≡ true → Enters tables w i (reached f n .ledger)
-      ledger-is f l k e = subst (Enters tables w i) (ledger-read bs n lent f l e same k) (stands .enters)
+    -- of a file that loads
+    ran-path : (e : longEnough lent ≡ true) (l : load bs ≡ loaded (fileIn bs))
+        → (pathAnswer bs n lent t list ≡ cond (listed (reached (fileIn bs) n .ledger) t) (success (depthOf (reached (fileIn bs) n .ledger) t ∷ [])) (refusal 30 t))
+        × (pathLeaves bs n lent t list ≡ cond (listed (reached (fileIn bs) n .ledger) t) (steps (reached (fileIn bs) n .ledger) (depthOf (reached (fileIn bs) n .ledger) t) t ++ drop (depthOf (reached (fileIn bs) n .ledger) t + 1) list) list)
+    unfolding asked stepsFrom pathListed pathWritten
+    ran-path e l = (answer-by true e ∙ ap (asked (stepsFrom t) n) l, list-by true e ∙ ap (pathListed n t list) l)
 
-      -- Path finds it there
-      ran-path : {list′ : List ℕ} (x : PathAnswer) → ((m : ℕ) (ledger : List Entry) → Enters tables w m ledger → (pathInNumbers x ≡ foundIn ledger t) × (list′ ≡ listedIn ledger t list))
-          → (pathInNumbers x ≡ pathAnswer bs n lent t list) × (list′ ≡ pathLeaves bs n lent t list)
-      unfolding asked stepsFrom pathListed pathWritten
-      ran-path x h =
-          let ((f, l, _, _, k), e) = ran-loaded bs n lent a r i q in
-          let d = h i (reached f n .ledger) (ledger-is f l k e) in
-          (d .0 ∙ sym (answer-by true e ∙ ap (asked (stepsFrom t) n) l), d .1 ∙ sym (list-by true e ∙ ap (pathListed n t list) l))
+-- what the rules say of a run that stood
+module _ {bs : List ℕ} {n : ℕ} {lent : Lent} {s : List ℕ} {l : List Entry} {tables : List ℕ} {r : Finished} (w : Stood bs n lent s l tables r) (t : ℕ) where
+  abbrev ledger : List Entry
+  ledger = reached (fileIn bs) n .ledger
 
--- a run's ledger is one in which paths are found
-pub askable : (x : RunAnswer) (n parties terms : ℕ) (bs s tables words list : List ℕ) → Left bs n s tables words x parties terms → pathPlaces ≤ length list → Askable x tables words list
-askable (ran.Ran a r i) n parties terms bs s tables words list w long =
-    let stands = w a r i refl .stands in
-    record {
-      count = i;
-      ledger = entriesIn words i;
-      enters = stands .enters;
-      shallow = λ c l. let m = listed-found (entriesIn words i) c l in omega (arith, m .depth, stands .kept .sound .entries (m .place) (m .entry) (m .here) .most);
-      room = long;
+  deep : tablesIn tables .depth t ≡ depthOf ledger t
+  deep = w .stands .enters .depth t
+
+  shallow : listed ledger t ≡ true → depthOf ledger t ≤ depthLimit
+  shallow g = let m = listed-found ledger t g in omega (arith, m .depth, w .stands .kept .sound .entries (m .place) (m .entry) (m .here) .most)
+
+  none-deep : (es : List Entry) → listed es t ≡ false → depthOf es t ≡ 0
+  unfolding listed depthOf
+  none-deep [] h = refl
+  none-deep (e ∷ es) h = go (eqb (e .certificate) t) h (none-deep es)
+    where
+      go : (b : Bool) → (b || listed es t) ≡ false → (listed es t ≡ false → depthOf es t ≡ 0) → cond b (e .depth) (depthOf es t) ≡ 0
+      go true q more = absurd (let z : _≡_ {A = ℕ} 1 0 = ap (λ (b : Bool). cond b 1 0) q in omega arith)
+      go false q more = more q
+
+  depth-most : tablesIn tables .depth t ≤ depthLimit
+  depth-most = go (listed ledger t) refl
+    where
+      go : (b : Bool) → listed ledger t ≡ b → tablesIn tables .depth t ≤ depthLimit
+      go true q = omega (arith, deep, shallow q)
+      go false q = omega (arith, deep, none-deep ledger q)
+
+module _ (bs : List ℕ) (n room : ℕ) (s : List ℕ) (l : List Entry) (out s′ : List ℕ) {l′ : List Entry} {out′ tables : List ℕ} {r : Finished} (list : List ℕ) (t : ℕ) (asked-for : room ≡ cond (leb pathPlaces (length list)) (length l) 0)
+    (w : Runs bs n room s l out s′ l′ out′ tables r) (ls : length s′ ≡ length s) where
+  abbrev lent : Lent
+  lent = lentWith s l out
+
+  whole : pathPlaces ≤ length list → Runs bs n (length l) s l out s′ l′ out′ tables r
+  whole long = subst (λ (m : ℕ). Runs bs n m s l out s′ l′ out′ tables r) (asked-for ∙ ap (λ (b : Bool). cond b (length l) 0) (le-leb pathPlaces (length list) long)) w
+
+  none : length list < pathPlaces → (r .begun ≡ stops 1) × ((s′ ≡ s) × ((l′ ≡ l) × (out′ ≡ out)))
+  none short =
+      let z : room ≡ 0 = asked-for ∙ ap (λ (b : Bool). cond b (length l) 0) (lt-leb pathPlaces (length list) short) in
+      run-short bs n room s l out s′ w (ap (λ (m : ℕ). roomy (length s) m (length out)) z ∙ no-room (length s) (length out))
+
+  stood : r .begun .number ≡ 0 → (pathPlaces ≤ length list) × Stood bs n lent s′ l′ tables r
+  stood z = go (decLt (length list) pathPlaces)
+    where
+      go : Dec (length list < pathPlaces) → (pathPlaces ≤ length list) × Stood bs n lent s′ l′ tables r
+      go (yes short) = absurd (let q : r .begun .number ≡ 1 = ap (λ (b : Begun). b .number) (none short .0) in omega (arith, q, z))
+      go (no h) = let long : pathPlaces ≤ length list = omega (arith, h) in (long, run-stood bs n s l out s′ (whole long) z ls)
+
+  pub first-ready : FirstReady (r .begun .number) tables t
+  first-ready z = depth-most (stood z .1) t
+
+  first-short : firstLength (r .begun .number) tables t ≤ depthLimit + 1
+  first-short = go (decLt 0 (r .begun .number)) (decLt 0 (tablesIn tables .entry t))
+    where
+      go : Dec (0 < r .begun .number) → Dec (0 < tablesIn tables .entry t) → firstLength (r .begun .number) tables t ≤ depthLimit + 1
+      go (yes h) d = rw (ne-eqb (r .begun .number) 0 (λ z. omega (arith, h, z))) (omega arith)
+      go (no h) (no k) = rw (eq-eqb (r .begun .number) 0 (omega (arith, h)), eq-eqb (tablesIn tables .entry t) 0 (omega (arith, k))) (omega arith)
+      go (no h) (yes k) = rw (eq-eqb (r .begun .number) 0 (omega (arith, h)), ne-eqb (tablesIn tables .entry t) 0 (λ z. omega (arith, k, z))) (omega (arith, first-ready (omega (arith, h))))
+
+  -- some places are to be written: there was a run
+  first-ran : 0 < firstLength (r .begun .number) tables t → r .begun .number ≡ 0
+  first-ran more = go (decLt 0 (r .begun .number))
+    where
+      go : Dec (0 < r .begun .number) → r .begun .number ≡ 0
+      go (no h) = omega (arith, h)
+      go (yes h) = absurd (let q : firstLength (r .begun .number) tables t ≡ 0 = rw (ne-eqb (r .begun .number) 0 (λ z. omega (arith, h, z))) refl in omega (arith, q, more))
+
+  module _ {v : Stage} (from : v ≡ firstStage (r .begun .number) tables t) (ll : length l′ ≡ length l) where
+    left-is : v .left ≡ firstLength (r .begun .number) tables t
+    left-is = ap (λ (q : Stage). q .left) from
+
+    at-is : v .at ≡ 0
+    at-is = ap (λ (q : Stage). q .at) from
+
+    pub climb-ready : ClimbReady tables l′ list v
+    climb-ready = record {
+      long = λ more. omega (arith, ll, stood (first-ran (omega (arith, more, left-is))) .1 .long);
+      room = go (decLt 0 (firstLength (r .begun .number) tables t));
+      place = ap (λ (q : Stage). q .place) from ∙ ap (λ (q : Stage). placeAt (tablesIn tables .entry (q .certificate))) (sym from);
     }
-askable (ran.Refused number place) n parties terms bs s tables words list w long = tt
+      where
+        go : Dec (0 < firstLength (r .begun .number) tables t) → v .at + v .left ≤ length list
+        go (yes h) = omega (arith, left-is, at-is, first-short, stood (first-ran h) .0)
+        go (no h) = omega (arith, left-is, at-is, h)
 
-pub refused-answers : (number place : ℕ) (list : List ℕ) → (pathInNumbers (path.Refused number place) ≡ refusal number place) × (list ≡ list)
-unfolding pathInNumbers
-refused-answers number place list = (refl, refl)
+    pub answer-ready : AnswerReady r v
+    answer-ready = record { near = near-place bs n room s l out s′ w; short = omega (arith, left-is, first-short) }
 
--- the whole
-module _ (bs : List ℕ) (n : ℕ) (lent : Lent) (t : ℕ) (list : List ℕ) (long : pathPlaces ≤ length list) where
-  by-answer : (y : RunAnswer) (parties terms : ℕ) (s w tables : List ℕ) → runInNumbers y ≡ runAnswer bs n lent → w ≡ ledgerOf (gained bs n lent) → Left bs n s tables w y parties terms
-      → (list′ : List ℕ) (x : PathAnswer) → Answers y tables w t list list′ x → (pathInNumbers x ≡ pathAnswer bs n lent t list) × (list′ ≡ pathLeaves bs n lent t list)
-  by-answer (ran.Ran a r i) parties terms s w tables q same left list′ x h = ran-path bs n lent t list long tables w s a r i q same (left a r i refl .stands) x h
-  by-answer (ran.Refused number place) parties terms s w tables q same left list′ x h = let d = refused-path bs n lent t list long number place q in (h .0 ∙ d .0, h .1 ∙ d .1)
+    -- the whole
+    module _ {list′ : List ℕ} (written : list′ ≡ sets list (v .at) (climbed tables l′ (v .left) (v .certificate))) (x : PathAnswer) (told : Answers r v t x) where
+      written-from : list′ ≡ sets list 0 (climbed tables l′ (firstLength (r .begun .number) tables t) t)
+      written-from = written ∙ ap (λ (q : Stage). sets list (q .at) (climbed tables l′ (q .left) (q .certificate))) from
 
-  pub path-ran : (s₁ s out w tables list′ : List ℕ) (r : Answered) (x : PathAnswer) → Ran bs n lent s out w r → Left bs n s₁ tables w (r .answer) (r .parties) (r .terms) → Answers (r .answer) tables w t list list′ x
-      → PathRan bs n lent t list s out list′ w (record { places = r .places; answer = x })
-  path-ran s₁ s out w tables list′ r x run left h =
-      let d = by-answer (r .answer) (r .parties) (r .terms) s₁ w tables (run .answer) (run .words) left list′ x h in
-      let e = long-is bs n lent t list long in
-      let b = buffers bs n lent t list long in
-      record {
-        answer = d .0;
-        state = run .state ∙ ap (λ (y : Lent). y .state) b;
-        outcomes = run .outcomes ∙ ap (λ (y : Lent). y .outcomes) b;
-        steps = d .1;
-        words = rw e (run .words);
-        places = rw e (run .places);
-      }
+      told-from : pathInNumbers x ≡ cond (eqb (r .begun .number) 0) (cond (eqb (firstLength (r .begun .number) tables t) 0) (refusal 30 t) (success ((firstLength (r .begun .number) tables t - 1) ∷ []))) (refusal (r .begun .number) (r .begun .place))
+      told-from = told ∙ ap (λ (k : ℕ). cond (eqb (r .begun .number) 0) (cond (eqb k 0) (refusal 30 t) (success ((k - 1) ∷ []))) (refusal (r .begun .number) (r .begun .place))) left-is
+
+      -- a refusal of the run
+      refused-told : (r .begun .number ≡ 0 → ⊥) → (pathInNumbers x ≡ refusal (r .begun .number) (r .begun .place)) × (list′ ≡ list)
+      refused-told z =
+          let k : firstLength (r .begun .number) tables t ≡ 0 = rw (ne-eqb (r .begun .number) 0 z) refl in
+          (told-from ∙ rw (ne-eqb (r .begun .number) 0 z) refl, written-from ∙ ap (λ (m : ℕ). sets list 0 (climbed tables l′ m t)) k ∙ climbed-none tables l′ list t)
+
+      -- a run
+      ran-told : (z : r .begun .number ≡ 0) → (pathInNumbers x ≡ pathAnswer bs n lent t list) × (list′ ≡ pathLeaves bs n lent t list)
+      ran-told z = go (decLt 0 (tablesIn tables .entry t)) (stood z .0) (stood z .1) (ran-path bs n lent t list (stood z .0) (stood z .1 .enough) (stood z .1 .stands .holds .loads))
+        where
+          go : Dec (0 < tablesIn tables .entry t) → pathPlaces ≤ length list → (st : Stood bs n lent s′ l′ tables r) → (pathAnswer bs n lent t list ≡ cond (listed (reached (fileIn bs) n .ledger) t) (success (depthOf (reached (fileIn bs) n .ledger) t ∷ [])) (refusal 30 t))
+              × (pathLeaves bs n lent t list ≡ cond (listed (reached (fileIn bs) n .ledger) t) (steps (reached (fileIn bs) n .ledger) (depthOf (reached (fileIn bs) n .ledger) t) t ++ drop (depthOf (reached (fileIn bs) n .ledger) t + 1) list) list)
+              → (pathInNumbers x ≡ pathAnswer bs n lent t list) × (list′ ≡ pathLeaves bs n lent t list)
+          go (no h) long st p =
+              let y : tablesIn tables .entry t ≡ 0 = omega (arith, h) in
+              let k : firstLength (r .begun .number) tables t ≡ 0 = rw (eq-eqb (r .begun .number) 0 z, eq-eqb (tablesIn tables .entry t) 0 y) refl in
+              let f = column-none t (st .stands .enters) y in (
+                told-from ∙ rw (eq-eqb (r .begun .number) 0 z, eq-eqb (tablesIn tables .entry t) 0 y) refl ∙ sym (p .0 ∙ ap (λ (b : Bool). cond b (success (depthOf (reached (fileIn bs) n .ledger) t ∷ [])) (refusal 30 t)) f),
+                written-from ∙ ap (λ (m : ℕ). sets list 0 (climbed tables l′ m t)) k ∙ climbed-none tables l′ list t
+                    ∙ sym (p .1 ∙ ap (λ (b : Bool). cond b (steps (reached (fileIn bs) n .ledger) (depthOf (reached (fileIn bs) n .ledger) t) t ++ drop (depthOf (reached (fileIn bs) n .ledger) t + 1) list) list) f),
+              )
+          go (yes h) long st p =
+              let d = depthOf (reached (fileIn bs) n .ledger) t in
+              let k : firstLength (r .begun .number) tables t ≡ suc d = rw (eq-eqb (r .begun .number) 0 z, ne-eqb (tablesIn tables .entry t) 0 (λ y. omega (arith, h, y))) (let q = deep st t in omega (arith, q)) in
+              let f = column-listed t (st .stands .enters) h in
+              let q : 0 + length (steps (reached (fileIn bs) n .ledger) d t) ≡ d + 1 = omega (arith, steps-length (reached (fileIn bs) n .ledger) d t) in
+              let m : suc d - 1 ≡ d = omega arith in (
+                told ∙ ap (λ (y : ℕ). cond (eqb (r .begun .number) 0) (cond (eqb y 0) (refusal 30 t) (success ((y - 1) ∷ []))) (refusal (r .begun .number) (r .begun .place))) (left-is ∙ k)
+                    ∙ rw (eq-eqb (r .begun .number) 0 z, ne-eqb (suc d) 0 (λ y. omega (arith, y)), m) refl
+                    ∙ sym (p .0 ∙ ap (λ (b : Bool). cond b (success (d ∷ [])) (refusal 30 t)) f),
+                written-from ∙ ap (λ (y : ℕ). sets list 0 (climbed tables l′ y t)) k ∙ ap (sets list 0) (climbed-steps l (st .stands .enters) (st .ledger) d t)
+                    ∙ sets-eq (steps (reached (fileIn bs) n .ledger) d t) list 0 (omega (arith, q, long, shallow st t f))
+                    ∙ ap (λ (y : ℕ). steps (reached (fileIn bs) n .ledger) d t ++ drop y list) q
+                    ∙ sym (p .1 ∙ ap (λ (b : Bool). cond b (steps (reached (fileIn bs) n .ledger) d t ++ drop (d + 1) list) list) f),
+              )
+
+      pub path-ran : PathRan bs n lent t list s′ l′ out′ list′ x
+      path-ran = go (decLt (length list) pathPlaces) (decLt 0 (r .begun .number))
+        where
+          go : Dec (length list < pathPlaces) → Dec (0 < r .begun .number) → PathRan bs n lent t list s′ l′ out′ list′ x
+          go (yes short) d =
+              let (b, (es, (el, eo))) = none short in
+              let one : r .begun .number ≡ 1 = ap (λ (q : Begun). q .number) b in
+              let y = refused-told (λ z. omega (arith, one, z)) in
+              let k = no-buffers bs n lent t list short in
+              (y .0 ∙ ap (λ (q : Begun). refusal (q .number) (q .place)) b ∙ no-answer bs n lent t list short, es ∙ ap (λ (q : Lent). q .state) k, el ∙ ap (λ (q : Lent). q .ledger) k, eo ∙ ap (λ (q : Lent). q .outcomes) k, y .1 ∙ no-list bs n lent t list short)
+          go (no g) d =
+              let long : pathPlaces ≤ length list = omega (arith, g) in
+              let run = run-left bs n s l out s′ (whole long) in
+              let k = buffers bs n lent t list long in
+              let y = by-number d long (run .answer) in
+              (y .0, run .state ∙ ap (λ (q : Lent). q .state) k, run .ledger ∙ ap (λ (q : Lent). q .ledger) k, run .outcomes ∙ ap (λ (q : Lent). q .outcomes) k, y .1)
+            where
+              by-number : Dec (0 < r .begun .number) → pathPlaces ≤ length list → ranIn r ≡ runAnswer bs n lent → (pathInNumbers x ≡ pathAnswer bs n lent t list) × (list′ ≡ pathLeaves bs n lent t list)
+              by-number (no h) long q = ran-told (omega (arith, h))
+              by-number (yes h) long q =
+                  let z : r .begun .number ≡ 0 → ⊥ = λ e. omega (arith, h, e) in
+                  let ran : refusal (r .begun .number) (r .begun .place) ≡ runAnswer bs n lent = sym (let e : ranIn r ≡ refusal (r .begun .number) (r .begun .place) = rw (ne-eqb (r .begun .number) 0 z) refl in e) ∙ q in
+                  let y = refused-told z in
+                  let v = refused-path bs n lent t list long (r .begun .number) (r .begun .place) ran in
+                  (y .0 ∙ v .0, y .1 ∙ v .1)

@@ -1,129 +1,129 @@
-// The way from an issued certificate to its endorsement certificate, by the ledger that a run left.
+// The way from an issued certificate to its endorsement certificate, by the tables and the ledger that a run left. A step reads one entry.
+use rules::Entry;
 use rules::PathAnswer;
-use rules::RunAnswer;
+use runs::Finished;
 ghost use mathlib.Core.Path.{_≡_};
-ghost use mathlib.Core.List.{List, _++_};
-ghost use Prim.Native.Nat.{ℕ, _+_, _<_, _≤_};
-ghost use lib.ListN.{length, drop};
-ghost use Rattle.rules.specs.declared.Entry.{Entry};
-ghost use Rattle.rules.specs.Limits.{depthLimit};
-ghost use Rattle.rules.specs.State.{parentOf};
-ghost use Rattle.rules.specs.Lent.{steps, pathInNumbers};
-ghost use Rattle.loaded.specs.Entries.{Enters, Entered};
-ghost use Rattle.path.specs.Finding.{Findable, foundIn, listedIn};
-ghost use Rattle.path.specs.Paths.{Askable, Answers, Paths};
+ghost use mathlib.Core.Bool.{cond};
+ghost use Prim.Native.Nat.{_+_, _<_, _≤_};
+ghost use lib.Dec.{eqb, leb};
+ghost use lib.ListN.{length, set};
+ghost use Rattle.rules.specs.Limits.{pathPlaces};
+ghost use Rattle.tables.specs.Regions.{tablesIn};
+ghost use Rattle.path.specs.Climbing.{placeAt, FirstReady, firstLength, firstStage, nextStage, AnswerReady, Answers};
 
-// The answer of Path, and how many places of the ledger are to be written: 0 or 1,024.
-pub struct PathAnswered {
-    pub places: usize,
-    pub answer: PathAnswer,
+// How far a path is: how many places of the list are left to write, the next of them, the certificate that goes there, and the place of its entry.
+pub struct Stage {
+    pub left: usize,
+    pub at: usize,
+    pub certificate: u16,
+    pub place: usize,
 }
 
-// The parent of a listed certificate; 0 of another term.
-fn parent_of(tables: &[u16; tables::WORDS], words: &[u16; entries::WORDS], t: u16) -> u16
-    requires { ⌜ Entered (now tables) (now words) ⌝ }
-    ensures { λ x. ⌜ ((n : ℕ) (ledger : List Entry) → Enters (now (tables .entry)) (now (words .entry)) n ledger → x ≡ parentOf ledger t) ⌝ }
+// The places of the ledger, none where the list is too short.
+pub fn room_for(list: usize, room: usize) -> usize
+    ensures { λ r. ⌜ r ≡ cond (leb pathPlaces list) room 0 ⌝ }
+{
+    if list < rules::PATH_PLACES {
+        return 0;
+    }
+    room
+}
+
+// One more than the place of a certificate's entry; 0 of another term.
+fn entry_of(tables: &[u16; tables::WORDS], t: u16) -> usize
+    ensures { λ r. ⌜ r ≡ tablesIn (now (tables .entry)) .entry t ⌝ }
 {
     let term = t as usize;
     if rules::TERM_LIMIT <= term {
         return 0;
     }
-    let entry = tables::entry_of(tables, term) as usize;
+    tables::entry_of(tables, term) as usize
+}
+
+// A place of the ledger, whatever the number.
+fn place_at(entry: usize) -> usize
+    ensures { λ r. ⌜ r ≡ placeAt entry ⌝ }
+{
     if entry == 0 {
         return 0;
     }
-    entries::parent_of(words, entry - 1)
+    (entry - 1) % rules::TERM_LIMIT
 }
 
-// Writes a certificate and its parents, so many steps, into a list.
-fn climb(
-    tables: &[u16; tables::WORDS],
-    words: &[u16; entries::WORDS],
-    list: &mut [u16],
-    t: u16,
-    depth: usize,
-)
-    requires { ⌜ Entered (now tables) (now words) × (depth ≤ depthLimit) × (depth < length (now list)) ⌝ }
-    ensures { λ _. ⌜ ((n : ℕ) (ledger : List Entry) → Enters (now (tables .entry)) (now (words .entry)) n ledger → now (list .exit) ≡ steps ledger depth t ++ drop (depth + 1) (now (list .entry))) ⌝ }
+// How many places are to be written: none where there was no run, or the term has no entry.
+fn length_of(number: u32, entry: usize, tables: &[u16; tables::WORDS], t: u16) -> usize
+    requires { ⌜ FirstReady number (now tables) t × (entry ≡ tablesIn (now tables) .entry t) ⌝ }
+    ensures { λ r. ⌜ r ≡ firstLength number (now (tables .entry)) t ⌝ }
 {
-    let mut certificate = t;
-    let mut i = 0;
-    while i < depth {
-        list[i] = certificate;
-        certificate = parent_of(tables, words, certificate);
-        i += 1;
+    if number != 0 {
+        return 0;
     }
-    list[i] = certificate;
-}
-
-// The path of a term by the ledger: its steps, with the list written; or 30.
-fn find(
-    tables: &[u16; tables::WORDS],
-    words: &[u16; entries::WORDS],
-    term: u16,
-    list: &mut [u16],
-) -> PathAnswer
-    requires { ⌜ Findable (now tables) (now words) (now list) ⌝ }
-    ensures answer { λ r. ⌜ ((n : ℕ) (ledger : List Entry) → Enters (now (tables .entry)) (now (words .entry)) n ledger → pathInNumbers r ≡ foundIn ledger term) ⌝ }
-    ensures left { λ _. ⌜ ((n : ℕ) (ledger : List Entry) → Enters (now (tables .entry)) (now (words .entry)) n ledger → now (list .exit) ≡ listedIn ledger term (now (list .entry))) ⌝ }
-{
-    let t = term as usize;
-    if rules::TERM_LIMIT <= t {
-        return PathAnswer::Refused(30, term as u32);
-    }
-    let entry = tables::entry_of(tables, t) as usize;
     if entry == 0 {
-        return PathAnswer::Refused(30, term as u32);
+        return 0;
     }
-    let depth = entries::depth_of(words, entry - 1);
-    climb(tables, words, list, term, depth as usize);
-    PathAnswer::Steps(depth as u32)
+    let term = t as usize;
+    if rules::TERM_LIMIT <= term {
+        return 0;
+    }
+    let depth = tables::depth_of(tables, term) as usize;
+    depth + 1
 }
 
-// The path of a term where there was a run, else the run's refusal.
-fn answer(
-    ran: RunAnswer,
-    tables: &[u16; tables::WORDS],
-    words: &[u16; entries::WORDS],
-    term: u16,
-    list: &mut [u16],
-) -> PathAnswer
-    requires { ⌜ Askable ran (now tables) (now words) (now list) ⌝ }
-    ensures { λ x. ⌜ Answers ran (now (tables .entry)) (now (words .entry)) term (now (list .entry)) (now (list .exit)) x ⌝ }
+// Before the first step.
+pub fn first(done: Finished, tables: &[u16; tables::WORDS], t: u16) -> Stage
+    requires { ⌜ FirstReady (done .begun .number) (now tables) t ⌝ }
+    ensures { λ r. ⌜ r ≡ firstStage (done .begun .number) (now (tables .entry)) t ⌝ }
 {
-    match ran {
-        RunAnswer::Ran(_, _, _) => find(tables, words, term, list),
-        RunAnswer::Refused(number, place) => PathAnswer::Refused(number, place),
+    let b = done.begun;
+    let entry = entry_of(tables, t);
+    let left = length_of(b.number, entry, tables, t);
+    let place = place_at(entry);
+    Stage {
+        left: left,
+        at: 0,
+        certificate: t,
+        place: place,
     }
 }
 
-// Runs a file as `engine::run` does, and writes the path of a term into a list.
-pub fn path(
-    file: &[u8],
-    n: usize,
-    room: usize,
-    state: &mut [u8],
-    outcomes: &mut [u8],
-    term: u16,
-    list: &mut [u16],
-    words: &mut [u16; entries::WORDS],
-    tables: &mut [u16; tables::WORDS],
-) -> PathAnswered
-    ensures { λ r. ⌜ Paths (now (file .entry)) n room (now (state .entry)) (now (outcomes .entry)) term (now (list .entry)) (now (state .exit)) (now (outcomes .exit)) (now (list .exit)) (now (words .exit)) r ⌝ }
+// The parent by an entry; 0 of a term with none.
+fn parent_by(entry: usize, e: Entry) -> u16
+    ensures { λ r. ⌜ r ≡ cond (eqb entry 0) 0 (e .parent) ⌝ }
 {
-    *words = [0u16; entries::WORDS];
-    if list.len() < rules::PATH_PLACES {
-        return PathAnswered {
-            places: 0,
-            answer: PathAnswer::Refused(1, 0),
-        };
+    if entry == 0 {
+        return 0;
     }
-    let done = engine::run(file, n, room, state, outcomes, words, tables);
-    let places = done.places;
-    let ran = done.answer;
-    let found = answer(ran, tables, words, term, list);
-    PathAnswered {
-        places: places,
-        answer: found,
+    e.parent
+}
+
+// A step: the certificate goes to the list, and its parent is next.
+pub fn step(tables: &[u16; tables::WORDS], list: &mut [u16], s: Stage, e: Entry) -> Stage
+    requires { ⌜ (0 < s .left) × (s .at + s .left ≤ length (now list)) ⌝ }
+    ensures { λ r. ⌜ (r ≡ nextStage (now (tables .entry)) s e) × (now (list .exit) ≡ set (now (list .entry)) (s .at) (s .certificate)) ⌝ }
+{
+    let at = s.at;
+    list[at] = s.certificate;
+    let parent = parent_by(entry_of(tables, s.certificate), e);
+    let place = place_at(entry_of(tables, parent));
+    Stage {
+        left: s.left - 1,
+        at: at + 1,
+        certificate: parent,
+        place: place,
     }
+}
+
+// The steps of a path; 30 where the term has no entry; the run's refusal.
+pub fn answer(done: Finished, s: Stage, t: u16) -> PathAnswer
+    requires { ⌜ AnswerReady done s ⌝ }
+    ensures { λ x. ⌜ Answers done s t x ⌝ }
+{
+    let b = done.begun;
+    if b.number != 0 {
+        return PathAnswer::Refused(b.number, b.place as u32);
+    }
+    if s.left == 0 {
+        return PathAnswer::Refused(30, t as u32);
+    }
+    PathAnswer::Steps((s.left - 1) as u32)
 }

@@ -8,7 +8,7 @@ ghost use mathlib.Core.List.{[], _∷_};
 ghost use Prim.Native.Nat.{_+_, _<_, _≤_};
 ghost use lib.ListN.{length, getD};
 ghost use Rattle.rules.specs.Attributes.{has as hasFlag};
-ghost use Rattle.rules.specs.Term.{subjectFields, fieldsIn};
+ghost use Rattle.rules.specs.Term.{idevidRequestKind, certificateKind, subjectFields, fieldsIn};
 ghost use Rattle.rules.specs.Record.{lastKind, sectionOf, bodyLength, fieldsOf, width as widthOf, termSection, word};
 ghost use Rattle.rules.specs.Load.{termAt, subjectAt};
 ghost use Rattle.records.specs.Codes.{packed, lowField, FieldRows};
@@ -219,7 +219,7 @@ fn command_length(kind: u8) -> usize
 }
 
 // The bytes of a kind's body, which the kind byte alone decides.
-pub fn body_length(kind: u8) -> usize
+fn length_of(kind: u8) -> usize
     ensures { λ r. ⌜ r ≡ bodyLength kind ⌝ }
 {
     match kind {
@@ -229,6 +229,26 @@ pub fn body_length(kind: u8) -> usize
         0x30..=0x43 => command_length(kind),
         _ => 0,
     }
+}
+
+// The same, of the most frequent commands by a branch each: a table would have to be waited for.
+pub fn body_length(kind: u8) -> usize
+    ensures { λ r. ⌜ r ≡ bodyLength kind ⌝ }
+{
+    if kind >= 0x30 {
+        if kind <= 0x37 {
+            return 3;
+        }
+        if kind == 0x3C {
+            return 4;
+        }
+        if kind >= 0x40 {
+            if kind <= 0x42 {
+                return 5;
+            }
+        }
+    }
+    length_of(kind)
 }
 
 // The subject at a place of a body.
@@ -252,6 +272,26 @@ fn attributes_at(body: &[u8]) -> Attributes
     Attributes { bits: body[2] }
 }
 
+// The IDevID request with a body.
+pub fn idevid_request_in(body: &[u8]) -> Term
+    requires { ⌜ 6 < length (now body) ⌝ }
+    ensures { λ r. ⌜ r ≡ termAt idevidRequestKind (now (body .entry)) ⌝ }
+{
+    let s = subject_at(body, 0);
+    let c = word_at(body, 3);
+    Term::IdevidRequest(s, c, word_at(body, 5))
+}
+
+// The certificate with a body.
+pub fn certificate_in(body: &[u8]) -> Term
+    requires { ⌜ 6 < length (now body) ⌝ }
+    ensures { λ r. ⌜ r ≡ termAt certificateKind (now (body .entry)) ⌝ }
+{
+    let k = word_at(body, 0);
+    let s = subject_at(body, 2);
+    Term::Certificate(k, s, word_at(body, 5))
+}
+
 // The term of a kind with a body.
 pub fn term_in(kind: u8, body: &[u8]) -> Term
     requires { ⌜ (sectionOf kind ≡ termSection) × (bodyLength kind ≤ length (now body)) ⌝ }
@@ -269,16 +309,9 @@ pub fn term_in(kind: u8, body: &[u8]) -> Term
             Term::Credential(first, n, word_at(body, 4))
         }
         0x16 => Term::Number(first),
-        0x17 => {
-            let s = subject_at(body, 0);
-            let c = word_at(body, 3);
-            Term::IdevidRequest(s, c, word_at(body, 5))
-        }
+        0x17 => idevid_request_in(body),
         0x18 => Term::LdevidRequest(first, word_at(body, 2)),
-        0x19 => {
-            let s = subject_at(body, 2);
-            Term::Certificate(first, s, word_at(body, 5))
-        }
+        0x19 => certificate_in(body),
         _ => Term::Pair(first, word_at(body, 2)),
     }
 }

@@ -5,7 +5,7 @@
 --     pair-kind to certificate-signer     each constructor
 --     left-known, right-known, message-known     what they name is declared
 -- Assumes nothing.
-use mathlib.Core.Path.{_≡_, refl, sym, ap, subst, _∙_}
+use mathlib.Core.Path.{_≡_, refl, sym, ap, subst, subst⁻¹, _∙_}
 use mathlib.Core.Bool.{true, false, not, false≢true}
 use mathlib.Core.List.{List, [], _∷_}
 use Prim.Native.Nat.{ℕ, suc, _+_, _<_}
@@ -65,69 +65,6 @@ kind-not f t n ks {x} e h o =
 pub other-kind : (f : File) (t n : ℕ) (ks : List ℕ) {x : Term} → term f t ≡ x → T (not (hasKey ks n)) → OneOf ks (tagOf declared.the-type x) → kind f t ≡ publicKeyKind + n → ⊥
 other-kind f t n ks e h o k = false≢true (sym (kind-not f t n ks e h o) ∙ kind-is f t k)
 
-module _ (f : File) (t : ℕ) {a b : ℕ} where
-  pub pair-kind : term f t ≡ Pair a b → kind f t ≡ pairKind
-  unfolding kind kindOf
-  pair-kind e = ap kindOf e
-
-  pub pair-left : term f t ≡ Pair a b → leftOf f t ≡ a
-  unfolding leftOf field fieldsIn
-  pair-left e = ap (λ (x : Term). getD (fieldsIn x) 0 0) e
-
-  pub pair-right : term f t ≡ Pair a b → rightOf f t ≡ b
-  unfolding rightOf field fieldsIn
-  pair-right e = ap (λ (x : Term). getD (fieldsIn x) 1 0) e
-
-  pub signature-kind : term f t ≡ Signature a b → kind f t ≡ signatureKind
-  unfolding kind kindOf
-  signature-kind e = ap kindOf e
-
-  pub signature-message : term f t ≡ Signature a b → message f t ≡ a
-  unfolding message field fieldsIn
-  signature-message e = ap (λ (x : Term). getD (fieldsIn x) 0 0) e
-
-  pub signature-key : term f t ≡ Signature a b → signingKey f t ≡ b
-  unfolding signingKey field fieldsIn
-  signature-key e = ap (λ (x : Term). getD (fieldsIn x) 1 0) e
-
-  pub ldevid-message : term f t ≡ LdevidRequest a b → ldevidMessage f t ≡ a
-  unfolding ldevidMessage field fieldsIn
-  ldevid-message e = ap (λ (x : Term). getD (fieldsIn x) 0 0) e
-
-  pub ldevid-certificate : term f t ≡ LdevidRequest a b → ldevidCertificate f t ≡ b
-  unfolding ldevidCertificate field fieldsIn
-  ldevid-certificate e = ap (λ (x : Term). getD (fieldsIn x) 1 0) e
-
-module _ (f : File) (t : ℕ) {a : ℕ} where
-  pub hash-kind : term f t ≡ Hash a → kind f t ≡ hashKind
-  unfolding kind kindOf
-  hash-kind e = ap kindOf e
-
-  pub hash-content : term f t ≡ Hash a → hashedTerm f t ≡ a
-  unfolding hashedTerm field fieldsIn
-  hash-content e = ap (λ (x : Term). getD (fieldsIn x) 0 0) e
-
-  pub attest-kind : term f t ≡ Attest a → kind f t ≡ attestKind
-  unfolding kind kindOf
-  attest-kind e = ap kindOf e
-
-  pub attest-key : term f t ≡ Attest a → attestedKey f t ≡ a
-  unfolding attestedKey field fieldsIn
-  attest-key e = ap (λ (x : Term). getD (fieldsIn x) 0 0) e
-
-module _ (f : File) (t : ℕ) {a b c : ℕ} where
-  pub credential-term : term f t ≡ Credential a b c → credentialTerm f t ≡ a
-  unfolding credentialTerm field fieldsIn
-  credential-term e = ap (λ (x : Term). getD (fieldsIn x) 0 0) e
-
-  pub credential-number : term f t ≡ Credential a b c → credentialNumber f t ≡ b
-  unfolding credentialNumber field fieldsIn
-  credential-number e = ap (λ (x : Term). getD (fieldsIn x) 1 0) e
-
-  pub credential-key : term f t ≡ Credential a b c → credentialKey f t ≡ c
-  unfolding credentialKey field fieldsIn
-  credential-key e = ap (λ (x : Term). getD (fieldsIn x) 2 0) e
-
 -- the fields after a Subject
 after : (s : Subject) (more : List ℕ) (i : ℕ) → getD (subjectFields s more) (suc (suc i)) 0 ≡ getD more i 0
 unfolding subjectFields
@@ -159,12 +96,12 @@ module _ (f : File) (t : ℕ) {a b : ℕ} {s : Subject} where
   unfolding signer field fieldsIn
   certificate-signer e = ap (λ (x : Term). getD (fieldsIn x) 3 0) e ∙ after s (b ∷ []) 0
 
-module _ {bs s : List ℕ} {t a b : ℕ} (h : Holds bs s) (l : t < length (fileIn bs .terms)) where
-  pub left-known : term (fileIn bs) t ≡ Pair a b → a < length (fileIn bs .terms)
-  left-known e = subst (λ (u : ℕ). u < length (fileIn bs .terms)) (pair-left (fileIn bs) t e) (left-declared h l (pair-kind (fileIn bs) t e))
+module _ {bs s : List ℕ} {t a : ℕ} (h : Holds bs s) (l : t < length (fileIn bs .terms)) where
+  pub left-known : kind (fileIn bs) t ≡ pairKind → a ≡ leftOf (fileIn bs) t → a < length (fileIn bs .terms)
+  left-known e p = subst⁻¹ (λ (u : ℕ). u < length (fileIn bs .terms)) p (left-declared h l e)
 
-  pub right-known : term (fileIn bs) t ≡ Pair a b → b < length (fileIn bs .terms)
-  right-known e = subst (λ (u : ℕ). u < length (fileIn bs .terms)) (pair-right (fileIn bs) t e) (right-declared h l (pair-kind (fileIn bs) t e))
+  pub right-known : kind (fileIn bs) t ≡ pairKind → a ≡ rightOf (fileIn bs) t → a < length (fileIn bs .terms)
+  right-known e p = subst⁻¹ (λ (u : ℕ). u < length (fileIn bs .terms)) p (right-declared h l e)
 
-  pub message-known : term (fileIn bs) t ≡ Signature a b → a < length (fileIn bs .terms)
-  message-known e = subst (λ (u : ℕ). u < length (fileIn bs .terms)) (signature-message (fileIn bs) t e) (message-declared h l (signature-kind (fileIn bs) t e))
+  pub message-known : kind (fileIn bs) t ≡ signatureKind → a ≡ message (fileIn bs) t → a < length (fileIn bs .terms)
+  message-known e p = subst⁻¹ (λ (u : ℕ). u < length (fileIn bs .terms)) p (message-declared h l e)

@@ -18,11 +18,11 @@ ghost use Rattle.rules.specs.Desk.{formTests, proofTests};
 ghost use Rattle.tables.specs.Regions.{tablesIn};
 ghost use Rattle.theorems.specs.Chain.{chain};
 ghost use Rattle.loaded.specs.Loaded.{fileIn, Holds, Finds, PartyHere, TermHere};
-ghost use Rattle.requests.specs.Search.{Searched};
+ghost use Rattle.requests.specs.Search.{hasSome, Searched};
 ghost use Rattle.requests.specs.Names.{Names};
 ghost use Rattle.requests.specs.Tests.{endorsementTests, credentialTests, calledTests, attestTests, parentageTests};
 
-// Terms read back by their constructors, each as what its fields name.
+// Terms read back, each as what its fields name; those with a Subject by their constructors.
 pub struct Pair {
     pub left: usize,
     pub right: usize,
@@ -56,14 +56,9 @@ pub fn pair_of(file: &[u8], state: &[u8], t: usize) -> Pair
     requires { ⌜ TermHere (now file) (now state) t × (kind (fileIn (now file)) t ≡ pairKind) ⌝ }
     ensures { λ x. ⌜ (x .left ≡ leftOf (fileIn (now (file .entry))) t) × (x .right ≡ rightOf (fileIn (now (file .entry))) t) ⌝ }
 {
-    let found = learning::term_of(file, state, t);
-    let Term::Pair(left, right) = found else {
-        return Pair { left: 0, right: 0 };
-    };
-    Pair {
-        left: left as usize,
-        right: right as usize,
-    }
+    let left = loaded::left_of(file, state, t);
+    let right = loaded::right_of(file, state, t);
+    Pair { left, right }
 }
 
 // The first term, the number and the public key of a credential.
@@ -71,18 +66,13 @@ pub fn credential_of(file: &[u8], state: &[u8], t: usize) -> Credential
     requires { ⌜ TermHere (now file) (now state) t × (kind (fileIn (now file)) t ≡ credentialKind) ⌝ }
     ensures { λ x. ⌜ (x .content ≡ credentialTerm (fileIn (now (file .entry))) t) × (x .number ≡ credentialNumber (fileIn (now (file .entry))) t) × (x .key ≡ credentialKey (fileIn (now (file .entry))) t) ⌝ }
 {
-    let found = learning::term_of(file, state, t);
-    let Term::Credential(content, number, key) = found else {
-        return Credential {
-            content: 0,
-            number: 0,
-            key: 0,
-        };
-    };
+    let content = loaded::credential_term_of(file, state, t);
+    let number = loaded::credential_number_of(file, state, t);
+    let key = loaded::credential_key_of(file, state, t);
     Credential {
-        content: content as usize,
-        number: number as usize,
-        key: key as usize,
+        content,
+        number,
+        key,
     }
 }
 
@@ -91,7 +81,7 @@ pub fn idevid_request_of(file: &[u8], state: &[u8], t: usize) -> IdevidRequest
     requires { ⌜ TermHere (now file) (now state) t × (kind (fileIn (now file)) t ≡ idevidRequestKind) ⌝ }
     ensures { λ x. ⌜ (x .subject ≡ subject (fileIn (now (file .entry))) t) × (x .certificate ≡ idevidCertificate (fileIn (now (file .entry))) t) × (x .key ≡ idevidKey (fileIn (now (file .entry))) t) ⌝ }
 {
-    let found = learning::term_of(file, state, t);
+    let found = learning::idevid_request_of(file, state, t);
     let Term::IdevidRequest(subject, certificate, key) = found else {
         return IdevidRequest {
             subject: Subject::Tpm(0),
@@ -111,16 +101,11 @@ pub fn ldevid_request_of(file: &[u8], state: &[u8], t: usize) -> LdevidRequest
     requires { ⌜ TermHere (now file) (now state) t × (kind (fileIn (now file)) t ≡ ldevidRequestKind) ⌝ }
     ensures { λ x. ⌜ (x .message ≡ ldevidMessage (fileIn (now (file .entry))) t) × (x .certificate ≡ ldevidCertificate (fileIn (now (file .entry))) t) ⌝ }
 {
-    let found = learning::term_of(file, state, t);
-    let Term::LdevidRequest(message, certificate) = found else {
-        return LdevidRequest {
-            message: 0,
-            certificate: 0,
-        };
-    };
+    let message = loaded::ldevid_message_of(file, state, t);
+    let certificate = loaded::ldevid_certificate_of(file, state, t);
     LdevidRequest {
-        message: message as usize,
-        certificate: certificate as usize,
+        message,
+        certificate,
     }
 }
 
@@ -129,7 +114,7 @@ pub fn certificate_of(file: &[u8], state: &[u8], t: usize) -> Certificate
     requires { ⌜ TermHere (now file) (now state) t × (kind (fileIn (now file)) t ≡ certificateKind) ⌝ }
     ensures { λ x. ⌜ (x .key ≡ certifiedKey (fileIn (now (file .entry))) t) × (x .subject ≡ subject (fileIn (now (file .entry))) t) × (x .signer ≡ signer (fileIn (now (file .entry))) t) ⌝ }
 {
-    let found = learning::term_of(file, state, t);
+    let found = learning::certificate_of(file, state, t);
     let Term::Certificate(key, subject, signer) = found else {
         return Certificate {
             key: 0,
@@ -156,16 +141,15 @@ pub fn form(file: &[u8], state: &[u8], q: usize, kind: u8) -> Request
     requires { ⌜ Holds (now file) (now state) × (q < length (fileIn (now file) .terms)) ⌝ }
     ensures { λ x. ⌜ (x .refusal ≡ chain (formTests (fileIn (now (file .entry))) kind q)) × (x .refusal ≡ 0 → Names (fileIn (now (file .entry))) q (x .body) (x .content) (x .signer)) ⌝ }
 {
-    let request = learning::term_of(file, state, q);
-    let Term::Pair(left, right) = request else {
+    if !loaded::is_kind(file, state, q, 0x1A) {
         return Request {
             refusal: 19,
             body: 0,
             content: 0,
             signer: 0,
         };
-    };
-    let body = left as usize;
+    }
+    let body = loaded::left_of(file, state, q);
     if !loaded::is_kind(file, state, body, kind) {
         return Request {
             refusal: 19,
@@ -174,28 +158,26 @@ pub fn form(file: &[u8], state: &[u8], q: usize, kind: u8) -> Request
             signer: 0,
         };
     }
-    let signature = right as usize;
-    let signed = learning::term_of(file, state, signature);
-    let Term::Signature(over, key) = signed else {
+    let signature = loaded::right_of(file, state, q);
+    if !loaded::is_kind(file, state, signature, 0x13) {
         return Request {
             refusal: 19,
             body: 0,
             content: 0,
             signer: 0,
         };
-    };
-    let message = over as usize;
-    let hashed = learning::term_of(file, state, message);
-    let Term::Hash(inner) = hashed else {
+    }
+    let message = loaded::message_of(file, state, signature);
+    if !loaded::is_kind(file, state, message, 0x12) {
         return Request {
             refusal: 19,
             body: 0,
             content: 0,
             signer: 0,
         };
-    };
-    let content = inner as usize;
-    let signer = key as usize;
+    }
+    let content = loaded::hashed_term(file, state, message);
+    let signer = loaded::signing_key_of(file, state, signature);
     Request {
         refusal: 0,
         body,
@@ -320,11 +302,11 @@ pub fn credential_names(
     requires { ⌜ Holds (now file) (now state) × (credential .content < length (fileIn (now file) .terms)) ⌝ }
     ensures { λ x. ⌜ x ≡ chain (credentialTests (fileIn (now (file .entry))) (credential .content) (credential .key) iak ek) ⌝ }
 {
-    let found = learning::term_of(file, state, credential.content);
-    let Term::Hash(content) = found else {
+    let content = credential.content;
+    if !loaded::is_kind(file, state, content, 0x12) {
         return 27;
-    };
-    let hashed = content as usize;
+    }
+    let hashed = loaded::hashed_term(file, state, content);
     if hashed != iak {
         return 27;
     }
@@ -373,48 +355,71 @@ pub fn attested_by(file: &[u8], state: &[u8], t: usize) -> Attested
     requires { ⌜ Holds (now file) (now state) × (t < length (fileIn (now file) .terms)) ⌝ }
     ensures { λ x. ⌜ (x .refusal ≡ chain (attestTests (fileIn (now (file .entry))) t)) × (x .refusal ≡ 0 → (x .key ≡ attestedKey (fileIn (now (file .entry))) (message (fileIn (now (file .entry))) t)) × (x .signer ≡ signingKey (fileIn (now (file .entry))) t)) ⌝ }
 {
-    let signed = learning::term_of(file, state, t);
-    let Term::Signature(content, signer) = signed else {
+    if !loaded::is_kind(file, state, t, 0x13) {
         return Attested {
             refusal: 19,
             key: 0,
             signer: 0,
         };
-    };
-    let message = content as usize;
-    let attest = learning::term_of(file, state, message);
-    let Term::Attest(key) = attest else {
+    }
+    let message = loaded::message_of(file, state, t);
+    if !loaded::is_kind(file, state, message, 0x14) {
         return Attested {
             refusal: 19,
             key: 0,
             signer: 0,
         };
-    };
-    let new = key as usize;
-    let half = signer as usize;
+    }
+    let key = loaded::attested_key_of(file, state, message);
+    let signer = loaded::signing_key_of(file, state, t);
     Attested {
         refusal: 0,
-        key: new,
-        signer: half,
+        key,
+        signer,
     }
 }
 
-// Whether a role is asked for, and a key is the signing key of a party of that role.
-fn signs_if(
-    asked: bool,
-    file: &[u8],
-    tables: &[u16; tables::WORDS],
-    role: u8,
-    key: usize,
-    parties: usize,
-) -> bool
-    requires { ⌜ Searched (now file) (now tables) parties key ⌝ }
-    ensures { λ x. ⌜ x ≡ (asked && signsForRole (fileIn (now (file .entry))) role key) ⌝ }
+// Whether a role is asked for, and a party has it.
+fn has_if(asked: bool, file: &[u8], role: u8, p: usize) -> bool
+    requires { ⌜ PartyHere (now file) p ⌝ }
+    ensures { λ x. ⌜ x ≡ (asked && isRole (fileIn (now (file .entry))) role p) ⌝ }
 {
     if !asked {
         return false;
     }
-    signs_for_role(file, tables, role, key, parties)
+    loaded::is_role(file, p, role)
+}
+
+// Whether a party is one who may sign.
+fn has_some(file: &[u8], who: Signers, p: usize) -> bool
+    requires { ⌜ PartyHere (now file) p ⌝ }
+    ensures { λ x. ⌜ x ≡ hasSome (fileIn (now (file .entry))) who p ⌝ }
+{
+    if has_if(who.maker, file, rules::TPM_MAKER, p) {
+        return true;
+    }
+    if has_if(who.oem, file, rules::OEM_DESK, p) {
+        return true;
+    }
+    has_if(who.owner, file, rules::OWNER_DESK, p)
+}
+
+// Whether a party that may sign signs with a key.
+fn signs_among(
+    file: &[u8],
+    tables: &[u16; tables::WORDS],
+    who: Signers,
+    key: usize,
+    p: usize,
+) -> bool
+    requires { ⌜ PartyHere (now file) p × (p < partyLimit) ⌝ }
+    ensures { λ x. ⌜ x ≡ (eqb (tablesIn (now (tables .entry)) .signer p) key && hasSome (fileIn (now (file .entry))) who p) ⌝ }
+{
+    let signer = tables::signer_of(tables, p) as usize;
+    if signer != key {
+        return false;
+    }
+    has_some(file, who, p)
 }
 
 // Whether a key is the signing key of one who may sign.
@@ -428,13 +433,14 @@ fn signs_for_some(
     requires { ⌜ Searched (now file) (now tables) parties key ⌝ }
     ensures { λ x. ⌜ x ≡ signsForSome (fileIn (now (file .entry))) who key ⌝ }
 {
-    if signs_if(who.maker, file, tables, rules::TPM_MAKER, key, parties) {
-        return true;
+    let mut p = 0;
+    while p < parties {
+        if signs_among(file, tables, who, key, p) {
+            return true;
+        }
+        p += 1;
     }
-    if signs_if(who.oem, file, tables, rules::OEM_DESK, key, parties) {
-        return true;
-    }
-    signs_if(who.owner, file, tables, rules::OWNER_DESK, key, parties)
+    false
 }
 
 // The parentage of a new key: its attest by the key of a certificate that a desk signed, and the attributes of both keys, as its

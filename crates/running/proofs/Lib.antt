@@ -1,3 +1,2 @@
 pub mod Local
-pub mod Ledger
 pub mod Branch

@@ -1,90 +1,27 @@
-// The calls on a lent slice of entries: Run and what is asked after it, and Path. The engine runs on plain slices, and its entries go to the ledger.
-// `entry` reads one of them.
+// The calls on a lent slice of entries, walked by hand: Run and what is asked after it, and Path. `entry` reads one of them.
+use path::Stage;
 use rules::AskAnswer;
 use rules::Entry;
 use rules::PathAnswer;
 use rules::Question;
 ghost use mathlib.Core.Path.{_≡_};
 ghost use lib.ListN.{getD};
+ghost use lib.Seq.{sets};
 ghost use Rattle.rules.specs.Lent.{noEntry, pathInNumbers, pathAnswer, pathBuffers, pathLeaves};
 ghost use Rattle.rules.specs.Questions.{askInNumbers, answerOf, leavesOf};
 ghost use Rattle.engine.specs.Runs.{lentWith};
-ghost use Rattle.asking.specs.Asks.{Asks};
-ghost use Rattle.path.specs.Paths.{Paths};
+ghost use Rattle.path.specs.Climbing.{ClimbReady, climbed};
 
-// What is answered, with the entries of the run in words and how many places of the ledger are to be written.
-pub struct Core {
-    pub words: [u16; entries::WORDS],
-    pub places: usize,
-    pub answer: AskAnswer,
-}
-
-// The same of Path.
-pub struct PathCore {
-    pub words: [u16; entries::WORDS],
-    pub places: usize,
-    pub answer: PathAnswer,
-}
-
-// What `ask` calls: the entries come in the answer.
-pub fn execute(
-    file: &[u8],
-    question: Question,
-    room: usize,
-    state: &mut [u8],
-    outcomes: &mut [u8],
-) -> Core
-    ensures { λ r. ⌜ Asks (now (file .entry)) question room (now (state .entry)) (now (outcomes .entry)) (now (state .exit)) (now (outcomes .exit)) (r .words) (r .places) (r .answer) ⌝ }
+// The steps of a path go to the list, an entry of the ledger read for each.
+fn climb(tables: &[u16; tables::WORDS], ledger: &[Entry], list: &mut [u16], start: Stage)
+    requires { ⌜ ClimbReady (now tables) (now ledger) (now list) start ⌝ }
+    ensures { λ _. ⌜ now (list .exit) ≡ sets (now (list .entry)) (start .at) (climbed (now (tables .entry)) (now (ledger .entry)) (start .left) (start .certificate)) ⌝ }
 {
-    let mut words = [0u16; entries::WORDS];
-    let mut tables = [0u16; tables::WORDS];
-    let done = asking::ask(
-        file,
-        question,
-        room,
-        state,
-        outcomes,
-        &mut words,
-        &mut tables,
-    );
-    let answer = done.answer;
-    Core {
-        words: words,
-        places: done.places,
-        answer: answer,
-    }
-}
-
-// What Path calls.
-pub fn execute_path(
-    file: &[u8],
-    n: usize,
-    room: usize,
-    state: &mut [u8],
-    outcomes: &mut [u8],
-    term: u16,
-    list: &mut [u16],
-) -> PathCore
-    ensures { λ r. ⌜ Paths (now (file .entry)) n room (now (state .entry)) (now (outcomes .entry)) term (now (list .entry)) (now (state .exit)) (now (outcomes .exit)) (now (list .exit)) (r .words) (record { places = r .places; answer = r .answer }) ⌝ }
-{
-    let mut words = [0u16; entries::WORDS];
-    let mut tables = [0u16; tables::WORDS];
-    let done = path::path(
-        file,
-        n,
-        room,
-        state,
-        outcomes,
-        term,
-        list,
-        &mut words,
-        &mut tables,
-    );
-    let answer = done.answer;
-    PathCore {
-        words: words,
-        places: done.places,
-        answer: answer,
+    let mut s = start;
+    while s.left != 0 {
+        let e = ledger::read_one(ledger, s.place);
+        let next = path::step(tables, list, s, e);
+        s = next;
     }
 }
 
@@ -103,10 +40,10 @@ pub fn ask(
         × (now (outcomes .exit) ≡ leavesOf question (now (file .entry)) (lentWith (now (state .entry)) (now (ledger .entry)) (now (outcomes .entry))) .outcomes) ⌝ }
 {
     let room = ledger.len();
-    let done = execute(file, question, room, state, outcomes);
-    let words = done.words;
-    ledger::copy_out(ledger, &words, done.places);
-    done.answer
+    let n = asking::count_of(question);
+    let mut tables = [0u16; tables::WORDS];
+    let done = runs::run(file, n, room, state, ledger, outcomes, &mut tables);
+    asking::answer(done, question, file, state)
 }
 
 // Executes the first n commands as Run does, and gives the path of a certificate after them in a lent list.
@@ -125,11 +62,14 @@ pub fn path(
         × (now (outcomes .exit) ≡ pathBuffers (now (file .entry)) n (lentWith (now (state .entry)) (now (ledger .entry)) (now (outcomes .entry))) term (now (list .entry)) .outcomes)
         × (now (list .exit) ≡ pathLeaves (now (file .entry)) n (lentWith (now (state .entry)) (now (ledger .entry)) (now (outcomes .entry))) term (now (list .entry))) ⌝ }
 {
-    let room = ledger.len();
-    let done = execute_path(file, n, room, state, outcomes, term, list);
-    let words = done.words;
-    ledger::copy_out(ledger, &words, done.places);
-    done.answer
+    let places = list.len();
+    let length = ledger.len();
+    let room = path::room_for(places, length);
+    let mut tables = [0u16; tables::WORDS];
+    let done = runs::run(file, n, room, state, ledger, outcomes, &mut tables);
+    let stage = path::first(done, &tables, term);
+    climb(&tables, ledger, list, stage);
+    path::answer(done, stage, term)
 }
 
 // The entry at a place of a ledger; zeros beyond its end.

@@ -4,17 +4,20 @@ use mathlib.Core.Path.{_≡_, refl, sym, ap, subst, subst⁻¹, _∙_}
 use mathlib.Core.Logic.{_⊎_, inl, inr}
 use mathlib.Core.Bool.{Bool, true, false, cond}
 use mathlib.Core.List.{List}
-use Prim.Native.Nat.{ℕ, _+_, _<_, _≤_}
+use Prim.Native.Nat.{ℕ, zero, suc, _+_, _<_, _≤_}
 use native.Mathlib.Omega.{arith}
 use lib.Dec.{eqb, ltb}
-use lib.ListN.{length, getD}
+use lib.ListN.{length, getD, drop}
+use lib.Seq.{drop-cons}
 use borrow.Author.Tests.{ltb-false, le-ltb}
 use Rattle.rules.specs.declared.Field.{Field}
 use Rattle.rules.specs.declared.Field.the-variants.{AnyTerm}
 use Rattle.rules.specs.Limits.{fileLimit}
 use Rattle.rules.specs.Record.{sectionOf, bodyLength, fieldsOf, width, commandSection}
 use Rattle.state.specs.View.{view}
+use Rattle.rules.specs.Load.{first}
 use Rattle.checks.specs.There.{headFault, TermsThere, fieldFaultThere}
+use Rattle.checks.specs.Plain.{fieldsFaultThere, Plain}
 use Rattle.records.proofs.Lengths.{section-most}
 use Rattle.theorems.proofs.Pieces.{bodyAt}
 use Rattle.reader.specs.Place.{nextPlace}
@@ -149,3 +152,38 @@ module _ {bs s : List ℕ} {n : Tally} {from at commands : ℕ} {body : List ℕ
         subst⁻¹ (At bs s signers (counted commandSection (w .standing .tally))) e
         (command-taken bs s signers (w .standing .tally) at body i offset (w .fields signers b) _ refl l k);
   }
+
+-- a refusal of two is none
+first-none : (a b : ℕ) → first a b ≡ 0 → (a ≡ 0) × (b ≡ 0)
+unfolding first
+first-none zero b e = (refl, e)
+first-none (suc a) b e = absurd (omega (arith, e))
+
+-- a command whose fields are seen to be right at once
+module _ {bs s signers : List ℕ} {n : Tally} {from at commands : ℕ} (a : At bs s signers n from) where
+  pub terms-here : Standing bs s n from at commands → TermsThere bs s (n .terms)
+  terms-here w = subst (TermsThere bs s) (w .termsAre) (w .carried signers a .describes .there)
+
+  -- every field is passed
+  fields-right : {body : List ℕ} (m i offset : ℕ) → i + m ≡ length (fieldsOf (getD bs at 0))
+      → fieldsFaultThere bs (view s .place) (n .parties) (n .terms) (drop i (fieldsOf (getD bs at 0))) offset body ≡ 0
+      → AtField bs s n from at commands body i offset
+      → (j : ℕ) × ((o : ℕ) × (AtField bs s n from at commands body j o × (length (fieldsOf (getD bs at 0)) ≤ j)))
+  unfolding fieldsFaultThere
+  fields-right zero i offset e r w = (i, (offset, (w, omega arith)))
+  fields-right {body} (suc m) i offset e r w =
+      let l : i < length (fieldsOf (getD bs at 0)) = omega (arith, e) in
+      let x : Field = getD (fieldsOf (getD bs at 0)) i AnyTerm in
+      let z = first-none _ _ (sym (ap (λ (xs : List Field). fieldsFaultThere bs (view s .place) (n .parties) (n .terms) xs offset body) (drop-cons (fieldsOf (getD bs at 0)) i AnyTerm l)) ∙ r) in
+      let q : i + 1 ≡ suc i = omega arith in
+      fields-right m (suc i) (offset + width x) (omega (arith, e)) (z .1)
+      (subst (λ (j : ℕ). AtField bs s n from at commands body j (offset + width x)) q (field-passes w a l refl refl (z .0) (width x) refl))
+
+  pub standing-plain : {next : ℕ} → Standing bs s n from at commands → at < length bs → Plain bs (view s .place) (n .parties) (n .terms) at next → Standing bs s n from next (commands + 1)
+  unfolding bodyAt nextPlace headFault
+  standing-plain {next} w h d =
+      let v = fields-right (length (fieldsOf (getD bs at 0))) 0 0 (omega arith) (d .right) (field-first w h refl (d .ends) (sym head) refl refl) in
+      standing-next (v .1 .1 .0) (v .1 .1 .1) (d .command) next (d .ends)
+    where
+      head : headFault (sectionOf (getD bs at 0)) next (length bs) commandSection (n .parties) (n .terms) ≡ 0
+      head = rw (d .command, le-ltb (length bs) next (d .whole)) refl

@@ -97,7 +97,7 @@ fn enter(
     0
 }
 
-// The scan of the commands, which come last: as that of the file, and nothing is noted.
+// The scan of the commands, which come last: as that of the file, and nothing is noted. A command whose fields are seen to be right at once is passed.
 fn scan_commands(
     table: &[u64; rules::KIND_COUNT],
     file: &[u8],
@@ -128,43 +128,48 @@ fn scan_commands(
                 },
             };
         }
-        let kind = file[at];
-        let start = at + 1;
-        let own = records::section_of(kind);
         let end = reader::next_place(file, at);
-        let head = checks::head_fault(own, end, file.len(), 4, parties, terms);
-        if head != 0 {
-            break 'records Scanned {
-                number: head,
-                place: at,
-                first: from,
-                tally: n,
-            };
-        }
-        let body = &file[start..end];
-        let mut fields = records::fields_in(table, kind);
-        let mut i: usize = 0;
-        let mut offset = 0;
-        while i < records::FIELD_LIMIT {
-            if fields == 0 {
-                break;
-            }
-            let field = records::low_field(fields);
-            let bad = checks::command_fault(file, state, body, field, offset, parties, terms);
-            if bad != 0 {
+        if checks::is_plain(table, file, state, at, end, parties, terms) {
+            commands += 1;
+            at = end;
+        } else {
+            let kind = file[at];
+            let start = at + 1;
+            let own = records::section_of(kind);
+            let head = checks::head_fault(own, end, file.len(), 4, parties, terms);
+            if head != 0 {
                 break 'records Scanned {
-                    number: bad,
+                    number: head,
                     place: at,
                     first: from,
                     tally: n,
                 };
             }
-            offset += records::width(field);
-            fields = fields / 256;
-            i += 1;
+            let body = &file[start..end];
+            let mut fields = records::fields_in(table, kind);
+            let mut i: usize = 0;
+            let mut offset = 0;
+            while i < records::FIELD_LIMIT {
+                if fields == 0 {
+                    break;
+                }
+                let field = records::low_field(fields);
+                let bad = checks::command_fault(file, state, body, field, offset, parties, terms);
+                if bad != 0 {
+                    break 'records Scanned {
+                        number: bad,
+                        place: at,
+                        first: from,
+                        tally: n,
+                    };
+                }
+                offset += records::width(field);
+                fields = fields / 256;
+                i += 1;
+            }
+            commands += 1;
+            at = end;
         }
-        commands += 1;
-        at = end;
     }
 }
 

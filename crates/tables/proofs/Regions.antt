@@ -2,7 +2,7 @@
 --     region-at       a word inside a region
 --     region-put      a store inside a region is one to its column
 --     region-kept     one outside it changes nothing
---     put-signer, put-half, put-entry, put-ek     a store to a column leaves the others
+--     put-signer, put-half, put-entry, put-depth, put-ek     a store to a column leaves the others
 --     put-linked      the three stores that link an entry
 --     zeros-at, region-none, tables-none, unlinked-none     each word of zeros is 0
 -- Assumes nothing.
@@ -17,7 +17,7 @@ use lib.Seq.{getD-set-same, getD-set-other}
 use borrow.Author.Tests.{ltb-true, ltb-false, lt-ltb, eqb-true, eqb-false}
 use Rattle.rules.specs.Limits.{partyLimit, termLimit}
 use Rattle.rules.specs.State.{put}
-use Rattle.tables.specs.Regions.{signerStart, halfStart, entryStart, newestStart, serialBuckets, serialBucket, serialStart, earlierStart, ekStart, tableWords, region, Boards, boardsIn, Unlinked, Tables, tablesIn, withSigner, withHalf, withEntry, withBoards, withEk, linked}
+use Rattle.tables.specs.Regions.{signerStart, halfStart, entryStart, depthStart, newestStart, serialBuckets, serialBucket, serialStart, earlierStart, ekStart, tableWords, region, Boards, boardsIn, Unlinked, Tables, tablesIn, withSigner, withHalf, withEntry, withDepth, withBoards, withEk, linked}
 
 pub region-at : (xs : List ℕ) (start size i : ℕ) → i < size → getD xs (start + i) 0 ≡ region xs start size i
 unfolding region
@@ -65,6 +65,7 @@ others-kept xs at x h = λ j. record {
   signer = region-kept xs signerStart partyLimit at x (omega arith) j;
   half = region-kept xs halfStart termLimit at x (omega arith) j;
   entry = region-kept xs entryStart termLimit at x (omega arith) j;
+  depth = region-kept xs depthStart termLimit at x (omega arith) j;
   boards = boardsIn (set xs at x);
 }
 
@@ -75,6 +76,7 @@ module _ (xs : List ℕ) (i x : ℕ) (size : length xs ≡ tableWords) where
     signer = region-put xs signerStart partyLimit i x h (omega arith) j;
     half = region-kept xs halfStart termLimit at x (omega arith) j;
     entry = region-kept xs entryStart termLimit at x (omega arith) j;
+    depth = region-kept xs depthStart termLimit at x (omega arith) j;
     boards = boards-kept xs at x (omega arith) j;
   }
 
@@ -84,6 +86,7 @@ module _ (xs : List ℕ) (i x : ℕ) (size : length xs ≡ tableWords) where
     signer = region-kept xs signerStart partyLimit at x (omega arith) j;
     half = region-put xs halfStart termLimit i x h (omega arith) j;
     entry = region-kept xs entryStart termLimit at x (omega arith) j;
+    depth = region-kept xs depthStart termLimit at x (omega arith) j;
     boards = boards-kept xs at x (omega arith) j;
   }
 
@@ -93,6 +96,17 @@ module _ (xs : List ℕ) (i x : ℕ) (size : length xs ≡ tableWords) where
     signer = region-kept xs signerStart partyLimit at x (omega arith) j;
     half = region-kept xs halfStart termLimit at x (omega arith) j;
     entry = region-put xs entryStart termLimit i x h (omega arith) j;
+    depth = region-kept xs depthStart termLimit at x (omega arith) j;
+    boards = boards-kept xs at x (omega arith) j;
+  }
+
+  pub put-depth : i < termLimit → tablesIn (set xs (depthStart + i) x) ≡ withDepth (tablesIn xs) (put (tablesIn xs .depth) i x)
+  put-depth h = let at = depthStart + i in λ j. record {
+    words = length-set xs at x j;
+    signer = region-kept xs signerStart partyLimit at x (omega arith) j;
+    half = region-kept xs halfStart termLimit at x (omega arith) j;
+    entry = region-kept xs entryStart termLimit at x (omega arith) j;
+    depth = region-put xs depthStart termLimit i x h (omega arith) j;
     boards = boards-kept xs at x (omega arith) j;
   }
 
@@ -163,10 +177,10 @@ region-none m start size i = go (ltb i size)
     go true = zeros-at m (start + i)
     go false = refl
 
-pub tables-none : (xs : List ℕ) → xs ≡ replicate tableWords 0 → (t : ℕ) → (tablesIn xs .half t ≡ 0) × (tablesIn xs .entry t ≡ 0)
+pub tables-none : (xs : List ℕ) → xs ≡ replicate tableWords 0 → (t : ℕ) → (tablesIn xs .half t ≡ 0) × (tablesIn xs .entry t ≡ 0) × (tablesIn xs .depth t ≡ 0)
 tables-none xs e t =
     let none : (start : ℕ) → region xs start termLimit t ≡ 0 = λ start. rw e (region-none tableWords start termLimit t) in
-    (none halfStart, none entryStart)
+    (none halfStart, none entryStart, none depthStart)
 
 pub unlinked-none : (xs : List ℕ) → xs ≡ replicate tableWords 0 → Unlinked (boardsIn xs)
 unlinked-none xs e = record { newest = λ i. rw e (region-none tableWords newestStart serialBuckets i); earlier = λ i. rw e (region-none tableWords earlierStart termLimit i) }

@@ -18,8 +18,11 @@ halfStart = signerStart + partyLimit
 abbrev pub entryStart : ℕ
 entryStart = halfStart + termLimit
 
+abbrev pub depthStart : ℕ
+depthStart = entryStart + termLimit
+
 abbrev pub newestStart : ℕ
-newestStart = entryStart + termLimit
+newestStart = depthStart + termLimit
 
 -- serial numbers of devices with the same rest share a bucket
 abbrev pub serialBuckets : ℕ
@@ -58,32 +61,36 @@ pub record Unlinked (b : Boards) : Type 0 where
   pub newest : (i : ℕ) → b .newest i ≡ 0
   pub earlier : (i : ℕ) → b .earlier i ≡ 0
 
--- How many words there are. Each party's signing key. The private half of each public key, and the place of each certificate's entry in the ledger: one more than the number, 0 where there is none.
+-- How many words there are. Each party's signing key. The private half of each public key, and the place of each certificate's entry in the ledger: one more than the number, 0 where there is none. The depth of each certificate's entry, 0 where there is none.
 pub record Tables : Type 0 where
   pub words : ℕ
   pub signer : ℕ → ℕ
   pub half : ℕ → ℕ
   pub entry : ℕ → ℕ
+  pub depth : ℕ → ℕ
   pub boards : Boards
 
 abbrev pub boardsIn : List ℕ → Boards
 boardsIn xs = record { newest = region xs newestStart serialBuckets; serial = region xs serialStart termLimit; earlier = region xs earlierStart termLimit; ek = region xs ekStart termLimit }
 
 abbrev pub tablesIn : List ℕ → Tables
-tablesIn xs = record { words = length xs; signer = region xs signerStart partyLimit; half = region xs halfStart termLimit; entry = region xs entryStart termLimit; boards = boardsIn xs }
+tablesIn xs = record { words = length xs; signer = region xs signerStart partyLimit; half = region xs halfStart termLimit; entry = region xs entryStart termLimit; depth = region xs depthStart termLimit; boards = boardsIn xs }
 
 -- one column replaced
 abbrev pub withSigner : Tables → (ℕ → ℕ) → Tables
-withSigner v c = record { words = v .words; signer = c; half = v .half; entry = v .entry; boards = v .boards }
+withSigner v c = record { words = v .words; signer = c; half = v .half; entry = v .entry; depth = v .depth; boards = v .boards }
 
 abbrev pub withHalf : Tables → (ℕ → ℕ) → Tables
-withHalf v c = record { words = v .words; signer = v .signer; half = c; entry = v .entry; boards = v .boards }
+withHalf v c = record { words = v .words; signer = v .signer; half = c; entry = v .entry; depth = v .depth; boards = v .boards }
 
 abbrev pub withEntry : Tables → (ℕ → ℕ) → Tables
-withEntry v c = record { words = v .words; signer = v .signer; half = v .half; entry = c; boards = v .boards }
+withEntry v c = record { words = v .words; signer = v .signer; half = v .half; entry = c; depth = v .depth; boards = v .boards }
+
+abbrev pub withDepth : Tables → (ℕ → ℕ) → Tables
+withDepth v c = record { words = v .words; signer = v .signer; half = v .half; entry = v .entry; depth = c; boards = v .boards }
 
 abbrev pub withBoards : Tables → Boards → Tables
-withBoards v b = record { words = v .words; signer = v .signer; half = v .half; entry = v .entry; boards = b }
+withBoards v b = record { words = v .words; signer = v .signer; half = v .half; entry = v .entry; depth = v .depth; boards = b }
 
 -- the EK of the entry at a place noted
 abbrev pub withEk : Boards → (ℕ → ℕ) → Boards

@@ -4,7 +4,7 @@ ghost use Prim.Native.Nat.{_<_};
 ghost use lib.ListN.{length};
 ghost use Rattle.rules.specs.Limits.{partyLimit, termLimit};
 ghost use Rattle.rules.specs.State.{put};
-ghost use Rattle.tables.specs.Regions.{serialBuckets, tableWords, tablesIn, withSigner, withHalf, withEntry, withBoards, withEk, linked};
+ghost use Rattle.tables.specs.Regions.{serialBuckets, tableWords, tablesIn, withSigner, withHalf, withEntry, withDepth, withBoards, withEk, linked};
 
 // Where each region starts, and how many words there are in all.
 pub const SIGNERS: usize = 0;
@@ -13,7 +13,9 @@ pub const HALVES: usize = SIGNERS + rules::PARTY_LIMIT;
 
 pub const ENTRIES: usize = HALVES + rules::TERM_LIMIT;
 
-pub const NEWEST: usize = ENTRIES + rules::TERM_LIMIT;
+pub const DEPTHS: usize = ENTRIES + rules::TERM_LIMIT;
+
+pub const NEWEST: usize = DEPTHS + rules::TERM_LIMIT;
 
 // Serial numbers with the same low ten bits share a bucket.
 pub const SERIAL_BUCKETS: usize = 1024;
@@ -50,6 +52,14 @@ pub fn entry_of(tables: &[u16; WORDS], t: usize) -> u16
     tables[ENTRIES + t]
 }
 
+// The depth of a certificate's entry, or 0.
+pub fn depth_of(tables: &[u16; WORDS], t: usize) -> u16
+    requires { ⌜ t < termLimit ⌝ }
+    ensures { λ r. ⌜ r ≡ tablesIn (now (tables .entry)) .depth t ⌝ }
+{
+    tables[DEPTHS + t]
+}
+
 pub fn note_signer(tables: &mut [u16; WORDS], party: usize, key: u16)
     requires { ⌜ (length (now tables) ≡ tableWords) × (party < partyLimit) ⌝ }
     ensures { λ _. ⌜ tablesIn (now (tables .exit)) ≡ withSigner (tablesIn (now (tables .entry))) (put (tablesIn (now (tables .entry)) .signer) party key) ⌝ }
@@ -69,6 +79,13 @@ pub fn note_entry(tables: &mut [u16; WORDS], t: usize, entry: u16)
     ensures { λ _. ⌜ tablesIn (now (tables .exit)) ≡ withEntry (tablesIn (now (tables .entry))) (put (tablesIn (now (tables .entry)) .entry) t entry) ⌝ }
 {
     tables[ENTRIES + t] = entry;
+}
+
+pub fn note_depth(tables: &mut [u16; WORDS], t: usize, depth: u16)
+    requires { ⌜ (length (now tables) ≡ tableWords) × (t < termLimit) ⌝ }
+    ensures { λ _. ⌜ tablesIn (now (tables .exit)) ≡ withDepth (tablesIn (now (tables .entry))) (put (tablesIn (now (tables .entry)) .depth) t depth) ⌝ }
+{
+    tables[DEPTHS + t] = depth;
 }
 
 // One more than the place of the entry that was linked last in a bucket, or 0.

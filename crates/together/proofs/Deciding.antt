@@ -66,7 +66,7 @@ module _ (bs s tables : List ℕ) (at : ℕ) (w : TogetherDecided bs s tables at
         go true e = subst⁻¹ (PairsRequested (fileIn bs) (view s .request)) (more-empty bs (at + 3) j l e) r
         go false e = subst⁻¹ (PairsRequested (fileIn bs) (view s .request)) (more-filled bs (at + 3) j l e) (requested-more (fileIn bs) (view s .request) before own r (d .requested e z))
 
-    module _ {words : List ℕ} {entries : ℕ} {ledger : List Entry} (k : Ledgered bs s tables words entries ledger) where
+    module _ {entries : ℕ} {ledger : List Entry} (k : Ledgered bs s tables entries ledger) where
       abbrev S : State
       S = stateOf (view s) ledger
 
@@ -78,7 +78,7 @@ module _ (bs s tables : List ℕ) (at : ℕ) (w : TogetherDecided bs s tables at
             judged-pair (fileIn bs) (checked-here (w .here .holds)) S (k .sound) (deskAt bs at) (returningAt bs at) (v .0) (v .1) before (formed-before bs (at + 3) j l (fileIn bs) (v .2)) a own
             (formed-at bs (at + 3) j l (fileIn bs) e (v .2) .0)
             (apart-at before own _ (ap (λ (xs : List IakPair). anyTwice (certificatesOf xs)) (sym (all-filled bs (at + 3) j l e)) ∙ fault-zero all fault .1)) role
-            ∙ sym (d .filled e words entries ledger k)
+            ∙ sym (d .filled e entries ledger k)
 
         pub accepted-next : x ≡ 0 → PairsAccepted (fileIn bs) S (deskAt bs at) (returningAt bs at) (pairsAt (j + 1) bs (at + 3))
         accepted-next z = go (emptyPair bs (at + 3 + pairWidth * j)) refl

@@ -6,14 +6,14 @@
 --     issuing-ends      after the last
 -- Assumes nothing.
 use mathlib.Core.Path.{_≡_, refl, sym, ap, subst, subst⁻¹, _∙_}
-use mathlib.Core.Bool.{true, false}
-use mathlib.Core.List.{List, [], _∷_, _++_}
-use Prim.Native.Nat.{ℕ, _+_, _-_, _<_}
+use mathlib.Core.Bool.{Bool, true, false, cond}
+use mathlib.Core.List.{List, [], _∷_, _++_, append-assoc, append-nil}
+use Prim.Native.Nat.{ℕ, zero, suc, _+_, _<_, _≤_}
 use native.Mathlib.Omega.{arith}
 use native.Mathlib.Decide.{ℕ-discrete}
 use lib.ListN.{length}
 use Rattle.rules.specs.declared.Entry.{Entry}
-use Rattle.rules.specs.Limits.{pairCount}
+use Rattle.rules.specs.Limits.{pairCount, pairWidth}
 use Rattle.rules.specs.File.{IakPair, issueIak}
 use Rattle.rules.specs.Load.{emptyPair, pairsAt}
 use Rattle.rules.specs.State.{State}
@@ -27,110 +27,147 @@ use Rattle.state.specs.View.{view}
 use Rattle.state.proofs.Exact.{stateOf}
 use Rattle.tables.specs.Regions.{tablesIn}
 use Rattle.loaded.specs.Loaded.{fileIn}
-use Rattle.loaded.specs.Entries.{DeskLeaves, SameKeys}
+use Rattle.loaded.specs.Entries.{Enters, Boarded, Ledgered, LeavesOn, DeskLeaves, SameKeys}
 use Rattle.loaded.proofs.Standing.{checked-here, holds-kept}
 use Rattle.loaded.proofs.Ledger.{ledger-length}
 use Rattle.loaded.proofs.Room.{ledger-below}
 use Rattle.requests.specs.Formed.{OpenRequested}
 use Rattle.issuance.specs.Issues.{IssuesIak}
-use Rattle.issuance.proofs.Issued.{iak-open, same-ledger}
+use Rattle.issuance.proofs.Issued.{iak-open}
+use Rattle.gained.specs.declared.Gained.{Gained}
+use Rattle.gained.specs.Took.{took, Whole, Adds}
+use Rattle.gained.proofs.Took.{took-none, took-length}
 use Rattle.together.specs.Ready.{deskAt, returningAt, pairAt, togetherAt, TogetherDone, Issuing}
 use Rattle.together.proofs.Pairs.{one-empty, one-filled}
 
 same-keys : (tables : List ℕ) → SameKeys (tablesIn tables) (tablesIn tables)
 same-keys tables = record { words = refl; signer = refl; half = refl }
 
-pub issuing-start :
-    {bs s tables words : List ℕ} {n at : ℕ} (w : TogetherDone bs s tables words n at)
-    → Issuing bs s tables (deskAt bs at) (returningAt bs at) (effectOf (fileIn bs) (stateOf (view s) (w .ledger)) (togetherAt bs at)) (pairsAt pairCount bs (at + 3)) s tables words n
-unfolding effectOf
-issuing-start {bs} {s} {tables} {at = at} w = record {
-  holds = w .here .holds;
-  places = refl;
-  keys = same-keys tables;
-  room = w .keys;
-  ledger = w .ledger;
-  ledgered = w .ledgered;
-  left = refl;
-  accepted = pairs-accepted (fileIn bs) (stateOf (view s) (w .ledger)) (deskAt bs at) (returningAt bs at) (pairsAt pairCount bs (at + 3)) (w .accepted);
-  desk = w .here .wellformed .0;
-  returning = w .here .wellformed .1;
-  formed = w .here .wellformed .2;
-  opened = w .here .opened;
-}
+pairs-few : (n : ℕ) (bs : List ℕ) (i : ℕ) → length (pairsAt n bs i) ≤ n
+unfolding pairsAt
+pairs-few zero bs i = omega arith
+pairs-few (suc n) bs i = go (emptyPair bs i) (pairs-few n bs (i + pairWidth))
+  where
+    go : (b : Bool) → length (pairsAt n bs (i + pairWidth)) ≤ n → length (cond b (pairsAt n bs (i + pairWidth)) (pairAt bs i ∷ pairsAt n bs (i + pairWidth))) ≤ suc n
+    go true h = omega (arith, h)
+    go false h = omega (arith, h)
 
-module _ {bs s₀ tables₀ s tables words : List ℕ} {p q n : ℕ} {all : State} where
-  pub issuing-as : {xs ys : List IakPair} → xs ≡ ys → Issuing bs s₀ tables₀ p q all xs s tables words n → Issuing bs s₀ tables₀ p q all ys s tables words n
-  issuing-as e g = subst (λ (zs : List IakPair). Issuing bs s₀ tables₀ p q all zs s tables words n) e g
+module _ {bs s tables : List ℕ} {n at : ℕ} (w : TogetherDone bs s tables n at) (g : Gained) (none : Whole g × (g .count ≡ 0)) where
+  as-old : w .ledger ++ took g ≡ w .ledger
+  as-old = ap (λ (l : List Entry). w .ledger ++ l) (took-none g (none .1)) ∙ append-nil (w .ledger)
 
-  pub issuing-empty : (place : ℕ) (more : List IakPair) → emptyPair bs place ≡ true → Issuing bs s₀ tables₀ p q all (pairsAt 1 bs place ++ more) s tables words n → Issuing bs s₀ tables₀ p q all more s tables words n
-  issuing-empty place more e g = issuing-as (ap (λ (xs : List IakPair). xs ++ more) (one-empty bs place e)) g
+  as-many : n + g .count ≡ n
+  as-many = omega (arith, none .1)
 
-  module _ {x : IakPair} {more : List IakPair} (g : Issuing bs s₀ tables₀ p q all (x ∷ more) s tables words n) where
+  pub issuing-start : Issuing bs s tables (deskAt bs at) (returningAt bs at) (effectOf (fileIn bs) (stateOf (view s) (w .ledger)) (togetherAt bs at)) (pairsAt pairCount bs (at + 3)) s tables n (w .ledger) g
+  unfolding effectOf
+  issuing-start = record {
+    holds = w .here .holds;
+    places = refl;
+    keys = same-keys tables;
+    room = w .keys;
+    whole = none .0;
+    few = omega (arith, pairs-few pairCount bs (at + 3), none .1);
+    ledgered = subst⁻¹ (λ (m : ℕ). Ledgered bs s tables m (w .ledger ++ took g)) as-many (subst⁻¹ (Ledgered bs s tables n) as-old (w .ledgered));
+    left = ap (λ (l : List Entry). issueIaksEffect (fileIn bs) (stateOf (view s) l) (deskAt bs at) (returningAt bs at) (pairsAt pairCount bs (at + 3))) as-old;
+    accepted = subst⁻¹ (λ (l : List Entry). PairsAccepted (fileIn bs) (stateOf (view s) l) (deskAt bs at) (returningAt bs at) (pairsAt pairCount bs (at + 3))) as-old (pairs-accepted (fileIn bs) (stateOf (view s) (w .ledger)) (deskAt bs at) (returningAt bs at) (pairsAt pairCount bs (at + 3)) (w .accepted));
+    desk = w .here .wellformed .0;
+    returning = w .here .wellformed .1;
+    formed = w .here .wellformed .2;
+    opened = w .here .opened;
+  }
+
+module _ {bs s₀ tables₀ s tables : List ℕ} {p q n : ℕ} {all : State} {old : List Entry} {g : Gained} where
+  pub issuing-as : {xs ys : List IakPair} → xs ≡ ys → Issuing bs s₀ tables₀ p q all xs s tables n old g → Issuing bs s₀ tables₀ p q all ys s tables n old g
+  issuing-as e w = subst (λ (zs : List IakPair). Issuing bs s₀ tables₀ p q all zs s tables n old g) e w
+
+  pub issuing-empty : (place : ℕ) (more : List IakPair) → emptyPair bs place ≡ true → Issuing bs s₀ tables₀ p q all (pairsAt 1 bs place ++ more) s tables n old g → Issuing bs s₀ tables₀ p q all more s tables n old g
+  issuing-empty place more e w = issuing-as (ap (λ (xs : List IakPair). xs ++ more) (one-empty bs place e)) w
+
+  pub issuing-some : (place : ℕ) (more : List IakPair) → emptyPair bs place ≡ false → Issuing bs s₀ tables₀ p q all (pairsAt 1 bs place ++ more) s tables n old g → Issuing bs s₀ tables₀ p q all (pairAt bs place ∷ more) s tables n old g
+  issuing-some place more e w = issuing-as (ap (λ (xs : List IakPair). xs ++ more) (one-filled bs place e)) w
+
+  module _ {x : IakPair} {more : List IakPair} (w : Issuing bs s₀ tables₀ p q all (x ∷ more) s tables n old g) where
     abbrev Before : State
-    Before = stateOf (view s) (g .ledger)
+    Before = stateOf (view s) (old ++ took g)
 
-    room-left : n < 1024
+    room-left : n + g .count < 1024
     room-left =
-        let e = ledger-length (x .certificate) (g .ledgered .enters) in
-        omega (arith, ledger-below (checked-here (g .holds)) (g .ledgered .sound))
+        let e = ledger-length (x .certificate) (w .ledgered .enters) in
+        omega (arith, ledger-below (checked-here (w .holds)) (w .ledgered .sound))
 
-    pub pair-ready : IssuesIak bs s tables words n p (x .credential) (x .certificate)
+    pub pair-room : n + g .count < 1024
+    pair-room = room-left
+
+    pub pair-adds : Whole g × (g .count < pairCount)
+    pair-adds = (w .whole, omega (arith, w .few))
+
+    pub pair-ready : IssuesIak bs s tables (n + g .count) p (x .credential) (x .certificate)
     pair-ready = record {
       other = q;
-      wellformed = (g .desk, g .returning, g .formed .0, g .formed .1);
-      requested = g .opened (x .credential) (iak-open (fileIn bs) Before p q (x .credential) (x .certificate) (g .accepted .0));
-      accepts = record { ledger = g .ledger; enters = g .ledgered .enters; accepted = g .accepted .0; more = room-left };
-      words = g .room;
+      wellformed = (w .desk, w .returning, w .formed .0, w .formed .1);
+      requested = w .opened (x .credential) (iak-open (fileIn bs) Before p q (x .credential) (x .certificate) (w .accepted .0));
+      accepts = record { ledger = old ++ took g; enters = w .ledgered .enters; accepted = w .accepted .0; more = room-left };
+      words = w .room;
     }
 
-    module _ {s′ tables′ words′ : List ℕ} (v : DeskLeaves bs s tables words n (issueIak p q (x .credential) (x .certificate)) s′ tables′ words′ (n + 1)) (len : length s′ ≡ length s) where
-      abbrev After : State
-      After = stateOf (view s′) (v .ledger (g .ledger))
+    module _ {s′ tables′ : List ℕ} {e : Entry} {r : Gained} (v : DeskLeaves bs s tables (n + g .count) (issueIak p q (x .credential) (x .certificate)) s′ tables′ (e ∷ [])) (adds : Adds g e r) (len : length s′ ≡ length s) where
+      abbrev on : LeavesOn bs s tables (n + g .count) (issueIak p q (x .credential) (x .certificate)) s′ tables′ (e ∷ []) (old ++ took g)
+      on = v .on (old ++ took g) (record { ledgered = w .ledgered; accepted = w .accepted .0 })
 
-      columns : After ≡ issueIakEffect (fileIn bs) Before p q (x .credential) (x .certificate)
+      all-took : (old ++ took g) ++ (e ∷ []) ≡ old ++ took r
+      all-took = append-assoc old (took g) (e ∷ []) ∙ ap (λ (l : List Entry). old ++ l) (sym (adds .entries))
+
+      all-count : n + g .count + 1 ≡ n + r .count
+      all-count = omega (arith, adds .count)
+
+      columns : stateOf (view s′) (old ++ took r) ≡ issueIakEffect (fileIn bs) Before p q (x .credential) (x .certificate)
       unfolding effectOf
-      columns = v .columns (g .ledger) (g .ledgered .enters)
+      columns = ap (stateOf (view s′)) (sym all-took) ∙ on .columns
 
       sound : Invariant (fileIn bs) (issueIakEffect (fileIn bs) Before p q (x .credential) (x .certificate))
       unfolding effectOf
-      sound = invariant-next (fileIn bs) (checked-here (g .holds)) Before _ (g .ledgered .sound) (issueIak-step (fileIn bs) (checked-here (g .holds)) Before (g .ledgered .sound) p q (x .credential) (x .certificate) (g .desk, g .returning, g .formed .0, g .formed .1) (g .accepted .0))
+      sound = invariant-next (fileIn bs) (checked-here (w .holds)) Before _ (w .ledgered .sound) (issueIak-step (fileIn bs) (checked-here (w .holds)) Before (w .ledgered .sound) p q (x .credential) (x .certificate) (w .desk, w .returning, w .formed .0, w .formed .1) (w .accepted .0))
 
       opened : OpenRequested bs s′
       opened c h =
-          let k = close-stays (fileIn bs) (checked-here (g .holds)) Before p q (x .credential) (x .certificate) c (ap (λ (y : State). y .mark c) (sym columns) ∙ h) (ℕ-discrete c (x .credential)) in
-          subst (Rattle.requests.specs.Formed.Requested (fileIn bs)) (k .2 ∙ ap (λ (y : State). y .request c) (sym columns)) (g .opened c (k .0))
+          let k = close-stays (fileIn bs) (checked-here (w .holds)) Before p q (x .credential) (x .certificate) c (ap (λ (y : State). y .mark c) (sym columns) ∙ h) (ℕ-discrete c (x .credential)) in
+          subst (Rattle.requests.specs.Formed.Requested (fileIn bs)) (k .2 ∙ ap (λ (y : State). y .request c) (sym columns)) (w .opened c (k .0))
 
-      pub issuing-filled : Issuing bs s₀ tables₀ p q all more s′ tables′ words′ (n + 1)
+      pub issuing-filled : Issuing bs s₀ tables₀ p q all more s′ tables′ n old r
       unfolding issueIaksEffect
       issuing-filled = record {
-        holds = holds-kept (g .holds) len (v .places);
-        places = v .places ∙ g .places;
-        keys = record { words = v .keys .words ∙ g .keys .words; signer = v .keys .signer ∙ g .keys .signer; half = v .keys .half ∙ g .keys .half };
-        room = v .keys .words ∙ g .room;
-        ledger = v .ledger (g .ledger);
-        ledgered = record { enters = v .enters (g .ledger) (g .ledgered .enters); boards = v .boards (g .ledger) (g .ledgered); sound = subst⁻¹ (Invariant (fileIn bs)) columns sound };
-        left = ap (λ (y : State). issueIaksEffect (fileIn bs) y p q more) columns ∙ g .left;
-        accepted = subst⁻¹ (λ (y : State). PairsAccepted (fileIn bs) y p q more) columns (g .accepted .1);
-        desk = g .desk;
-        returning = g .returning;
-        formed = g .formed .2;
+        holds = holds-kept (w .holds) len (v .places);
+        places = v .places ∙ w .places;
+        keys = record { words = v .keys .words ∙ w .keys .words; signer = v .keys .signer ∙ w .keys .signer; half = v .keys .half ∙ w .keys .half };
+        room = v .keys .words ∙ w .room;
+        whole = adds .whole;
+        few = omega (arith, w .few, adds .count);
+        ledgered = record {
+          enters = subst (λ (m : ℕ). Enters tables′ m (old ++ took r)) all-count (subst (Enters tables′ (n + g .count + 1)) all-took (on .enters));
+          boards = subst (Boarded (fileIn bs) (tablesIn tables′ .boards)) all-took (on .boards);
+          sound = subst⁻¹ (Invariant (fileIn bs)) columns sound;
+        };
+        left = ap (λ (y : State). issueIaksEffect (fileIn bs) y p q more) columns ∙ w .left;
+        accepted = subst⁻¹ (λ (y : State). PairsAccepted (fileIn bs) y p q more) columns (w .accepted .1);
+        desk = w .desk;
+        returning = w .returning;
+        formed = w .formed .2;
         opened = opened;
       }
 
-  pub issuing-some : (place : ℕ) (more : List IakPair) → emptyPair bs place ≡ false → Issuing bs s₀ tables₀ p q all (pairsAt 1 bs place ++ more) s tables words n → Issuing bs s₀ tables₀ p q all (pairAt bs place ∷ more) s tables words n
-  issuing-some place more e g = issuing-as (ap (λ (xs : List IakPair). xs ++ more) (one-filled bs place e)) g
-
 pub issuing-ends :
-    {bs s tables words s′ tables′ words′ : List ℕ} {n r at : ℕ} (w : TogetherDone bs s tables words n at)
-    → Issuing bs s tables (deskAt bs at) (returningAt bs at) (effectOf (fileIn bs) (stateOf (view s) (w .ledger)) (togetherAt bs at)) [] s′ tables′ words′ r
-    → DeskLeaves bs s tables words n (togetherAt bs at) s′ tables′ words′ r
+    {bs s tables s′ tables′ : List ℕ} {n at : ℕ} {g : Gained} (w₀ : TogetherDone bs s tables n at)
+    → ((w : TogetherDone bs s tables n at) → Issuing bs s tables (deskAt bs at) (returningAt bs at) (effectOf (fileIn bs) (stateOf (view s) (w .ledger)) (togetherAt bs at)) [] s′ tables′ n (w .ledger) g)
+    → Whole g × DeskLeaves bs s tables n (togetherAt bs at) s′ tables′ (took g)
 unfolding issueIaksEffect
-issuing-ends {bs} {s} {at = at} w g = record {
-  ledger = λ old. g .ledger;
-  columns = λ old h. g .left ∙ ap (λ (l : List Entry). effectOf (fileIn bs) (stateOf (view s) l) (togetherAt bs at)) (same-ledger (w .ledgered .enters) h);
-  enters = λ old h. g .ledgered .enters;
-  boards = λ old h. g .ledgered .boards;
-  places = g .places;
-  keys = g .keys;
-}
+issuing-ends {tables′ = tables′} {n = n} {g = g} w₀ all = (
+  all w₀ .whole,
+  record {
+    on = λ old o.
+        let v = all (record { here = w₀ .here; keys = w₀ .keys; ledger = old; ledgered = o .ledgered; accepted = o .accepted }) in
+        record { columns = v .left; enters = subst⁻¹ (λ (m : ℕ). Enters tables′ (n + m) (old ++ took g)) (took-length g (v .whole)) (v .ledgered .enters); boards = v .ledgered .boards };
+    places = all w₀ .places;
+    keys = all w₀ .keys;
+  },
+)

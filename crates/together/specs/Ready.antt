@@ -20,6 +20,8 @@ use Rattle.state.proofs.Exact.{stateOf}
 use Rattle.tables.specs.Regions.{tableWords, tablesIn}
 use Rattle.loaded.specs.Loaded.{fileIn, Holds, Finds}
 use Rattle.loaded.specs.Entries.{Ledgered, SameKeys}
+use Rattle.gained.specs.declared.Gained.{Gained}
+use Rattle.gained.specs.Took.{took, Whole}
 use Rattle.requests.specs.Formed.{Requested, OpenRequested}
 use Rattle.together.specs.Pairs.{PairsRequested}
 
@@ -46,10 +48,9 @@ pub record TogetherHere (bs s : List ℕ) (at : ℕ) : Type 0 where
 pub record TogetherDecided (bs s tables : List ℕ) (at : ℕ) : Type 0 where
   pub here : TogetherHere bs s at
   pub finds : Finds bs tables
-  pub words : List ℕ
   pub entries : ℕ
   pub ledger : List Entry
-  pub ledgered : Ledgered bs s tables words entries ledger
+  pub ledgered : Ledgered bs s tables entries ledger
 
 -- n of its pairs were judged
 pub record JudgeReady (bs s tables : List ℕ) (at n : ℕ) : Type 0 where
@@ -62,44 +63,47 @@ pub record JudgeReady (bs s tables : List ℕ) (at n : ℕ) : Type 0 where
 pub record Judges (bs s tables : List ℕ) (at n x : ℕ) : Type 0 where
   pub empty : emptyPair bs (at + 3 + pairWidth * n) ≡ true → x ≡ 0
   pub filled :
-      emptyPair bs (at + 3 + pairWidth * n) ≡ false → (words : List ℕ) (entries : ℕ) (ledger : List Entry) → Ledgered bs s tables words entries ledger
+      emptyPair bs (at + 3 + pairWidth * n) ≡ false → (entries : ℕ) (ledger : List Entry) → Ledgered bs s tables entries ledger
       → x ≡ judged (fileIn bs) (stateOf (view s) ledger) (deskAt bs at) (returningAt bs at) (pairsAt n bs (at + 3)) (pairAt bs (at + 3 + pairWidth * n))
   pub requested : emptyPair bs (at + 3 + pairWidth * n) ≡ false → x ≡ 0 → Requested (fileIn bs) (view s .request (word bs (at + 3 + pairWidth * n)))
 
 -- an accepted one
-pub record TogetherDone (bs s tables words : List ℕ) (n at : ℕ) : Type 0 where
+pub record TogetherDone (bs s tables : List ℕ) (n at : ℕ) : Type 0 where
   pub here : TogetherHere bs s at
   pub keys : length tables ≡ tableWords
   pub ledger : List Entry
-  pub ledgered : Ledgered bs s tables words n ledger
+  pub ledgered : Ledgered bs s tables n ledger
   pub accepted : outcome (fileIn bs) (stateOf (view s) ledger) (togetherAt bs at) ≡ 0
 
--- While its pairs are issued: what is left of them leaves all that the command leaves, and each is accepted after those before it.
-pub record Issuing (bs s₀ tables₀ : List ℕ) (p q : ℕ) (all : State) (xs : List IakPair) (s tables words : List ℕ) (n : ℕ) : Type 0 where
+-- While its pairs are issued: what is left of them leaves all that the command leaves, and each is accepted after those before it. The ledger
+-- had n entries, and gains some.
+pub record Issuing (bs s₀ tables₀ : List ℕ) (p q : ℕ) (all : State) (xs : List IakPair) (s tables : List ℕ) (n : ℕ) (old : List Entry) (g : Gained) : Type 0 where
   pub holds : Holds bs s
   pub places : view s .place ≡ view s₀ .place
   pub keys : SameKeys (tablesIn tables₀) (tablesIn tables)
   pub room : length tables ≡ tableWords
-  pub ledger : List Entry
-  pub ledgered : Ledgered bs s tables words n ledger
-  pub left : issueIaksEffect (fileIn bs) (stateOf (view s) ledger) p q xs ≡ all
-  pub accepted : PairsAccepted (fileIn bs) (stateOf (view s) ledger) p q xs
+  pub whole : Whole g
+  pub few : g .count + length xs ≤ pairCount
+  pub ledgered : Ledgered bs s tables (n + g .count) (old ++ took g)
+  pub left : issueIaksEffect (fileIn bs) (stateOf (view s) (old ++ took g)) p q xs ≡ all
+  pub accepted : PairsAccepted (fileIn bs) (stateOf (view s) (old ++ took g)) p q xs
   pub desk : p < length (fileIn bs .roles)
   pub returning : q < length (fileIn bs .roles)
   pub formed : PairsFormed (fileIn bs) xs
   pub opened : OpenRequested bs s
 
 -- the pair at a place is among what is left
-pub record SomeLeft (bs : List ℕ) (p place : ℕ) (s tables words : List ℕ) (n : ℕ) : Type 0 where
+pub record SomeLeft (bs : List ℕ) (p place : ℕ) (s tables : List ℕ) (n : ℕ) (g : Gained) : Type 0 where
   pub start : List ℕ
   pub startTables : List ℕ
   pub returning : ℕ
   pub all : State
   pub more : List IakPair
-  pub issuing : Issuing bs start startTables p returning all (pairsAt 1 bs place ++ more) s tables words n
+  pub old : List Entry
+  pub issuing : Issuing bs start startTables p returning all (pairsAt 1 bs place ++ more) s tables n old g
 
 -- and is no more
-abbrev pub OneLess : List ℕ → ℕ → ℕ → List ℕ → List ℕ → List ℕ → ℕ → List ℕ → List ℕ → List ℕ → ℕ → Type 0
-OneLess bs p place s tables words n s′ tables′ words′ r =
-    (s₀ tables₀ : List ℕ) (q : ℕ) (all : State) (more : List IakPair) → Issuing bs s₀ tables₀ p q all (pairsAt 1 bs place ++ more) s tables words n
-    → Issuing bs s₀ tables₀ p q all more s′ tables′ words′ r
+abbrev pub OneLess : List ℕ → ℕ → ℕ → List ℕ → List ℕ → ℕ → Gained → List ℕ → List ℕ → Gained → Type 0
+OneLess bs p place s tables n g s′ tables′ r =
+    (s₀ tables₀ : List ℕ) (q : ℕ) (all : State) (more : List IakPair) (old : List Entry) → Issuing bs s₀ tables₀ p q all (pairsAt 1 bs place ++ more) s tables n old g
+    → Issuing bs s₀ tables₀ p q all more s′ tables′ n old r

@@ -1,5 +1,6 @@
 // All IAKs of a board together, 43: what the command decides and leaves. All pairs are judged on the state before the command, and none is
 // written before all are.
+use gained::Gained;
 use rules::Subject;
 ghost use mathlib.Core.Path.{_≡_};
 ghost use mathlib.Core.List.{List};
@@ -19,6 +20,7 @@ ghost use Rattle.state.specs.View.{view};
 ghost use Rattle.state.proofs.Exact.{stateOf};
 ghost use Rattle.loaded.specs.Loaded.{fileIn, Holds};
 ghost use Rattle.loaded.specs.Entries.{Ledgered, DecidesListed, DeskLeaves};
+ghost use Rattle.gained.specs.Took.{took, Whole};
 ghost use Rattle.requests.specs.Formed.{Requested};
 ghost use Rattle.together.specs.Pairs.{wordsAt, alikeBefore, pairsFault, PairsNamed, PairsRequested};
 ghost use Rattle.together.specs.Ready.{deskAt, returningAt, togetherAt, TogetherDecided, JudgeReady, Judges, TogetherDone, SomeLeft, OneLess};
@@ -145,7 +147,7 @@ fn judge(
     r: u16,
 ) -> u8
     requires { ⌜ JudgeReady (now file) (now state) (now tables) at n × (kind (fileIn (now file)) c ≡ credentialKind) × (kind (fileIn (now file)) r ≡ certificateKind) ⌝ }
-    ensures judged { λ x. ⌜ ((words : List ℕ) (entries : ℕ) (ledger : List Entry) → Ledgered (now (file .entry)) (now (state .entry)) (now (tables .entry)) words entries ledger → x ≡ judged (fileIn (now (file .entry))) (stateOf (view (now (state .entry))) ledger) (deskAt (now (file .entry)) at) (returningAt (now (file .entry)) at) (pairsAt n (now (file .entry)) (at + 3)) (record { credential = c; certificate = r })) ⌝ }
+    ensures judged { λ x. ⌜ ((entries : ℕ) (ledger : List Entry) → Ledgered (now (file .entry)) (now (state .entry)) (now (tables .entry)) entries ledger → x ≡ judged (fileIn (now (file .entry))) (stateOf (view (now (state .entry))) ledger) (deskAt (now (file .entry)) at) (returningAt (now (file .entry)) at) (pairsAt n (now (file .entry)) (at + 3)) (record { credential = c; certificate = r })) ⌝ }
     ensures requested { λ x. ⌜ (x ≡ 0 → Requested (fileIn (now (file .entry))) (view (now (state .entry)) .request c)) ⌝ }
 {
     if stands_in(file, at + 3, n, c) {
@@ -206,48 +208,48 @@ pub fn decide(file: &[u8], state: &[u8], tables: &[u16; tables::WORDS], at: usiz
     0
 }
 
-// The pair at a place is issued, where it is not empty. Answers how many entries the ledger has then.
+// The pair at a place is issued, where it is not empty, after the entries that the command has gained so far. Answers those and its own.
 fn issue_next(
     file: &[u8],
     state: &mut [u8],
     tables: &mut [u16; tables::WORDS],
-    words: &mut [u16; entries::WORDS],
     n: usize,
     party: usize,
     place: usize,
-) -> usize
-    requires { ⌜ (place + 3 < length (now file)) × SomeLeft (now file) party place (now state) (now tables) (now words) n ⌝ }
-    ensures { λ x. ⌜ OneLess (now (file .entry)) party place (now (state .entry)) (now (tables .entry)) (now (words .entry)) n (now (state .exit)) (now (tables .exit)) (now (words .exit)) x ⌝ }
+    gained: Gained,
+) -> Gained
+    requires { ⌜ (place + 3 < length (now file)) × SomeLeft (now file) party place (now state) (now tables) n gained ⌝ }
+    ensures { λ x. ⌜ OneLess (now (file .entry)) party place (now (state .entry)) (now (tables .entry)) n gained (now (state .exit)) (now (tables .exit)) x ⌝ }
 {
     if checks::empty_pair(file, place) {
-        return n;
+        return gained;
     }
     let c = records::word_at(file, place) as usize;
     let r = records::word_at(file, place + 2) as usize;
-    issuance::effect_issue_iak(file, state, tables, words, n, party, c, r);
-    n + 1
+    let at = n + gained.count;
+    let e = issuance::effect_issue_iak(file, state, tables, at, party, c, r);
+    gained::with(gained, e)
 }
 
-// What an accepted 43 leaves: what a 3F of each pair leaves, one after the other. Answers how many entries the ledger has then.
+// What an accepted 43 leaves: what a 3F of each pair leaves, one after the other. Answers the entries that the ledger gains.
 pub fn effect(
     file: &[u8],
     state: &mut [u8],
     tables: &mut [u16; tables::WORDS],
-    words: &mut [u16; entries::WORDS],
     entries: usize,
     at: usize,
-) -> usize
-    requires { ⌜ TogetherDone (now file) (now state) (now tables) (now words) entries at ⌝ }
-    ensures { λ x. ⌜ DeskLeaves (now (file .entry)) (now (state .entry)) (now (tables .entry)) (now (words .entry)) entries (togetherAt (now (file .entry)) at) (now (state .exit)) (now (tables .exit)) (now (words .exit)) x ⌝ }
+) -> Gained
+    requires { ⌜ TogetherDone (now file) (now state) (now tables) entries at ⌝ }
+    ensures { λ x. ⌜ Whole x × DeskLeaves (now (file .entry)) (now (state .entry)) (now (tables .entry)) entries (togetherAt (now (file .entry)) at) (now (state .exit)) (now (tables .exit)) (took x) ⌝ }
 {
     let party = file[at + 1] as usize;
-    let mut n = entries;
+    let mut gained = gained::none();
     let mut place = at + 3;
     let mut left = rules::PAIR_COUNT;
     while left != 0 {
-        n = issue_next(file, state, tables, words, n, party, place);
+        gained = issue_next(file, state, tables, entries, party, place, gained);
         place += rules::PAIR_WIDTH;
         left -= 1;
     }
-    n
+    gained
 }

@@ -1,36 +1,93 @@
--- What the loop over commands needs, and what it leaves.
+-- What a turn of the loop over commands needs, and what it leaves; what the loop needs and leaves.
 use mathlib.Core.Path.{_≡_}
-use mathlib.Core.List.{List}
-use Prim.Native.Nat.{ℕ, _≤_}
-use lib.ListN.{length}
+use mathlib.Core.Bool.{cond}
+use mathlib.Core.List.{List, [], _++_}
+use Prim.Native.Nat.{ℕ, _+_, _-_, _<_, _≤_}
+use lib.Dec.{eqb, ltb}
+use lib.ListN.{length, set, drop}
 use lib.Seq.{sets}
-use Rattle.rules.specs.Limits.{fileLimit, commandLimit}
+use Rattle.rules.specs.declared.Entry.{Entry}
+use Rattle.rules.specs.Limits.{fileLimit, termLimit, pairCount, commandLimit}
 use Rattle.rules.specs.State.{State}
 use Rattle.rules.specs.Run.{run, outcomes, zeros, others}
 use Rattle.theorems.proofs.Loading.{Wellformed}
 use Rattle.state.specs.View.{view}
-use Rattle.lookup.specs.Commands.{commandsLeft, Commands}
+use Rattle.state.proofs.Exact.{Bytes, stateOf}
+use Rattle.reader.specs.Place.{nextPlace}
+use Rattle.lookup.specs.Commands.{commandsLeft, CommandAt, Commands}
 use Rattle.loaded.specs.Loaded.{fileIn}
-use Rattle.commands.specs.Standing.{stateIn, Stands}
-use Rattle.turns.specs.declared.Totals.{Totals}
+use Rattle.gained.specs.Took.{Whole}
+use Rattle.commands.specs.Standing.{Stands, SomeStands, Does}
+use Rattle.turns.specs.declared.Progress.{Progress}
+use Rattle.turns.specs.declared.Turned.{Turned}
 
--- no entry yet, room for an outcome of each command, and commands alone from the first one's place on
-pub record RunReady (bs s tables words out : List ℕ) (parties first : ℕ) : Type 0 where
-  pub stands : Stands bs s tables words 0
+-- one outcome more, in a file of so many bytes
+abbrev pub stepped : ℕ → Progress → ℕ → ℕ → ℕ → Progress
+stepped bytes p outcome count next = record {
+  left = cond (ltb next bytes) (p .left - 1) 0;
+  at = next;
+  done = p .done + 1;
+  accepted = p .accepted + cond (eqb outcome 0) 1 0;
+  refused = p .refused + cond (eqb outcome 0) 0 1;
+  issued = p .issued + count;
+}
+
+pub record StepReady (p : Progress) (count : ℕ) : Type 0 where
+  pub more : 0 < p .left
+  pub small : p .done < commandLimit
+  pub counted : p .accepted + p .refused ≡ p .done
+  pub few : p .issued ≤ termLimit
+  pub gained : count ≤ pairCount
+
+-- a command stands at the next place, with room for its outcome
+pub record TurnReady (bs s tables out : List ℕ) (parties : ℕ) (p : Progress) : Type 0 where
+  pub stands : SomeStands bs s tables (p .issued)
+  pub here : CommandAt (Wellformed (fileIn bs)) bs (p .at)
+  pub partiesAre : parties ≡ length (fileIn bs .roles)
+  pub more : 0 < p .left
+  pub small : p .done < commandLimit
+  pub room : p .done < length out
+  pub counted : p .accepted + p .refused ≡ p .done
+
+-- what a turn leaves, whatever the ledger
+pub record Turns (bs s tables out : List ℕ) (p : Progress) (s′ tables′ out′ : List ℕ) (r : Turned) : Type 0 where
+  pub outcome : ℕ
+  pub whole : Whole (r .gained)
+  pub bytes : Bytes s′
+  pub written : out′ ≡ set out (p .done) outcome
+  pub next : r .progress ≡ stepped (length bs) p outcome (r .gained .count) (nextPlace bs (p .at))
+  pub does : (ledger : List Entry) → Stands bs s tables (p .issued) ledger → Does bs s (p .issued) (p .at) ledger s′ tables′ (record { outcome = outcome; gained = r .gained })
+
+-- before the loop: no entry yet, room for an outcome of each command, and commands alone from the first one's place on
+pub record RunReady (bs s tables out : List ℕ) (parties first : ℕ) : Type 0 where
+  pub stands : Stands bs s tables 0 []
+  pub bytes : Bytes s
   pub short : length bs ≤ fileLimit
   pub places : commandLimit ≤ length out
   pub partiesAre : parties ≡ length (fileIn bs .roles)
   pub commands : Commands (Wellformed (fileIn bs)) bs first
 
+-- at most n commands from a place on
+abbrev pub starts : List ℕ → ℕ → ℕ → Progress
+starts bs first n = record { left = cond (ltb first (length bs)) n 0; at = first; done = 0; accepted = 0; refused = 0; issued = 0 }
+
 -- the outcomes of at most n commands from a place on
 abbrev pub given : List ℕ → ℕ → ℕ → State → List ℕ
 given bs first n x = outcomes (fileIn bs) (commandsLeft bs first n) x
 
--- the rules' state after these commands, their outcomes and the totals; what stands between commands
-pub record Executes (bs s words out : List ℕ) (first n : ℕ) (s′ tables′ words′ out′ : List ℕ) (t : Totals) : Type 0 where
-  pub state : stateIn s′ words′ (t .issued) ≡ run (fileIn bs) (commandsLeft bs first n) (stateIn s words 0)
-  pub outcomes : out′ ≡ sets out 0 (given bs first n (stateIn s words 0))
-  pub accepted : t .accepted ≡ zeros (given bs first n (stateIn s words 0))
-  pub refused : t .refused ≡ others (given bs first n (stateIn s words 0))
-  pub stands : Stands bs s′ tables′ words′ (t .issued)
+-- a ledger with entries at its first places
+abbrev pub onto : List Entry → List Entry → List Entry
+onto es l = es ++ drop (length es) l
+
+-- after the loop: the rules' state after these commands, with a ledger of some entries, which stand at the first places of the lent one; their
+-- outcomes and the totals; what stands between commands
+pub record Executes (bs s out : List ℕ) (first n : ℕ) (old : List Entry) (s′ tables′ out′ : List ℕ) (new : List Entry) (p : Progress) : Type 0 where
+  pub entries : List Entry
+  pub ledger : new ≡ onto entries old
+  pub state : stateOf (view s′) entries ≡ run (fileIn bs) (commandsLeft bs first n) (stateOf (view s) [])
+  pub outcomes : out′ ≡ sets out 0 (given bs first n (stateOf (view s) []))
+  pub accepted : p .accepted ≡ zeros (given bs first n (stateOf (view s) []))
+  pub refused : p .refused ≡ others (given bs first n (stateOf (view s) []))
+  pub stands : Stands bs s′ tables′ (p .issued) entries
+  pub bytes : Bytes s′
   pub places : view s′ .place ≡ view s .place

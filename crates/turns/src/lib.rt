@@ -1,67 +1,156 @@
-// The loop over commands, a turn each.
+// A turn of the loop over commands.
+use gained::Gained;
 ghost use mathlib.Core.Path.{_≡_};
 ghost use mathlib.Core.Bool.{cond};
-ghost use Prim.Native.Nat.{_+_, _<_};
-ghost use lib.Dec.{eqb};
-ghost use Rattle.turns.specs.Turns.{RunReady, Executes};
+ghost use Prim.Native.Nat.{_-_, _<_, _≤_};
+ghost use lib.Dec.{eqb, ltb};
+ghost use lib.ListN.{length, take, drop};
+ghost use Rattle.rules.specs.Limits.{stateBytes};
+ghost use Rattle.turns.specs.Turns.{starts, stepped, StepReady, TurnReady, Turns};
 
-// Accepted and refused commands, and issued certificates.
-pub struct Totals {
+// How far a run is: how many commands are left at most, the place of the next, how many are done, accepted and refused, and the entries.
+pub struct Progress {
+    pub left: usize,
+    pub at: usize,
+    pub done: usize,
     pub accepted: usize,
     pub refused: usize,
     pub issued: usize,
 }
 
-// The totals with one outcome more, and the entries after it.
-fn tallied(t: Totals, outcome: u8, entries: usize) -> Totals
-    requires { ⌜ (t .accepted < 65536) × (t .refused < 65536) ⌝ }
-    ensures { λ r. ⌜ r ≡ record { accepted = t .accepted + cond (eqb outcome 0) 1 0; refused = t .refused + cond (eqb outcome 0) 0 1; issued = entries } ⌝ }
-{
-    if outcome == 0 {
-        return Totals {
-            accepted: t.accepted + 1,
-            refused: t.refused,
-            issued: entries,
-        };
-    }
-    Totals {
-        accepted: t.accepted,
-        refused: t.refused + 1,
-        issued: entries,
-    }
+// What a turn answers: the entries that the ledger gains, and how far the run is then.
+pub struct Turned {
+    pub gained: Gained,
+    pub progress: Progress,
 }
 
-// Executes at most n commands from a place on.
-pub fn run_commands(
-    file: &[u8],
-    state: &mut [u8],
-    tables: &mut [u16; tables::WORDS],
-    words: &mut [u16; entries::WORDS],
-    outcomes: &mut [u8],
-    parties: usize,
-    first: usize,
-    n: usize,
-) -> Totals
-    requires { ⌜ RunReady (now file) (now state) (now tables) (now words) (now outcomes) parties first ⌝ }
-    ensures { λ r. ⌜ Executes (now (file .entry)) (now (state .entry)) (now (words .entry)) (now (outcomes .entry)) first n (now (state .exit)) (now (tables .exit)) (now (words .exit)) (now (outcomes .exit)) r ⌝ }
+// What is found before the first command: a refusal's number and place, or 0; how many places of the ledger are to be cleared, 0 or 1,024; how many
+// parties and terms the file declares, and the place of the first command.
+pub struct Begun {
+    pub number: u32,
+    pub place: usize,
+    pub places: usize,
+    pub parties: usize,
+    pub terms: usize,
+    pub first: usize,
+}
+
+// Before the first of at most n commands, none where there is a refusal.
+pub fn start(file: &[u8], b: Begun, n: usize) -> Progress
+    ensures { λ r. ⌜ r ≡ starts (now (file .entry)) (b .first) (cond (eqb (b .number) 0) n 0) ⌝ }
 {
-    let mut at = first;
-    let mut i = 0;
-    let mut t = Totals {
+    let asked = asked_for(b.number, n);
+    let left = wanted(file.len(), b.first, asked);
+    Progress {
+        left: left,
+        at: b.first,
+        done: 0,
         accepted: 0,
         refused: 0,
         issued: 0,
-    };
-    while i < n {
-        if at >= file.len() {
-            break;
-        }
-        let done = commands::execute(file, state, tables, words, parties, t.issued, at);
-        let outcome = done.outcome;
-        outcomes[i] = outcome;
-        t = tallied(t, outcome, done.entries);
-        at = reader::next_place(file, at);
-        i += 1;
     }
-    t
+}
+
+fn asked_for(number: u32, n: usize) -> usize
+    ensures { λ r. ⌜ r ≡ cond (eqb number 0) n 0 ⌝ }
+{
+    if number == 0 {
+        return n;
+    }
+    0
+}
+
+// How many commands there are at most, where the first stands at a place of a file of so many bytes.
+fn wanted(bytes: usize, first: usize, n: usize) -> usize
+    ensures { λ r. ⌜ r ≡ cond (ltb first bytes) n 0 ⌝ }
+{
+    if first < bytes {
+        return n;
+    }
+    0
+}
+
+// How many commands are left at most, where the next record stands at a place of a file of so many bytes.
+fn left_after(bytes: usize, left: usize, next: usize) -> usize
+    requires { ⌜ 0 < left ⌝ }
+    ensures { λ r. ⌜ r ≡ cond (ltb next bytes) (left - 1) 0 ⌝ }
+{
+    if next < bytes {
+        return left - 1;
+    }
+    0
+}
+
+// One outcome more, and the place of the next record, in a file of so many bytes.
+fn step(bytes: usize, p: Progress, outcome: u8, count: usize, next: usize) -> Progress
+    requires { ⌜ StepReady p count ⌝ }
+    ensures { λ r. ⌜ r ≡ stepped bytes p outcome count next ⌝ }
+{
+    let left = left_after(bytes, p.left, next);
+    if outcome == 0 {
+        return Progress {
+            left: left,
+            at: next,
+            done: p.done + 1,
+            accepted: p.accepted + 1,
+            refused: p.refused,
+            issued: p.issued + count,
+        };
+    }
+    Progress {
+        left: left,
+        at: next,
+        done: p.done + 1,
+        accepted: p.accepted,
+        refused: p.refused + 1,
+        issued: p.issued + count,
+    }
+}
+
+// Executes the next command.
+pub fn turn(
+    file: &[u8],
+    state: &mut [u8],
+    tables: &mut [u16; tables::WORDS],
+    outcomes: &mut [u8],
+    parties: usize,
+    p: Progress,
+) -> Turned
+    requires { ⌜ TurnReady (now file) (now state) (now tables) (now outcomes) parties p ⌝ }
+    ensures { λ r. ⌜ Turns (now (file .entry)) (now (state .entry)) (now (tables .entry)) (now (outcomes .entry)) p (now (state .exit)) (now (tables .exit)) (now (outcomes .exit)) r ⌝ }
+{
+    let at = p.at;
+    let next = reader::next_place(file, at);
+    let executed = commands::execute(file, state, tables, parties, p.issued, at);
+    let outcome = executed.outcome;
+    let i = p.done;
+    outcomes[i] = outcome;
+    let gained = executed.gained;
+    let progress = step(file.len(), p, outcome, gained.count, next);
+    Turned {
+        gained: gained,
+        progress: progress,
+    }
+}
+
+// The same in a lent state of any length, by what was found before the first command.
+pub fn turn_within(
+    file: &[u8],
+    state: &mut [u8],
+    tables: &mut [u16; tables::WORDS],
+    outcomes: &mut [u8],
+    b: Begun,
+    p: Progress,
+) -> Turned
+    requires { ⌜ (stateBytes ≤ length (now state)) × TurnReady (now file) (take stateBytes (now state)) (now tables) (now outcomes) (b .parties) p ⌝ }
+    ensures { λ r. ⌜ Turns (now (file .entry)) (take stateBytes (now (state .entry))) (now (tables .entry)) (now (outcomes .entry)) p (take stateBytes (now (state .exit))) (now (tables .exit)) (now (outcomes .exit)) r × (drop stateBytes (now (state .exit)) ≡ drop stateBytes (now (state .entry))) ⌝ }
+{
+    turn(
+        file,
+        &mut state[..rules::STATE_BYTES],
+        tables,
+        outcomes,
+        b.parties,
+        p,
+    )
 }

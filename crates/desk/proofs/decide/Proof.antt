@@ -5,7 +5,7 @@ use denote.Ref.{now}
 use Rattle.rules.specs.File.{challenge}
 use Rattle.lookup.proofs.Fields.{four-bytes, two-read, known-as, challenge-there, issue-iak-there, issue-iaks-there}
 use Rattle.loaded.proofs.Boards.{entered-falls}
-use Rattle.desk.proofs.Places.{issue-as, iak-bytes, pairs-bytes, two-bytes, issue-read, decided-as, some-entered}
+use Rattle.desk.proofs.Places.{issue-as, iak-bytes, pairs-bytes, two-bytes, issue-read, decided-as}
 use Rattle.desk.proofs.decide.Statement.{statement}
 use Rattle.desk.proofs.decide.Tie as tie
 
@@ -52,12 +52,12 @@ decide-issue-iak-requires : tie.Need-decide-issue-iak-requires
 decide-issue-iak-requires c κs =
     let p = c .before .before .before .before .before .before .before .before .pre in
     let e = issue-read (issue-iak-there _ _ (c .before .before .before .if1 .taken)) (c .before .word-at .ensures) (c .word-at2 .ensures) in
-    (p .0, p .1, known-as (p .3) e, p .6 _, entered-falls (some-entered (p .5)))
+    (p .0, p .1, known-as (p .3) e, p .6 _, entered-falls (p .5 .0, p .5 .1, p .5 .2 .enters))
 
 returns : tie.Need-returns
 returns c =
     let e = issue-read (issue-iak-there _ _ (c .before .before .before .before .if1 .taken)) (c .before .before .word-at .ensures) (c .before .word-at2 .ensures) in
-    decided-as _ _ e (now (c .before .before .before .before .before .before .before .before .before .args .state)) _ _ _ (λ n ledger h. c .decide-issue-iak .ensures _ n ledger h)
+    decided-as _ _ e (now (c .before .before .before .before .before .before .before .before .before .args .state)) _ _ (λ n ledger h. c .decide-issue-iak .ensures n ledger h)
 
 decide-requires : tie.Need-decide-requires
 decide-requires c κs =
@@ -66,14 +66,13 @@ decide-requires c κs =
     record {
       here = record { holds = p .0; whole = pairs-bytes (p .3) k; wellformed = known-as (p .3) (issue-iaks-there _ _ k); opened = p .6 };
       finds = p .1;
-      words = now (c .before .before .before .before .before .before .args .words);
       entries = p .5 .0;
       ledger = p .5 .1;
       ledgered = p .5 .2;
     }
 
 returns-2 : tie.Need-returns-2
-returns-2 c = decided-as _ _ (issue-iaks-there _ _ (c .before .if2 .taken)) (now (c .before .before .before .before .before .before .before .args .state)) _ _ _ (λ n ledger h. c .decide .ensures _ n ledger h)
+returns-2 c = decided-as _ _ (issue-iaks-there _ _ (c .before .if2 .taken)) (now (c .before .before .before .before .before .before .before .args .state)) _ _ (λ n ledger h. c .decide .ensures n ledger h)
 
 add-word-at-3 : tie.Need-add-word-at-3
 add-word-at-3 c = search needs
@@ -102,7 +101,7 @@ decide-requires-2 c κs =
 returns-3 : tie.Need-returns-3
 returns-3 c =
     let e = two-read challenge (challenge-there _ _ (c .before .if3 .taken)) (c .before .before .before .word-at3 .ensures) (c .before .before .word-at4 .ensures) in
-    decided-as _ _ e (now (c .before .before .before .before .before .before .before .before .before .before .args .state)) _ _ _ (λ n ledger k. c .decide2 .ensures ledger)
+    decided-as _ _ e (now (c .before .before .before .before .before .before .before .before .before .before .args .state)) _ _ (λ n ledger k. c .decide2 .ensures ledger)
 
 family-of-requires : tie.Need-family-of-requires
 family-of-requires c κs = search needs
@@ -111,13 +110,13 @@ decide-issue-requires : tie.Need-decide-issue-requires
 decide-issue-requires c κs =
     let p = c .before .before .before .before .before .before .before .before .before .before .pre in
     let e = issue-as (p .3) (p .4) (c .before .before .before .before .before .if1 .left) (c .before .before .before .before .if2 .left) (c .before .if3 .left) (c .family-of .ensures) (c .before .before .before .word-at3 .ensures) (c .before .before .word-at4 .ensures) in
-    (p .0, p .1, p .2, known-as (p .3) e, some-entered (p .5), p .7)
+    (p .0, p .1, p .2, known-as (p .3) e)
 
 returns-4 : tie.Need-returns-4
 returns-4 c =
     let p = c .before .before .before .before .before .before .before .before .before .before .before .pre in
     let e = issue-as (p .3) (p .4) (c .before .before .before .before .before .before .if1 .left) (c .before .before .before .before .before .if2 .left) (c .before .before .if3 .left) (c .before .family-of .ensures) (c .before .before .before .before .word-at3 .ensures) (c .before .before .before .word-at4 .ensures) in
-    decided-as _ _ e (now (c .before .before .before .before .before .before .before .before .before .before .before .args .state)) _ _ _ (c .decide-issue .ensures)
+    decided-as _ _ e (now (c .before .before .before .before .before .before .before .before .before .before .before .args .state)) _ _ (c .decide-issue .ensures)
 
 pub decide-spec : {M : Type 1} → statement M
 decide-spec = tie.close (tie.spec shared-slice-read-kind add-party shared-slice-read-party cast-party add-other shared-slice-read-other cast-other add-word-at word-at-requires cast-c add-word-at-2 word-at-requires-2 cast-r decide-issue-iak-requires returns decide-requires returns-2 add-word-at-3 word-at-requires-3 cast-q add-word-at-4 word-at-requires-4 cast-r-2 decide-requires-2 returns-3 family-of-requires decide-issue-requires returns-4)

@@ -5,7 +5,7 @@ use Prim.Native.Nat.{ℕ, _<_, _≤_}
 use lib.Dec.{leb}
 use borrow.Author.Tests.{le-leb, lt-leb}
 use Rattle.rules.specs.Limits.{termLimit, commandLimit, stateBytes}
-use Rattle.engine.specs.Runs.{roomy}
+use Rattle.engine.specs.Begins.{roomy}
 use Rattle.engine.proofs.enough.Statement.{statement}
 use Rattle.engine.proofs.enough.Tie as tie
 

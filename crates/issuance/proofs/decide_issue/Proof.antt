@@ -4,7 +4,7 @@ use mathlib.Core.Bool.{true}
 use native.Mathlib.Omega.{arith}
 use denote.Ref.{now}
 use Rattle.rules.specs.Term.{ldevidRequestKind}
-use Rattle.rules.specs.File.{isRole, subject}
+use Rattle.rules.specs.File.{isRole}
 use Rattle.rules.specs.Desk.{formTests, proofTests}
 use Rattle.state.specs.View.{view}
 use Rattle.state.proofs.Exact.{stateOf}
@@ -12,10 +12,9 @@ use Rattle.theorems.specs.Chain.{chain}
 use Rattle.loaded.specs.Loaded.{fileIn}
 use Rattle.theorems.proofs.Chain.{chain-passes, chain-fails, stops}
 use Rattle.loaded.proofs.Standing.{party-here, checked-here, term-here, kind-declared, ldevid-message-declared}
-use Rattle.requests.specs.Tests.{calledTests, attestTests, parentageTests}
+use Rattle.requests.specs.Tests.{attestTests}
 use Rattle.requests.proofs.Passing.{form-goes, proof-goes, has-form}
-use Rattle.issuance.proofs.Called.{called-goes}
-use Rattle.issuance.proofs.IssueOnRequest.{signatureAt, halfAt, newAt, parentAt, keyAt, signerAt, Asked, asked, here, half-declared, new-declared, parent-is, key-declared, by-declared, parent-entered, attest-goes, parentage-goes, attest-read, proof-read, parentage-read, called-read, entry-read, issue-chain}
+use Rattle.issuance.proofs.IssueOnRequest.{signatureAt, newAt, Asked, asked, here, half-declared, new-declared, parent-is, attest-goes, attest-read, proof-read, below-read, issue-chain}
 use Rattle.issuance.proofs.decide_issue.Statement.{statement}
 use Rattle.issuance.proofs.decide_issue.Tie as tie
 
@@ -122,78 +121,30 @@ passes-5 c =
     let w = asked-of (c .before .before) in
     sym (proof-read (fileIn (now (a .file))) (a .q) (c .before .before .before .before .before .before .before .before .form .ensures .1 (c .before .before .before .before .before .before .if3 .left) .named) (c .before .before .before .before .before .ldevid-request-of .ensures .0) (c .before .before .before .before .attested-by .ensures .1 (c .before .before .if4 .left) .0) (c .before .proof-of-key .ensures (now (a .file)) (a .q) (p .1) (rw (c .before .before .before .before .attested-by .ensures .1 (c .before .before .if4 .left) .0, c .before .before .before .before .before .ldevid-request-of .ensures .0, c .before .before .before .before .before .before .before .before .form .ensures .1 (c .before .before .before .before .before .before .if3 .left) .named) (new-declared (p .0) w)) (c .before .before .before .before .before .before .before .before .form .ensures .1 (c .before .before .before .before .before .before .if3 .left)))) ∙ c .if5 .left
 
-certificate-of-requires : tie.Need-certificate-of-requires
-certificate-of-requires c κs =
+below-requires : tie.Need-below-requires
+below-requires c κs =
     let p = c .before .before .before .before .before .before .before .before .before .before .before .before .before .before .before .pre in
-    let w = asked-of (c .before .before) in
-    rw (c .before .before .before .before .before .ldevid-request-of .ensures .1, c .before .before .before .before .before .before .before .before .form .ensures .1 (c .before .before .before .before .before .before .if3 .left) .named) (here (p .0) (parent-is (p .0) w) (λ e. omega arith))
-
-parentage-requires : tie.Need-parentage-requires
-parentage-requires c κs =
-    let p = c .before .before .before .before .before .before .before .before .before .before .before .before .before .before .before .before .pre in
-    let w = asked-of (c .before .before .before) in
-    (p .0, p .1, p .2, rw (c .before .before .before .before .before .attested-by .ensures .1 (c .before .before .before .if4 .left) .1, c .before .before .before .before .before .before .ldevid-request-of .ensures .0, c .before .before .before .before .before .before .before .before .before .form .ensures .1 (c .before .before .before .before .before .before .before .if3 .left) .named) (half-declared (p .0) w), rw (c .before .before .before .before .before .attested-by .ensures .1 (c .before .before .before .if4 .left) .0, c .before .before .before .before .before .before .ldevid-request-of .ensures .0, c .before .before .before .before .before .before .before .before .before .form .ensures .1 (c .before .before .before .before .before .before .before .if3 .left) .named) (new-declared (p .0) w), rw (c .certificate-of .ensures .0, c .before .before .before .before .before .before .ldevid-request-of .ensures .1, c .before .before .before .before .before .before .before .before .before .form .ensures .1 (c .before .before .before .before .before .before .before .if3 .left) .named) (key-declared (p .0) w), rw (c .certificate-of .ensures .2, c .before .before .before .before .before .before .ldevid-request-of .ensures .1, c .before .before .before .before .before .before .before .before .before .form .ensures .1 (c .before .before .before .before .before .before .before .if3 .left) .named) (by-declared (p .0) w))
+    let w = asked-of (c .before .before) in (
+      p .0,
+      p .1,
+      p .2,
+      omega (arith, p .0 .parties, p .3 .0),
+      rw (c .before .before .before .before .attested-by .ensures .1 (c .before .before .if4 .left) .1, c .before .before .before .before .before .ldevid-request-of .ensures .0, c .before .before .before .before .before .before .before .before .form .ensures .1 (c .before .before .before .before .before .before .if3 .left) .named) (half-declared (p .0) w),
+      rw (c .before .before .before .before .attested-by .ensures .1 (c .before .before .if4 .left) .0, c .before .before .before .before .before .ldevid-request-of .ensures .0, c .before .before .before .before .before .before .before .before .form .ensures .1 (c .before .before .before .before .before .before .if3 .left) .named) (new-declared (p .0) w),
+      rw (c .before .before .before .before .before .ldevid-request-of .ensures .1, c .before .before .before .before .before .before .before .before .form .ensures .1 (c .before .before .before .before .before .before .if3 .left) .named) (parent-is (p .0) w),
+      p .3 .1,
+    )
 
 returns-6 : tie.Need-returns-6
 returns-6 c n ledger k₀ =
-    let a = c .before .before .before .before .before .before .before .before .before .before .before .before .before .before .before .before .before .before .args in
+    let a = c .before .before .before .before .before .before .before .before .before .before .before .before .before .before .before .before .args in
     sym (issue-chain (fileIn (now (a .file))) (stateOf (view (now (a .state))) ledger) (a .family) (a .party) (a .q) (a .r)
-    ∙ chain-passes 13 _ _ (passes-1 (c .before .before .before .before .before .before .before .before .before .before .before .before .before .before))
-    ∙ chain-passes 14 _ _ (passes-2 (c .before .before .before .before .before .before .before .before .before .before .before .before))
-    ∙ form-goes _ _ (passes-3 (c .before .before .before .before .before .before .before .before .before)) _ _ refl
-    ∙ attest-goes _ _ _ (passes-4 (c .before .before .before .before .before))
-    ∙ proof-goes _ _ (passes-5 (c .before .before .before)) _ _ refl
-    ∙ stops _ _ _ (parentage-read (fileIn (now (a .file))) (a .q) (c .before .before .before .before .before .before .before .before .before .before .before .form .ensures .1 (c .before .before .before .before .before .before .before .before .before .if3 .left) .named) (c .before .before .before .before .before .before .before .before .ldevid-request-of .ensures .0) (c .before .before .before .before .before .before .before .attested-by .ensures .1 (c .before .before .before .before .before .if4 .left) .0) (c .before .before .before .before .before .before .before .before .ldevid-request-of .ensures .1) (a .family) (c .before .before .before .before .before .before .before .attested-by .ensures .1 (c .before .before .before .before .before .if4 .left) .1) (c .before .before .certificate-of .ensures .0) (c .before .before .certificate-of .ensures .2) (c .before .parentage .ensures)) (c .if6 .taken))
-
-passes-6 : (c : tie.Else6) → let a = c .before .before .before .before .before .before .before .before .before .before .before .before .before .before .before .before .before .before .args in chain (parentageTests (fileIn (now (a .file))) (a .family) (halfAt (fileIn (now (a .file))) (a .q)) (newAt (fileIn (now (a .file))) (a .q)) (keyAt (fileIn (now (a .file))) (a .q)) (signerAt (fileIn (now (a .file))) (a .q))) ≡ 0
-passes-6 c =
-    let a = c .before .before .before .before .before .before .before .before .before .before .before .before .before .before .before .before .before .before .args in
-    sym (parentage-read (fileIn (now (a .file))) (a .q) (c .before .before .before .before .before .before .before .before .before .before .before .form .ensures .1 (c .before .before .before .before .before .before .before .before .before .if3 .left) .named) (c .before .before .before .before .before .before .before .before .ldevid-request-of .ensures .0) (c .before .before .before .before .before .before .before .attested-by .ensures .1 (c .before .before .before .before .before .if4 .left) .0) (c .before .before .before .before .before .before .before .before .ldevid-request-of .ensures .1) (a .family) (c .before .before .before .before .before .before .before .attested-by .ensures .1 (c .before .before .before .before .before .if4 .left) .1) (c .before .before .certificate-of .ensures .0) (c .before .before .certificate-of .ensures .2) (c .before .parentage .ensures)) ∙ c .if6 .left
-
-called-for-requires : tie.Need-called-for-requires
-called-for-requires c κs =
-    let p = c .before .before .before .before .before .before .before .before .before .before .before .before .before .before .before .before .before .before .pre in
-    (p .0, p .1, omega (arith, p .0 .parties, p .3 .0), p .3 .1)
-
-returns-7 : tie.Need-returns-7
-returns-7 c n ledger k₀ =
-    let a = c .before .before .before .before .before .before .before .before .before .before .before .before .before .before .before .before .before .before .before .before .args in
-    sym (issue-chain (fileIn (now (a .file))) (stateOf (view (now (a .state))) ledger) (a .family) (a .party) (a .q) (a .r)
-    ∙ chain-passes 13 _ _ (passes-1 (c .before .before .before .before .before .before .before .before .before .before .before .before .before .before .before .before))
-    ∙ chain-passes 14 _ _ (passes-2 (c .before .before .before .before .before .before .before .before .before .before .before .before .before .before))
-    ∙ form-goes _ _ (passes-3 (c .before .before .before .before .before .before .before .before .before .before .before)) _ _ refl
-    ∙ attest-goes _ _ _ (passes-4 (c .before .before .before .before .before .before .before))
-    ∙ proof-goes _ _ (passes-5 (c .before .before .before .before .before)) _ _ refl
-    ∙ parentage-goes _ _ (a .family) _ _ _ _ (passes-6 (c .before .before))
-    ∙ stops _ _ _ (called-read (fileIn (now (a .file))) (a .q) (c .before .before .before .before .before .before .before .before .before .before .before .before .before .form .ensures .1 (c .before .before .before .before .before .before .before .before .before .before .before .if3 .left) .named) (c .before .before .before .before .before .before .before .before .before .before .ldevid-request-of .ensures .0) (c .before .before .before .before .before .before .before .before .before .attested-by .ensures .1 (c .before .before .before .before .before .before .before .if4 .left) .0) (c .before .before .before .before .before .before .before .before .before .before .ldevid-request-of .ensures .1) (a .party) (a .r) (c .before .before .before .before .certificate-of .ensures .1) (c .before .called-for .ensures)) (c .if7 .taken))
-
-passes-7 : (c : tie.Else7) → let a = c .before .before .before .before .before .before .before .before .before .before .before .before .before .before .before .before .before .before .before .before .args in chain (calledTests (fileIn (now (a .file))) (a .party) (a .r) (newAt (fileIn (now (a .file))) (a .q)) (subject (fileIn (now (a .file))) (parentAt (fileIn (now (a .file))) (a .q)))) ≡ 0
-passes-7 c =
-    let a = c .before .before .before .before .before .before .before .before .before .before .before .before .before .before .before .before .before .before .before .before .args in
-    sym (called-read (fileIn (now (a .file))) (a .q) (c .before .before .before .before .before .before .before .before .before .before .before .before .before .form .ensures .1 (c .before .before .before .before .before .before .before .before .before .before .before .if3 .left) .named) (c .before .before .before .before .before .before .before .before .before .before .ldevid-request-of .ensures .0) (c .before .before .before .before .before .before .before .before .before .attested-by .ensures .1 (c .before .before .before .before .before .before .before .if4 .left) .0) (c .before .before .before .before .before .before .before .before .before .before .ldevid-request-of .ensures .1) (a .party) (a .r) (c .before .before .before .before .certificate-of .ensures .1) (c .before .called-for .ensures)) ∙ c .if7 .left
-
-entry-allowed-requires : tie.Need-entry-allowed-requires
-entry-allowed-requires c κs =
-    let p = c .before .before .before .before .before .before .before .before .before .before .before .before .before .before .before .before .before .before .before .before .pre in
-    let w = asked-of (c .before .before .before .before .before .before .before) in
-    let few = checked-here (p .0) .fewTerms in
-    let issued = kind-declared _ (p .3 .1) (λ e. omega arith) in
-    let known = kind-declared _ (parent-is (p .0) w) (λ e. omega arith) in
-    let m = parent-entered (p .0) w _ (p .3 .3) (p .5) (p .4 .2) (passes-2 (c .before .before .before .before .before .before .before .before .before .before .before .before .before .before)) (passes-6 (c .before .before)) in
-    rw (c .before .before .before .before .before .before .before .before .before .before .ldevid-request-of .ensures .1, c .before .before .before .before .before .before .before .before .before .before .before .before .before .form .ensures .1 (c .before .before .before .before .before .before .before .before .before .before .before .if3 .left) .named) (omega (arith, few, issued), omega (arith, few, known), m .0, m .1)
-
-returns-8 : tie.Need-returns-8
-returns-8 c n ledger k₀ =
-    let a = c .before .before .before .before .before .before .before .before .before .before .before .before .before .before .before .before .before .before .before .before .before .args in
-    sym (issue-chain (fileIn (now (a .file))) (stateOf (view (now (a .state))) ledger) (a .family) (a .party) (a .q) (a .r)
-    ∙ chain-passes 13 _ _ (passes-1 (c .before .before .before .before .before .before .before .before .before .before .before .before .before .before .before .before .before))
-    ∙ chain-passes 14 _ _ (passes-2 (c .before .before .before .before .before .before .before .before .before .before .before .before .before .before .before))
-    ∙ form-goes _ _ (passes-3 (c .before .before .before .before .before .before .before .before .before .before .before .before)) _ _ refl
-    ∙ attest-goes _ _ _ (passes-4 (c .before .before .before .before .before .before .before .before))
-    ∙ proof-goes _ _ (passes-5 (c .before .before .before .before .before .before)) _ _ refl
-    ∙ parentage-goes _ _ (a .family) _ _ _ _ (passes-6 (c .before .before .before))
-    ∙ called-goes _ _ _ _ _ _ refl (passes-7 (c .before))
-    ∙ sym (entry-read (fileIn (now (a .file))) (a .q) (c .before .before .before .before .before .before .before .before .before .before .before .before .before .before .form .ensures .1 (c .before .before .before .before .before .before .before .before .before .before .before .before .if3 .left) .named) (c .before .before .before .before .before .before .before .before .before .before .before .ldevid-request-of .ensures .0) (c .before .before .before .before .before .before .before .before .before .before .attested-by .ensures .1 (c .before .before .before .before .before .before .before .before .if4 .left) .0) (c .before .before .before .before .before .before .before .before .before .before .before .ldevid-request-of .ensures .1) ledger (a .r) (c .entry-allowed .ensures n ledger (k₀ .enters))))
+    ∙ chain-passes 13 _ _ (passes-1 (c .before .before .before .before .before .before .before .before .before .before .before .before))
+    ∙ chain-passes 14 _ _ (passes-2 (c .before .before .before .before .before .before .before .before .before .before))
+    ∙ form-goes _ _ (passes-3 (c .before .before .before .before .before .before .before)) _ _ refl
+    ∙ attest-goes _ _ _ (passes-4 (c .before .before .before))
+    ∙ proof-goes _ _ (passes-5 (c .before)) _ _ refl
+    ∙ sym (below-read (fileIn (now (a .file))) (a .q) (c .before .before .before .before .before .before .before .before .before .form .ensures .1 (c .before .before .before .before .before .before .before .if3 .left) .named) (c .before .before .before .before .before .before .ldevid-request-of .ensures .0) (c .before .before .before .before .before .attested-by .ensures .1 (c .before .before .before .if4 .left) .0) (c .before .before .before .before .before .before .ldevid-request-of .ensures .1) ledger (a .family) (a .party) (a .r) (c .before .before .before .before .before .attested-by .ensures .1 (c .before .before .before .if4 .left) .1) (c .below .ensures n ledger (k₀ .enters))))
 
 pub decide-issue-spec : {M : Type 1} → statement M
 decide-issue-spec =
@@ -210,10 +161,5 @@ decide-issue-spec =
     returns-4
     proof-of-key-requires
     returns-5
-    certificate-of-requires
-    parentage-requires
-    returns-6
-    called-for-requires
-    returns-7
-    entry-allowed-requires
-    returns-8)
+    below-requires
+    returns-6)

@@ -25,7 +25,7 @@ is-role-requires c κs =
     party-here h (w .0)
 
 returns : tie.Need-returns
-returns c words n ledger k₀ =
+returns c n ledger k₀ =
     let o = c .before .before .before .before in
     sym (issue-iak-chain (fileIn (now (o .args .file))) (stateOf (view (now (o .args .state))) ledger) (o .args .party) (o .args .other) (o .args .c) (o .args .r) refl refl refl refl refl refl refl
     ∙ chain-fails 13 _ _ (sym (c .before .is-role .ensures) ∙ not-true _ (c .if1 .taken)))
@@ -39,7 +39,7 @@ mark-of-requires c κs =
     term-here h d .row
 
 returns-2 : tie.Need-returns-2
-returns-2 c words n ledger k₀ =
+returns-2 c n ledger k₀ =
     let o = c .before .before .before .before .before .before in
     sym (issue-iak-chain (fileIn (now (o .args .file))) (stateOf (view (now (o .args .state))) ledger) (o .args .party) (o .args .other) (o .args .c) (o .args .r) refl refl refl refl refl refl refl
     ∙ chain-passes 13 _ _ (sym (c .before .before .before .is-role .ensures) ∙ not-false _ (c .before .before .if1 .left))
@@ -57,7 +57,7 @@ cast-desk : tie.Need-cast-desk
 cast-desk c = search needs
 
 returns-3 : tie.Need-returns-3
-returns-3 c words n ledger k₀ =
+returns-3 c n ledger k₀ =
     let o = c .before .before .before .before .before .before .before .before in
     sym (issue-iak-chain (fileIn (now (o .args .file))) (stateOf (view (now (o .args .state))) ledger) (o .args .party) (o .args .other) (o .args .c) (o .args .r) refl refl refl refl refl refl refl
     ∙ chain-passes 13 _ _ (sym (c .before .before .before .before .before .is-role .ensures) ∙ not-false _ (c .before .before .before .before .if1 .left))
@@ -72,7 +72,7 @@ is-role-requires-2 c κs =
     party-here h (w .1)
 
 returns-4 : tie.Need-returns-4
-returns-4 c words n ledger k₀ =
+returns-4 c n ledger k₀ =
     let o = c .before .before .before .before .before .before .before .before .before .before in
     sym (issue-iak-chain (fileIn (now (o .args .file))) (stateOf (view (now (o .args .state))) ledger) (o .args .party) (o .args .other) (o .args .c) (o .args .r) refl refl refl refl refl refl refl
     ∙ chain-passes 13 _ _ (sym (c .before .before .before .before .before .before .before .is-role .ensures) ∙ not-false _ (c .before .before .before .before .before .before .if1 .left))
@@ -97,7 +97,7 @@ knows-requires c κs =
     (omega (arith, h .parties, w .1), rw (c .credential-of .ensures .1) (term-here h (credential-number-declared h d (w .2)) .row))
 
 returns-5 : tie.Need-returns-5
-returns-5 c words n ledger k₀ =
+returns-5 c n ledger k₀ =
     let o = c .before .before .before .before .before .before .before .before .before .before .before .before .before in
     sym (issue-iak-chain (fileIn (now (o .args .file))) (stateOf (view (now (o .args .state))) ledger) (o .args .party) (o .args .other) (o .args .c) (o .args .r) (c .before .before .credential-of .ensures .1) refl refl refl refl refl refl
     ∙ chain-passes 13 _ _ (sym (c .before .before .before .before .before .before .before .before .before .before .is-role .ensures) ∙ not-false _ (c .before .before .before .before .before .before .before .before .before .if1 .left))
@@ -139,7 +139,7 @@ called-for-requires c κs =
     (h, o .pre .1, omega (arith, h .parties, w .0), w .3)
 
 returns-6 : tie.Need-returns-6
-returns-6 c words n ledger k₀ =
+returns-6 c n ledger k₀ =
     let o = c .before .before .before .before .before .before .before .before .before .before .before .before .before .before .before .before .before .before in
     sym (issue-iak-chain (fileIn (now (o .args .file))) (stateOf (view (now (o .args .state))) ledger) (o .args .party) (o .args .other) (o .args .c) (o .args .r) (c .before .before .before .before .before .before .before .credential-of .ensures .1) (c .before .before .before .before .request-of .ensures) (c .before .before .before .pair-of .ensures .0) refl (c .before .before .idevid-request-of .ensures .2) (c .before .before .idevid-request-of .ensures .0) refl
     ∙ chain-passes 13 _ _ (sym (c .before .before .before .before .before .before .before .before .before .before .before .before .before .before .before .is-role .ensures) ∙ not-false _ (c .before .before .before .before .before .before .before .before .before .before .before .before .before .before .if1 .left))
@@ -163,10 +163,10 @@ iak-allowed-requires c κs =
     (omega (arith, checked-here h .fewTerms, d), o .pre .4)
 
 returns-7 : tie.Need-returns-7
-returns-7 c words n ledger k₀ =
+returns-7 c n ledger k₀ =
     let o = c .before .before .before .before .before .before .before .before .before .before .before .before .before .before .before .before .before .before .before .before in
     let f = fileIn (now (o .args .file)) in
-    c .iak-allowed .ensures f words n ledger (k₀ .enters) (k₀ .boards) (k₀ .sound .oneEk)
+    c .iak-allowed .ensures f n ledger (k₀ .enters) (k₀ .boards) (k₀ .sound .oneEk)
     ∙ sym (issue-iak-chain f (stateOf (view (now (o .args .state))) ledger) (o .args .party) (o .args .other) (o .args .c) (o .args .r) (c .before .before .before .before .before .before .before .before .before .credential-of .ensures .1) (c .before .before .before .before .before .before .request-of .ensures) (c .before .before .before .before .before .pair-of .ensures .0) (c .before .before .before .before .idevid-request-of .ensures .1) (c .before .before .before .before .idevid-request-of .ensures .2) (c .before .before .before .before .idevid-request-of .ensures .0) (c .before .certified-key-of .ensures)
     ∙ chain-passes 13 _ _ (sym (c .before .before .before .before .before .before .before .before .before .before .before .before .before .before .before .before .before .is-role .ensures) ∙ not-false _ (c .before .before .before .before .before .before .before .before .before .before .before .before .before .before .before .before .if1 .left))
     ∙ chain-passes 25 _ _ (eq-eqb _ _ (sym (c .before .before .before .before .before .before .before .before .before .before .before .before .before .before .before .mark-of .ensures) ∙ c .before .before .before .before .before .before .before .before .before .before .before .before .before .before .if2 .left))

@@ -1,3 +1,4 @@
+use mathlib.Core.Path.{_∙_}
 use native.Mathlib.Omega.{arith}
 use borrow.Author.Needs.{needs}
 use Rattle.loaded.proofs.Standing.{checked-here, kind-declared, term-here, left-declared, ldevid-certificate-declared}
@@ -19,47 +20,70 @@ ldevid-request-of-requires c κs =
 
 depth-of-requires : tie.Need-depth-of-requires
 depth-of-requires c κs =
-    let p = c .before .before .before .before .before .before .before .before .pre in
+    let p = c .before .before .before .before .before .before .before .pre in
     let t = request-accepted (p .1) in
     let few = checked-here (p .0) .fewTerms in
     let m = ldevid-certificate-declared (p .0) (left-declared (p .0) (p .1 .wellformed .2) (t .parent .pair)) (t .parent .body) in
-    rw (c .before .before .ldevid-request-of .ensures .1, c .before .before .before .before .pair-of .ensures .0) (omega (arith, few, m), parent-place (p .1) .0, parent-place (p .1) .1)
+    rw (c .before .ldevid-request-of .ensures .1, c .before .before .before .pair-of .ensures .0) (omega (arith, few, m))
 
 ek-of-requires : tie.Need-ek-of-requires
 ek-of-requires c κs =
-    let p = c .before .before .before .before .before .before .before .before .before .before .pre in
+    let p = c .before .before .before .before .before .before .before .before .before .pre in
     let t = request-accepted (p .1) in
     let few = checked-here (p .0) .fewTerms in
     let m = ldevid-certificate-declared (p .0) (left-declared (p .0) (p .1 .wellformed .2) (t .parent .pair)) (t .parent .body) in
-    rw (c .before .before .before .before .ldevid-request-of .ensures .1, c .before .before .before .before .before .before .pair-of .ensures .0) (omega (arith, few, m), parent-place (p .1) .0, parent-place (p .1) .1)
+    rw (c .before .before .before .ldevid-request-of .ensures .1, c .before .before .before .before .before .pair-of .ensures .0) (omega (arith, few, m), parent-place (p .1) .0, parent-place (p .1) .1)
 
 learn-requires : tie.Need-learn-requires
 learn-requires c κs =
-    let p = c .before .before .before .before .before .before .before .before .before .before .before .before .pre in
+    let p = c .before .before .before .before .before .before .before .before .before .before .before .pre in
     (p .0, p .1 .wellformed .0, kind-declared _ (p .1 .wellformed .1) (λ x. omega arith))
 
 add-append : tie.Need-add-append
 add-append c =
-    let p = c .before .before .before .before .before .before .before .before .before .before .before .before .before .before .before .before .before .pre in
+    let p = c .before .before .before .before .before .before .before .before .before .before .before .before .before .before .before .pre in
     let t = request-accepted (p .1) in
-    let d = c .before .before .before .before .before .before .before .before .depth-of .ensures _ _ (p .1 .accepts .enters) in
-    let k = rw (c .before .before .before .before .before .before .before .before .before .before .before .ldevid-request-of .ensures .1, c .before .before .before .before .before .before .before .before .before .before .before .before .before .pair-of .ensures .0) at d in
+    let d = c .before .before .before .before .before .before .before .depth-of .ensures ∙ p .1 .accepts .enters .depth _ in
+    let k = rw (c .before .before .before .before .before .before .before .before .before .ldevid-request-of .ensures .1, c .before .before .before .before .before .before .before .before .before .before .before .pair-of .ensures .0) at d in
     omega (arith, k, t .depth)
 
 append-requires : tie.Need-append-requires
 append-requires c κs =
-    let p = c .before .before .before .before .before .before .before .before .before .before .before .before .before .before .before .before .before .pre in
+    let p = c .before .before .before .before .before .before .before .before .before .before .before .before .before .before .before .pre in
     let t = request-accepted (p .1) in
     let few = checked-here (p .0) .fewTerms in
     let l = kind-declared _ (p .1 .wellformed .1) (λ x. omega arith) in
     let m = ldevid-certificate-declared (p .0) (left-declared (p .0) (p .1 .wellformed .2) (t .parent .pair)) (t .parent .body) in
-    (p .1 .words, p .1 .accepts .enters .room, p .1 .accepts .more, omega (arith, few, l), rw (c .before .before .before .before .before .before .before .before .before .before .before .ldevid-request-of .ensures .1, c .before .before .before .before .before .before .before .before .before .before .before .before .before .pair-of .ensures .0) (omega (arith, few, m)))
+    (p .1 .words, p .1 .accepts .more, omega (arith, few, l))
+
+cast-t23 : tie.Need-cast-t23
+cast-t23 c =
+    let p = c .before .before .before .before .before .before .before .before .before .before .before .before .before .before .before .before .pre in
+    let few = checked-here (p .0) .fewTerms in
+    let l = kind-declared _ (p .1 .wellformed .1) (λ x. omega arith) in
+    omega (arith, few, l)
+
+cast-t24 : tie.Need-cast-t24
+cast-t24 c =
+    let p = c .before .before .before .before .before .before .before .before .before .before .before .before .before .before .before .before .pre in
+    let t = request-accepted (p .1) in
+    let few = checked-here (p .0) .fewTerms in
+    let m = ldevid-certificate-declared (p .0) (left-declared (p .0) (p .1 .wellformed .2) (t .parent .pair)) (t .parent .body) in
+    rw (c .before .before .before .before .before .before .before .before .before .before .ldevid-request-of .ensures .1, c .before .before .before .before .before .before .before .before .before .before .before .before .pair-of .ensures .0) (omega (arith, few, m))
+
+add-t25 : tie.Need-add-t25
+add-t25 c =
+    let p = c .before .before .before .before .before .before .before .before .before .before .before .before .before .before .before .before .pre in
+    let t = request-accepted (p .1) in
+    let d = c .before .before .before .before .before .before .before .before .depth-of .ensures ∙ p .1 .accepts .enters .depth _ in
+    let k = rw (c .before .before .before .before .before .before .before .before .before .before .ldevid-request-of .ensures .1, c .before .before .before .before .before .before .before .before .before .before .before .before .pair-of .ensures .0) at d in
+    omega (arith, k, t .depth)
 
 same-length : tie.Need-same-length
 same-length c = search needs
 
 returns : tie.Need-returns
-returns c = request-issued (c .before .before .before .before .before .before .before .before .before .before .before .before .before .before .before .before .before .before .pre .1) (c .before .before .before .before .before .before .before .before .before .before .before .before .before .before .pair-of .ensures .0) (c .before .before .before .before .before .before .before .before .before .before .before .before .ldevid-request-of .ensures .1) (c .before .before .before .before .before .before .before .before .before .depth-of .ensures) (c .before .before .before .before .before .before .before .ek-of .ensures) (c .before .before .before .before .before .learn .ensures) (c .append .ensures)
+returns c = request-issued (c .before .before .before .before .before .before .before .before .before .before .before .before .before .before .before .before .pre .1) (c .before .before .before .before .before .before .before .before .before .before .before .before .pair-of .ensures .0) (c .before .before .before .before .before .before .before .before .before .before .ldevid-request-of .ensures .1) (c .before .before .before .before .before .before .before .before .depth-of .ensures) (c .before .before .before .before .before .before .ek-of .ensures) (c .before .before .before .before .learn .ensures) (c .append .ensures)
 
 pub effect-issue-spec : {M : Type 1} → statement M
-effect-issue-spec = tie.close (tie.spec pair-of-requires ldevid-request-of-requires depth-of-requires ek-of-requires learn-requires add-append append-requires same-length returns)
+effect-issue-spec = tie.close (tie.spec pair-of-requires ldevid-request-of-requires depth-of-requires ek-of-requires learn-requires add-append append-requires cast-t23 cast-t24 add-t25 same-length returns)

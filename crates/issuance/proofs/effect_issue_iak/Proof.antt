@@ -49,31 +49,46 @@ note-mark-requires c κs =
 
 cast-append : tie.Need-cast-append
 cast-append c =
-    let p = c .before .before .before .before .before .before .before .before .before .before .before .before .before .before .before .before .before .before .before .before .pre in
+    let p = c .before .before .before .before .before .before .before .before .before .before .before .before .before .before .before .before .before .before .before .pre in
     let k = ek-few (p .0) (p .1 .requested) in
-    let z = rw (c .before .before .before .before .before .before .before .before .before .before .before .before .idevid-request-of .ensures .1, c .before .before .before .before .before .before .before .before .before .before .before .before .before .before .pair-of .ensures .0, c .before .before .before .before .before .before .before .before .before .before .before .before .before .before .before .before .request-of .ensures) at (c .before .before .before .before .before .before .before .before .before .before .certified-key-of .ensures) in
+    let z = rw (c .before .before .before .before .before .before .before .before .before .before .before .idevid-request-of .ensures .1, c .before .before .before .before .before .before .before .before .before .before .before .before .before .pair-of .ensures .0, c .before .before .before .before .before .before .before .before .before .before .before .before .before .before .before .request-of .ensures) at (c .before .before .before .before .before .before .before .before .before .certified-key-of .ensures) in
     omega arith
 
 append-requires : tie.Need-append-requires
 append-requires c κs =
-    let p = c .before .before .before .before .before .before .before .before .before .before .before .before .before .before .before .before .before .before .before .before .pre in
+    let p = c .before .before .before .before .before .before .before .before .before .before .before .before .before .before .before .before .before .before .before .pre in
     let i = p .1 in
     let few = checked-here (p .0) .fewTerms in
     let l = kind-declared _ (i .wellformed .3) (λ x. omega arith) in
     let m = idevid-certificate-declared (p .0) (left-declared (p .0) (i .requested .declared) (i .requested .formed .pair)) (i .requested .body) in
-    (i .words, i .accepts .enters .room, i .accepts .more, omega (arith, few, l), rw (c .before .before .before .before .before .before .before .before .before .before .before .before .idevid-request-of .ensures .1, c .before .before .before .before .before .before .before .before .before .before .before .before .before .before .pair-of .ensures .0, c .before .before .before .before .before .before .before .before .before .before .before .before .before .before .before .before .request-of .ensures) (omega (arith, few, m)))
+    (i .words, i .accepts .more, omega (arith, few, l))
 
 link-requires : tie.Need-link-requires
 link-requires c κs =
-    let i = c .before .before .before .before .before .before .before .before .before .before .before .before .before .before .before .before .before .before .before .before .before .before .pre .1 in
+    let i = c .before .before .before .before .before .before .before .before .before .before .before .before .before .before .before .before .before .before .before .before .before .pre .1 in
     let a = c .before .append .ensures in
     (a .keys .words ∙ i .words, i .accepts .more, subst⁻¹ (λ (b : Boards). Falls b termLimit) (a .boards) (falls-ek _ _ termLimit (entered-falls (_, _, i .accepts .enters))))
+
+cast-t27 : tie.Need-cast-t27
+cast-t27 c =
+    let p = c .before .before .before .before .before .before .before .before .before .before .before .before .before .before .before .before .before .before .before .before .before .before .pre in
+    let few = checked-here (p .0) .fewTerms in
+    let l = kind-declared _ (p .1 .wellformed .3) (λ x. omega arith) in
+    omega (arith, few, l)
+
+cast-t29 : tie.Need-cast-t29
+cast-t29 c =
+    let p = c .before .before .before .before .before .before .before .before .before .before .before .before .before .before .before .before .before .before .before .before .before .before .before .pre in
+    let i = p .1 in
+    let few = checked-here (p .0) .fewTerms in
+    let m = idevid-certificate-declared (p .0) (left-declared (p .0) (i .requested .declared) (i .requested .formed .pair)) (i .requested .body) in
+    rw (c .before .before .before .before .before .before .before .before .before .before .before .before .before .before .before .idevid-request-of .ensures .1, c .before .before .before .before .before .before .before .before .before .before .before .before .before .before .before .before .before .pair-of .ensures .0, c .before .before .before .before .before .before .before .before .before .before .before .before .before .before .before .before .before .before .before .request-of .ensures) (omega (arith, few, m))
 
 same-length : tie.Need-same-length
 same-length c = search needs
 
 returns : tie.Need-returns
-returns c = iak-issued (c .before .before .before .before .before .before .before .before .before .before .before .before .before .before .before .before .before .before .before .before .before .before .before .pre .1) (c .before .before .before .before .before .before .before .before .before .before .before .before .before .before .before .before .before .before .before .request-of .ensures) (c .before .before .before .before .before .before .before .before .before .before .before .before .before .before .before .before .before .pair-of .ensures .0) (c .before .before .before .before .before .before .before .before .before .before .before .before .before .before .before .idevid-request-of .ensures .1) (c .before .before .before .before .before .before .before .before .before .before .before .before .before .before .before .idevid-request-of .ensures .0) (c .before .before .before .before .before .before .before .before .before .before .before .before .before .certified-key-of .ensures) (c .before .before .before .before .before .before .before .before .before .before .before .learn .ensures) (c .before .before .before .before .before .before .before .note-mark .ensures) (c .before .before .append .ensures) (c .link .ensures)
+returns c = iak-issued (c .before .before .before .before .before .before .before .before .before .before .before .before .before .before .before .before .before .before .before .before .before .before .before .pre .1) (c .before .before .before .before .before .before .before .before .before .before .before .before .before .before .before .before .before .before .before .request-of .ensures) (c .before .before .before .before .before .before .before .before .before .before .before .before .before .before .before .before .before .pair-of .ensures .0) (c .before .before .before .before .before .before .before .before .before .before .before .before .before .before .before .idevid-request-of .ensures .1) (c .before .before .before .before .before .before .before .before .before .before .before .before .before .before .before .idevid-request-of .ensures .0) (c .before .before .before .before .before .before .before .before .before .before .before .before .before .certified-key-of .ensures) (c .before .before .before .before .before .before .before .before .before .before .before .learn .ensures) (c .before .before .before .before .before .before .before .note-mark .ensures) (c .before .before .before .append .ensures) (c .before .link .ensures)
 
 pub effect-issue-iak-spec : {M : Type 1} → statement M
-effect-issue-iak-spec = tie.close (tie.spec request-of-requires pair-of-requires idevid-request-of-requires certified-key-of-requires learn-requires note-mark-requires cast-append append-requires link-requires same-length returns)
+effect-issue-iak-spec = tie.close (tie.spec request-of-requires pair-of-requires idevid-request-of-requires certified-key-of-requires learn-requires note-mark-requires cast-append append-requires link-requires cast-t27 cast-t29 same-length returns)

@@ -10,21 +10,21 @@ is-listed-requires : tie.Need-is-listed-requires
 is-listed-requires c κs = search needs
 
 returns : tie.Need-returns
-returns c f words n ledger e b o = sym (chain-fails 28 _ _ (ap not (sym (c .before .is-listed .ensures words n ledger e) ∙ c .if1 .taken)))
+returns c f n ledger e b o = sym (chain-fails 28 _ _ (ap not (sym (c .before .is-listed .ensures n ledger e) ∙ c .if1 .taken)))
 
 ends-at-requires : tie.Need-ends-at-requires
 ends-at-requires c κs = search needs
 
 returns-2 : tie.Need-returns-2
-returns-2 c f words n ledger e b o =
+returns-2 c f n ledger e b o =
     let d = c .before .before .before in
-    sym (chain-passes 28 _ _ (ap not (sym (d .is-listed .ensures words n ledger e) ∙ c .before .before .if1 .left))
+    sym (chain-passes 28 _ _ (ap not (sym (d .is-listed .ensures n ledger e) ∙ c .before .before .if1 .left))
     ∙ chain-fails 31 _ _ (sym (c .before .ends-at .ensures f ledger b o) ∙ not-true _ (c .if2 .taken)))
 
 returns-3 : tie.Need-returns-3
-returns-3 c f words n ledger e b o =
+returns-3 c f n ledger e b o =
     let d = c .before .before .before in
-    sym (chain-passes 28 _ _ (ap not (sym (d .is-listed .ensures words n ledger e) ∙ c .before .before .if1 .left))
+    sym (chain-passes 28 _ _ (ap not (sym (d .is-listed .ensures n ledger e) ∙ c .before .before .if1 .left))
     ∙ chain-passes 31 _ _ (sym (c .before .ends-at .ensures f ledger b o) ∙ not-false _ (c .if2 .left))
     ∙ chain-none)
 

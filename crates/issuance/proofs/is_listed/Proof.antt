@@ -11,7 +11,7 @@ entry-of-requires : tie.Need-entry-of-requires
 entry-of-requires c κs = search needs
 
 returns : tie.Need-returns
-returns c words n ledger e =
+returns c n ledger e =
     ap (λ (x : ℕ). not (eqb x 0)) (c .entry-of .ensures ∙ e .place (c .before .args .t)) ∙ sym (listed-entry ledger 0 (c .before .args .t))
 
 pub is-listed-spec : {M : Type 1} → statement M

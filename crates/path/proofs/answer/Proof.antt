@@ -1,40 +1,35 @@
+-- `path::answer` meets its contract. Assumes nothing.
 use borrow.Author.Needs.{needs}
-use mathlib.Core.Path.{subst, subst⁻¹}
-use denote.Ref.{now}
-use Rattle.rules.specs.declared.RunAnswer.{RunAnswer}
-use Rattle.rules.specs.declared.PathAnswer.the-variants.{Refused}
-use Rattle.path.specs.Paths.{Askable, Answers}
-use Rattle.path.proofs.Answering.{refused-answers}
+use native.Mathlib.Omega.{arith}
+use Rattle.path.proofs.Climbing.{told-refused, told-none, told-some}
 use Rattle.path.proofs.answer.Statement.{statement}
 use Rattle.path.proofs.answer.Tie as tie
 
-enum-told : tie.Need-enum-told
-enum-told c = search needs
-
-find-requires : tie.Need-find-requires
-find-requires c κs =
+cast-t6 : tie.Need-cast-t6
+cast-t6 c =
     let o = c .before .before .before .before in
-    subst (λ (x : RunAnswer). Askable x (now (o .args .tables)) (now (o .args .words)) (now (o .args .list))) (c .before .enum-told .given .1) (o .pre)
-
-enum-known-ran : tie.Need-enum-known-ran
-enum-known-ran c = search needs
-
-same-length : tie.Need-same-length
-same-length c = search needs
+    record { fits = o .pre .near (λ z. omega (arith, z)) }
 
 returns : tie.Need-returns
 returns c =
-    let o = c .before .before .before .before .before .before .before in
-    let f = c .before .before .find .ensures in
-    subst⁻¹ (λ (x : RunAnswer). Answers x (now (o .args .tables)) (now (o .args .words)) (o .args .term) (now (o .args .list)) (c .before .before .find .last .1 .1 .1 .0) (c .before .before .find .result)) (c .before .before .before .before .enum-told .given .1)
-    (λ n ledger e. (f .0 n ledger e, f .1 n ledger e))
+    let a = c .before .before .before .before .args in
+    told-refused (a .done) (a .s) (a .t) (λ z. omega (arith, z))
 
 returns-2 : tie.Need-returns-2
 returns-2 c =
-    let o = c .before .before .before .before in
-    subst⁻¹ (λ (x : RunAnswer). Answers x (now (o .args .tables)) (now (o .args .words)) (o .args .term) (now (o .args .list)) (now (o .args .list)) (Refused (c .before .ran .given .0 .0) (c .before .ran .given .0 .1 .0))) (c .before .ran .given .1)
-    (refused-answers _ _ _)
+    let a = c .before .before .before .before .before .args in
+    told-none (a .done) (a .s) (a .t) (omega arith) (omega arith)
+
+sub-t8 : tie.Need-sub-t8
+sub-t8 c = search needs
+
+cast-t9 : tie.Need-cast-t9
+cast-t9 c = search needs
+
+returns-3 : tie.Need-returns-3
+returns-3 c =
+    let a = c .before .before .before .before .before .before .args in
+    told-some (a .done) (a .s) (a .t) (omega arith) (λ z. omega (arith, z))
 
 pub answer-spec : {M : Type 1} → statement M
-answer-spec =
-    tie.close (tie.spec enum-told find-requires enum-known-ran same-length returns returns-2)
+answer-spec = tie.close (tie.spec cast-t6 returns returns-2 sub-t8 cast-t9 returns-3)

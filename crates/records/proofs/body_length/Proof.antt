@@ -2,67 +2,38 @@ use mathlib.Core.Path.{_≡_, refl, sym, ap}
 use Prim.Native.Nat.{ℕ, _+_, _<_, _≤_}
 use native.Mathlib.Omega.{arith}
 use borrow.Author.Needs.{needs}
-use borrow.Author.Tests.{ne-eqb, lt-leb}
 use Rattle.rules.specs.Record.{sectionOf, bodyLength, fieldsOf, widths, width}
-use Rattle.records.proofs.EachKind.{values, agree, section-past}
-use Rattle.records.proofs.Lengths.{no-section}
+use Rattle.records.proofs.EachKind.{agree}
 use Rattle.records.proofs.body_length.Statement.{statement}
 use Rattle.records.proofs.body_length.Tie as tie
 
--- the n kinds from m on have bodies of one length
-within : (r m n : ℕ) → values bodyLength m n ≡ values (λ k. r) m n → (k : ℕ) → m ≤ k → k < m + n → r ≡ bodyLength k
-within r m n e k l h = sym (agree bodyLength (λ k. r) m n e k l h)
+-- the bodies of 30 to 37, of 3C and of 40 to 42
+made-length : (k : ℕ) → 0x30 ≤ k → k ≤ 0x37 → 3 ≡ bodyLength k
+unfolding bodyLength widths width fieldsOf sectionOf
+made-length k l h = sym (agree bodyLength (λ k. 3) 0x30 8 refl k l (omega arith))
 
-term-length-requires : tie.Need-term-length-requires
-term-length-requires c κs = search needs
+sent-length : (k : ℕ) → k ≡ 0x3C → 4 ≡ bodyLength k
+unfolding bodyLength widths width fieldsOf sectionOf
+sent-length k e = sym (ap bodyLength e)
 
-command-length-requires : tie.Need-command-length-requires
-command-length-requires c κs = search needs
+issue-length : (k : ℕ) → 0x40 ≤ k → k ≤ 0x42 → 5 ≡ bodyLength k
+unfolding bodyLength widths width fieldsOf sectionOf
+issue-length k l h = sym (agree bodyLength (λ k. 5) 0x40 3 refl k l (omega arith))
 
 returns : tie.Need-returns
-unfolding bodyLength fieldsOf sectionOf widths width
-returns c = sym (ap bodyLength (c .match .keys1))
+returns c = made-length _ (omega arith) (omega arith)
 
 returns-2 : tie.Need-returns-2
-returns-2 c = search needs
+returns-2 c = sent-length _ (c .if3 .taken)
 
 returns-3 : tie.Need-returns-3
-unfolding bodyLength fieldsOf sectionOf widths width
-returns-3 c = within 3 0x20 3 refl (c .before .before .before .before .before .args .kind) (omega arith) (omega arith)
+returns-3 c = issue-length _ (omega arith) (omega arith)
+
+length-of-requires : tie.Need-length-of-requires
+length-of-requires c κs = search needs
 
 returns-4 : tie.Need-returns-4
 returns-4 c = search needs
 
-returns-5 : tie.Need-returns-5
-unfolding sectionOf
-returns-5 c =
-    sym (no-section (c .before .before .args .kind)
-    (simp (ne-eqb _ 1 (c .before .match .rest .1), lt-leb 0x10 _ (c .if1 .taken), lt-leb 0x20 (c .before .before .args .kind) (omega arith), lt-leb 0x30 (c .before .before .args .kind) (omega arith))))
-
-returns-6 : tie.Need-returns-6
-unfolding bodyLength fieldsOf sectionOf widths width
-returns-6 c = within 0 0x1B 5 refl (c .before .before .before .before .args .kind) (omega arith) (omega arith)
-
-returns-7 : tie.Need-returns-7
-unfolding bodyLength fieldsOf sectionOf widths width
-returns-7 c = within 0 0x23 13 refl (c .before .before .before .before .before .before .args .kind) (omega arith) (omega arith)
-
-returns-8 : tie.Need-returns-8
-returns-8 c =
-    sym (no-section (c .before .before .before .before .before .before .before .args .kind)
-    (section-past (c .before .before .before .before .before .before .before .args .kind) (omega arith)))
-
 pub body-length-spec : {M : Type 1} → statement M
-body-length-spec =
-    tie.close
-    (tie.spec
-    term-length-requires
-    command-length-requires
-    returns
-    returns-2
-    returns-3
-    returns-4
-    returns-5
-    returns-6
-    returns-7
-    returns-8)
+body-length-spec = tie.close (tie.spec returns returns-2 returns-3 length-of-requires returns-4)

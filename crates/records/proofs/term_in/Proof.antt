@@ -28,33 +28,21 @@ word-at-requires-4 : tie.Need-word-at-requires-4
 unfolding bodyLength widths width fieldsOf sectionOf
 word-at-requires-4 c κs = omega (arith, rw (c .before .match .keys6) at (c .before .before .before .before .pre .1))
 
-subject-at-requires : tie.Need-subject-at-requires
+idevid-request-in-requires : tie.Need-idevid-request-in-requires
 unfolding bodyLength widths width fieldsOf sectionOf
-subject-at-requires c κs = omega (arith, rw (c .match .keys8) at (c .before .before .before .pre .1))
+idevid-request-in-requires c κs = omega (arith, rw (c .match .keys8) at (c .before .before .before .pre .1))
 
 word-at-requires-5 : tie.Need-word-at-requires-5
 unfolding bodyLength widths width fieldsOf sectionOf
-word-at-requires-5 c κs = omega (arith, rw (c .before .match .keys8) at (c .before .before .before .before .pre .1))
+word-at-requires-5 c κs = omega (arith, rw (c .match .keys9) at (c .before .before .before .pre .1))
+
+certificate-in-requires : tie.Need-certificate-in-requires
+unfolding bodyLength widths width fieldsOf sectionOf
+certificate-in-requires c κs = omega (arith, rw (c .match .keys10) at (c .before .before .before .pre .1))
 
 word-at-requires-6 : tie.Need-word-at-requires-6
 unfolding bodyLength widths width fieldsOf sectionOf
-word-at-requires-6 c κs = omega (arith, rw (c .before .before .match .keys8) at (c .before .before .before .before .before .pre .1))
-
-word-at-requires-7 : tie.Need-word-at-requires-7
-unfolding bodyLength widths width fieldsOf sectionOf
-word-at-requires-7 c κs = omega (arith, rw (c .match .keys9) at (c .before .before .before .pre .1))
-
-subject-at-requires-2 : tie.Need-subject-at-requires-2
-unfolding bodyLength widths width fieldsOf sectionOf
-subject-at-requires-2 c κs = omega (arith, rw (c .match .keys10) at (c .before .before .before .pre .1))
-
-word-at-requires-8 : tie.Need-word-at-requires-8
-unfolding bodyLength widths width fieldsOf sectionOf
-word-at-requires-8 c κs = omega (arith, rw (c .before .match .keys10) at (c .before .before .before .before .pre .1))
-
-word-at-requires-9 : tie.Need-word-at-requires-9
-unfolding bodyLength widths width fieldsOf sectionOf
-word-at-requires-9 c κs = omega (arith, rw (last-term _ (c .before .before .before .pre .0) (c .match .rest)) at (c .before .before .before .pre .1))
+word-at-requires-6 c κs = omega (arith, rw (last-term _ (c .before .before .before .pre .0) (c .match .rest)) at (c .before .before .before .pre .1))
 
 returns : tie.Need-returns
 unfolding termAt
@@ -85,16 +73,14 @@ unfolding termAt
 returns-7 c = rw (c .match .keys7) (cc)
 
 returns-8 : tie.Need-returns-8
-unfolding termAt
-returns-8 c = rw (c .before .before .before .match .keys8) (cc)
+returns-8 c = rw (c .before .match .keys8) (c .idevid-request-in .ensures)
 
 returns-9 : tie.Need-returns-9
 unfolding termAt
 returns-9 c = rw (c .before .match .keys9) (cc)
 
 returns-10 : tie.Need-returns-10
-unfolding termAt
-returns-10 c = rw (c .before .before .match .keys10) (cc)
+returns-10 c = rw (c .before .match .keys10) (c .certificate-in .ensures)
 
 returns-11 : tie.Need-returns-11
 unfolding termAt
@@ -110,13 +96,10 @@ term-in-spec =
     word-at-requires-2
     word-at-requires-3
     word-at-requires-4
-    subject-at-requires
+    idevid-request-in-requires
     word-at-requires-5
+    certificate-in-requires
     word-at-requires-6
-    word-at-requires-7
-    subject-at-requires-2
-    word-at-requires-8
-    word-at-requires-9
     returns
     returns-2
     returns-3

@@ -1,101 +1,62 @@
-use borrow.Author.Needs.{needs}
-use mathlib.Core.Path.{_≡_, refl, sym}
-use mathlib.Core.List.{[], _∷_}
-use Prim.Native.Nat.{_<_}
+use borrow.Author.Tests.{not-true, not-false}
+use mathlib.Core.Path.{sym, ap, _∙_}
 use native.Mathlib.Omega.{arith}
-use lib.ListN.{length}
 use denote.Ref.{now}
-use Rattle.rules.specs.declared.Term.the-variants.{Signature, Attest}
-use Rattle.rules.specs.File.{term}
+use Rattle.rules.specs.File.{attestedKey}
 use Rattle.loaded.specs.Loaded.{fileIn}
 use Rattle.loaded.proofs.Standing.{term-here}
-use Rattle.requests.proofs.Read.{read, kind-is, kind-not, signature-key, attest-kind, message-known}
-use Rattle.requests.proofs.Attests.{no-signed, no-attest, attest-formed, attest-named}
+use Rattle.requests.proofs.Read.{is-kind-kind, message-known}
+use Rattle.requests.proofs.Attests.{no-signed, no-attest, attest-formed}
 use Rattle.requests.proofs.attested_by.Statement.{statement}
 use Rattle.requests.proofs.attested_by.Tie as tie
-use Rattle.requests.proofs.attested_by.Reads as reads
-use Rattle.requests.proofs.attested_by.Lts as lts
-use Rattle.learning.proofs.term_of.Reads as term-of-reads
 
-abbrev C : lts.Claims
-C = (term-of-reads.Asked, term-of-reads.Learnt)
-
-term-of-requires : tie.Need-term-of-requires
-term-of-requires c κs =
-    let w = term-here (c .before .before .pre .0) (c .before .before .pre .1) in
-    (w .row, w .whole)
-
-enum-known-signed : tie.Need-enum-known-signed
-enum-known-signed c = search needs
+is-kind-requires : tie.Need-is-kind-requires
+is-kind-requires c κs =
+    let p = c .before .before .pre in
+    term-here (p .0) (p .1)
 
 returns : tie.Need-returns
 returns c =
+    (sym (no-signed _ _ (sym (c .before .is-kind .ensures) ∙ not-true _ (c .if1 .taken))), λ z. absurd (omega (arith, z)))
+
+message-of-requires : tie.Need-message-of-requires
+message-of-requires c κs =
     let p = c .before .before .before .before .pre in
-    (sym (no-signed _ _ (kind-not _ _ 3 (0 ∷ 1 ∷ 2 ∷ 4 ∷ 5 ∷ 6 ∷ 7 ∷ 8 ∷ 9 ∷ 10 ∷ []) (read (term-here (p .0) (p .1)) (c .before .term-of .ensures) refl) tt (c .match .keys2))), λ z. absurd (omega (arith, z)))
+    (term-here (p .0) (p .1), is-kind-kind _ _ (sym (c .before .is-kind .ensures) ∙ not-false _ (c .if1 .left)))
 
--- the term is a signature, over a declared term
-signature : (b : lts.After-signed C reads.Pre reads.Post)
-    → let o = b .before .before .before .before .before in
-    term (fileIn (now (o .args .file))) (o .args .t) ≡ Signature (b .signed .given .0 .0) (b .signed .given .0 .1 .0)
-signature b =
-    let p = b .before .before .before .before .before .pre in
-    read (term-here (p .0) (p .1)) (b .before .before .term-of .ensures) (b .signed .given .1)
-
-over : (b : lts.After-signed C reads.Pre reads.Post)
-    → let o = b .before .before .before .before .before in
-    b .signed .given .0 .0 < length (fileIn (now (o .args .file)) .terms)
-over b = let p = b .before .before .before .before .before .pre in message-known (p .0) (p .1) (signature b)
-
-cast-message : tie.Need-cast-message
-cast-message c = search needs
-
-term-of-requires-2 : tie.Need-term-of-requires-2
-term-of-requires-2 c κs =
-    let w = term-here (c .before .before .before .before .before .before .pre .0) (over (c .before)) in
-    (w .row, w .whole)
-
-enum-known-attest : tie.Need-enum-known-attest
-enum-known-attest c = search needs
+is-kind-requires-2 : tie.Need-is-kind-requires-2
+is-kind-requires-2 c κs =
+    let p = c .before .before .before .before .before .pre in
+    term-here (p .0) (message-known (p .0) (p .1) (is-kind-kind _ _ (sym (c .before .before .is-kind .ensures) ∙ not-false _ (c .before .if1 .left))) (c .message-of .ensures))
 
 returns-2 : tie.Need-returns-2
 returns-2 c =
-    let b = c .before .before .before in
-    let p = b .before .before .before .before .before .pre in
-    (sym (no-attest _ _ (signature b) (kind-not _ _ 4 (0 ∷ 1 ∷ 2 ∷ 3 ∷ 5 ∷ 6 ∷ 7 ∷ 8 ∷ 9 ∷ 10 ∷ []) (read (term-here (p .0) (over b)) (c .before .term-of2 .ensures) refl) tt (c .match2 .keys2))), λ z. absurd (omega (arith, z)))
+    (sym (no-attest _ _ (sym (c .before .before .before .before .is-kind .ensures) ∙ not-false _ (c .before .before .before .if1 .left)) (c .before .before .message-of .ensures) (sym (c .before .is-kind2 .ensures) ∙ not-true _ (c .if2 .taken))), λ z. absurd (omega (arith, z)))
 
--- its message is an attest
-attest : (d : lts.After-attest C reads.Pre reads.Post)
-    → let b = d .before .before .before .before in
-    let o = b .before .before .before .before .before in
-    term (fileIn (now (o .args .file))) (b .signed .given .0 .0) ≡ Attest (d .attest .given .0 .0)
-attest d =
-    let b = d .before .before .before .before in
-    let p = b .before .before .before .before .before .pre in
-    read (term-here (p .0) (over b)) (d .before .before .term-of2 .ensures) (d .attest .given .1)
+attested-key-of-requires : tie.Need-attested-key-of-requires
+attested-key-of-requires c κs =
+    let p = c .before .before .before .before .before .before .before .pre in
+    (term-here (p .0) (message-known (p .0) (p .1) (is-kind-kind _ _ (sym (c .before .before .before .before .is-kind .ensures) ∙ not-false _ (c .before .before .before .if1 .left))) (c .before .before .message-of .ensures)), is-kind-kind _ _ (sym (c .before .is-kind2 .ensures) ∙ not-false _ (c .if2 .left)))
 
-cast-new : tie.Need-cast-new
-cast-new c = search needs
-
-cast-half : tie.Need-cast-half
-cast-half c = search needs
+signing-key-of-requires : tie.Need-signing-key-of-requires
+signing-key-of-requires c κs =
+    let p = c .before .before .before .before .before .before .before .before .pre in
+    (term-here (p .0) (p .1), is-kind-kind _ _ (sym (c .before .before .before .before .before .is-kind .ensures) ∙ not-false _ (c .before .before .before .before .if1 .left)))
 
 returns-3 : tie.Need-returns-3
 returns-3 c =
-    let d = c .before in
-    let b = d .before .before .before .before in
-    (sym (attest-formed _ _ (signature b) (kind-is _ _ (attest-kind _ _ (attest d)))), λ z. (sym (attest-named _ _ (signature b) (attest d)), sym (signature-key _ _ (signature b))))
+    let o = c .before .before .before .before .before .before .before .before .before in
+    (sym (attest-formed _ _ (sym (c .before .before .before .before .before .before .is-kind .ensures) ∙ not-false _ (c .before .before .before .before .before .if1 .left)) (c .before .before .before .before .message-of .ensures) (sym (c .before .before .before .is-kind2 .ensures) ∙ not-false _ (c .before .before .if2 .left))), λ z. (c .before .attested-key-of .ensures ∙ ap (attestedKey (fileIn (now (o .args .file)))) (c .before .before .before .before .message-of .ensures), c .signing-key-of .ensures))
 
 pub attested-by-spec : {M : Type 1} → statement M
 attested-by-spec =
     tie.close
     (tie.spec
-    term-of-requires
-    enum-known-signed
+    is-kind-requires
     returns
-    cast-message
-    term-of-requires-2
-    enum-known-attest
+    message-of-requires
+    is-kind-requires-2
     returns-2
-    cast-new
-    cast-half
+    attested-key-of-requires
+    signing-key-of-requires
     returns-3)

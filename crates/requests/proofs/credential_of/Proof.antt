@@ -1,38 +1,18 @@
 use borrow.Author.Needs.{needs}
-use mathlib.Core.Path.{refl, sym}
-use mathlib.Core.List.{[], _∷_}
-use Rattle.requests.proofs.Read.{read, other-kind, credential-term, credential-number, credential-key}
 use Rattle.requests.proofs.credential_of.Statement.{statement}
 use Rattle.requests.proofs.credential_of.Tie as tie
 
-term-of-requires : tie.Need-term-of-requires
-term-of-requires c κs = search needs
+credential-term-of-requires : tie.Need-credential-term-of-requires
+credential-term-of-requires c κs = search needs
 
-enum-known-found : tie.Need-enum-known-found
-enum-known-found c = search needs
+credential-number-of-requires : tie.Need-credential-number-of-requires
+credential-number-of-requires c κs = search needs
+
+credential-key-of-requires : tie.Need-credential-key-of-requires
+credential-key-of-requires c κs = search needs
 
 returns : tie.Need-returns
-returns c =
-    let p = c .before .before .before .before .pre in
-    absurd (other-kind _ _ 5 (0 ∷ 1 ∷ 2 ∷ 3 ∷ 4 ∷ 6 ∷ 7 ∷ 8 ∷ 9 ∷ 10 ∷ []) (read (p .0) (c .before .term-of .ensures) refl) tt (c .match .keys2) (p .1))
-
-cast-t8 : tie.Need-cast-t8
-cast-t8 c = search needs
-
-cast-t9 : tie.Need-cast-t9
-cast-t9 c = search needs
-
-cast-t10 : tie.Need-cast-t10
-cast-t10 c = search needs
-
-returns-2 : tie.Need-returns-2
-returns-2 c =
-    let b = c .before in
-    let p = b .before .before .before .before .before .pre in
-    let e = read (p .0) (b .before .before .term-of .ensures) (b .found .given .1) in
-    (sym (credential-term _ _ e), sym (credential-number _ _ e), sym (credential-key _ _ e))
+returns c = (c .before .before .credential-term-of .ensures, c .before .credential-number-of .ensures, c .credential-key-of .ensures)
 
 pub credential-of-spec : {M : Type 1} → statement M
-credential-of-spec =
-    tie.close
-    (tie.spec term-of-requires enum-known-found returns cast-t8 cast-t9 cast-t10 returns-2)
+credential-of-spec = tie.close (tie.spec credential-term-of-requires credential-number-of-requires credential-key-of-requires returns)

@@ -1,34 +1,15 @@
 use borrow.Author.Needs.{needs}
-use mathlib.Core.Path.{refl, sym}
-use mathlib.Core.List.{[], _∷_}
-use Rattle.requests.proofs.Read.{read, other-kind, pair-left, pair-right}
 use Rattle.requests.proofs.pair_of.Statement.{statement}
 use Rattle.requests.proofs.pair_of.Tie as tie
 
-term-of-requires : tie.Need-term-of-requires
-term-of-requires c κs = search needs
+left-of-requires : tie.Need-left-of-requires
+left-of-requires c κs = search needs
 
-enum-known-found : tie.Need-enum-known-found
-enum-known-found c = search needs
+right-of-requires : tie.Need-right-of-requires
+right-of-requires c κs = search needs
 
 returns : tie.Need-returns
-returns c =
-    let p = c .before .before .before .before .pre in
-    absurd (other-kind _ _ 10 (0 ∷ 1 ∷ 2 ∷ 3 ∷ 4 ∷ 5 ∷ 6 ∷ 7 ∷ 8 ∷ 9 ∷ []) (read (p .0) (c .before .term-of .ensures) refl) tt (c .match .keys2) (p .1))
-
-cast-t7 : tie.Need-cast-t7
-cast-t7 c = search needs
-
-cast-t8 : tie.Need-cast-t8
-cast-t8 c = search needs
-
-returns-2 : tie.Need-returns-2
-returns-2 c =
-    let b = c .before in
-    let p = b .before .before .before .before .before .pre in
-    let e = read (p .0) (b .before .before .term-of .ensures) (b .found .given .1) in
-    (sym (pair-left _ _ e), sym (pair-right _ _ e))
+returns c = (c .before .left-of .ensures, c .right-of .ensures)
 
 pub pair-of-spec : {M : Type 1} → statement M
-pair-of-spec =
-    tie.close (tie.spec term-of-requires enum-known-found returns cast-t7 cast-t8 returns-2)
+pair-of-spec = tie.close (tie.spec left-of-requires right-of-requires returns)

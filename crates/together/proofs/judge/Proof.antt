@@ -29,7 +29,7 @@ returns c =
     let o = c .before .before .before .before in
     let p = o .pre .0 in
     let n = term-named _ (checked-here (p .decided .here .holds)) _ _ (o .pre .1) (λ z. omega arith) in (
-      (λ words entries ledger k. sym (judged-twice (fileIn (now (o .args .file))) (stateOf (view (now (o .args .state))) ledger) _ _ _ _ (sym (credential-among (now (o .args .file)) _ n (o .args .n) (o .args .at + 3)) ∙ sym (c .before .stands-in .ensures) ∙ c .if1 .taken))),
+      (λ entries ledger k. sym (judged-twice (fileIn (now (o .args .file))) (stateOf (view (now (o .args .state))) ledger) _ _ _ _ (sym (credential-among (now (o .args .file)) _ n (o .args .n) (o .args .at + 3)) ∙ sym (c .before .stands-in .ensures) ∙ c .if1 .taken))),
       (λ z. absurd (omega arith)),
     )
 
@@ -63,7 +63,7 @@ returns-2 c =
     let p = o .pre .0 in
     let n = term-named _ (checked-here (p .decided .here .holds)) _ _ (o .pre .1) (λ z. omega arith) in
     let apart = sym (credential-among (now (o .args .file)) _ n (o .args .n) (o .args .at + 3)) ∙ sym (c .before .before .before .before .before .stands-in .ensures) ∙ c .before .before .before .before .if1 .left in (
-      (λ words entries ledger k. judged-refused (fileIn (now (o .args .file))) (stateOf (view (now (o .args .state))) ledger) _ _ _ _ apart (c .before .decide-issue-iak .ensures words entries ledger k) (c .if2 .taken)),
+      (λ entries ledger k. judged-refused (fileIn (now (o .args .file))) (stateOf (view (now (o .args .state))) ledger) _ _ _ _ apart (c .before .decide-issue-iak .ensures entries ledger k) (c .if2 .taken)),
       (λ z. absurd (c .if2 .taken z)),
     )
 
@@ -71,7 +71,7 @@ ek-asked-requires : tie.Need-ek-asked-requires
 ek-asked-requires c κs =
     let p = c .before .before .before .before .before .before .before .before .pre in
     let d = p .0 .decided in
-    let z = sym (c .before .decide-issue-iak .ensures (d .words) (d .entries) (d .ledger) (d .ledgered)) ∙ c .if2 .left in
+    let z = sym (c .before .decide-issue-iak .ensures (d .entries) (d .ledger) (d .ledgered)) ∙ c .if2 .left in
     (d .here .holds, kind-declared _ (p .1) (λ q. omega arith), d .here .opened _ (iak-open _ _ _ _ _ _ z))
 
 certificate-of-requires : tie.Need-certificate-of-requires
@@ -91,7 +91,7 @@ returns-3 c =
     let n = term-named _ (checked-here (p .decided .here .holds)) _ _ (o .pre .1) (λ z. omega arith) in
     let apart = sym (credential-among (now (o .args .file)) _ n (o .args .n) (o .args .at + 3)) ∙ sym (c .before .before .before .before .before .before .before .before .before .stands-in .ensures) ∙ c .before .before .before .before .before .before .before .before .if1 .left in
     let ends = ap (λ (x : Subject). othersEnd f (view (now (o .args .state)) .request) x (c .before .before .before .ek-asked .result) (pairsAt (o .args .n) (now (o .args .file)) (o .args .at + 3))) (sym (c .before .before .certificate-of .ensures .1)) ∙ sym (c .before .others-end .ensures) ∙ not-true _ (c .if3 .taken) in (
-      (λ words entries ledger k. sym (judged-late f (stateOf (view (now (o .args .state))) ledger) _ _ _ _ apart (sym (c .before .before .before .before .before .decide-issue-iak .ensures words entries ledger k) ∙ c .before .before .before .before .if2 .left) (rw (← c .before .before .before .ek-asked .ensures) ends) ∙ refuse-false 31)),
+      (λ entries ledger k. sym (judged-late f (stateOf (view (now (o .args .state))) ledger) _ _ _ _ apart (sym (c .before .before .before .before .before .decide-issue-iak .ensures entries ledger k) ∙ c .before .before .before .before .if2 .left) (rw (← c .before .before .before .ek-asked .ensures) ends) ∙ refuse-false 31)),
       (λ z. absurd (omega arith)),
     )
 
@@ -104,8 +104,8 @@ returns-4 c =
     let n = term-named _ (checked-here (p .decided .here .holds)) _ _ (o .pre .1) (λ z. omega arith) in
     let apart = sym (credential-among (now (o .args .file)) _ n (o .args .n) (o .args .at + 3)) ∙ sym (c .before .before .before .before .before .before .before .before .before .stands-in .ensures) ∙ c .before .before .before .before .before .before .before .before .if1 .left in
     let ends = ap (λ (x : Subject). othersEnd f (view (now (o .args .state)) .request) x (c .before .before .before .ek-asked .result) (pairsAt (o .args .n) (now (o .args .file)) (o .args .at + 3))) (sym (c .before .before .certificate-of .ensures .1)) ∙ sym (c .before .others-end .ensures) ∙ not-false _ (c .if3 .left) in
-    let z = sym (c .before .before .before .before .before .decide-issue-iak .ensures (d .words) (d .entries) (d .ledger) (d .ledgered)) ∙ c .before .before .before .before .if2 .left in (
-      (λ words entries ledger k. sym (judged-late f (stateOf (view (now (o .args .state))) ledger) _ _ _ _ apart (sym (c .before .before .before .before .before .decide-issue-iak .ensures words entries ledger k) ∙ c .before .before .before .before .if2 .left) (rw (← c .before .before .before .ek-asked .ensures) ends) ∙ refuse-true 31)),
+    let z = sym (c .before .before .before .before .before .decide-issue-iak .ensures (d .entries) (d .ledger) (d .ledgered)) ∙ c .before .before .before .before .if2 .left in (
+      (λ entries ledger k. sym (judged-late f (stateOf (view (now (o .args .state))) ledger) _ _ _ _ apart (sym (c .before .before .before .before .before .decide-issue-iak .ensures entries ledger k) ∙ c .before .before .before .before .if2 .left) (rw (← c .before .before .before .ek-asked .ensures) ends) ∙ refuse-true 31)),
       (λ q. d .here .opened _ (iak-open _ _ _ _ _ _ z)),
     )
 

@@ -55,8 +55,8 @@ returns-2 c =
     let p = o .args .at + 3 in
     record {
       empty = λ h. absurd (false≢true (sym e ∙ h));
-      filled = λ h words entries ledger k.
-          c .judge .ensures .0 words entries ledger k
+      filled = λ h entries ledger k.
+          c .judge .ensures .0 entries ledger k
           ∙ (λ i. judged f (stateOf (view (now (o .args .state))) ledger) (deskAt (now (o .args .file)) (o .args .at)) (returningAt (now (o .args .file)) (o .args .at)) (pairsAt (o .args .n) (now (o .args .file)) p) (record { credential = c .before .before .word-at .ensures i; certificate = c .before .word-at2 .ensures i }));
       requested = λ h z. subst (λ (t : ℕ). Requested f (view (now (o .args .state)) .request t)) (c .before .before .word-at .ensures) (c .judge .ensures .1 z);
     }

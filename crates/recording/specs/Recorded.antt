@@ -1,0 +1,23 @@
+-- What the loop over commands on the lent ledger needs, and what it leaves: in a state and outcomes of any length; nothing changes after a refusal.
+use mathlib.Core.Path.{_≡_}
+use mathlib.Core.List.{List}
+use Prim.Native.Nat.{ℕ, _≤_}
+use lib.ListN.{length, take, drop}
+use Rattle.rules.specs.declared.Entry.{Entry}
+use Rattle.rules.specs.Limits.{termLimit, stateBytes}
+use Rattle.turns.specs.declared.Begun.{Begun}
+use Rattle.turns.specs.declared.Progress.{Progress}
+use Rattle.turns.specs.Turns.{RunReady, Executes}
+
+pub record CommandsReady (bs s : List ℕ) (ledger : List Entry) (out tables : List ℕ) (b : Begun) : Type 0 where
+  pub ready : RunReady bs (take stateBytes s) tables out (b .parties) (b .first)
+  pub room : stateBytes ≤ length s
+  pub long : termLimit ≤ length ledger
+
+abbrev pub RecordReady : List ℕ → List ℕ → List Entry → List ℕ → List ℕ → Begun → Type 0
+RecordReady bs s ledger out tables b = b .number ≡ 0 → CommandsReady bs s ledger out tables b
+
+pub record Recorded (bs s : List ℕ) (ledger : List Entry) (out : List ℕ) (b : Begun) (n : ℕ) (s′ : List ℕ) (ledger′ : List Entry) (out′ tables′ : List ℕ) (p : Progress) : Type 0 where
+  pub runs : b .number ≡ 0 → Executes bs (take stateBytes s) out (b .first) n ledger (take stateBytes s′) tables′ out′ ledger′ p
+  pub beyond : drop stateBytes s′ ≡ drop stateBytes s
+  pub idles : (b .number ≡ 0 → ⊥) → (s′ ≡ s) × ((ledger′ ≡ ledger) × (out′ ≡ out))
