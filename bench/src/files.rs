@@ -431,6 +431,25 @@ fn subjects(serial: fn(u16) -> u16, desks: u8) -> Draft {
     f
 }
 
+/// 1,024 halves of key pairs.
+fn keys() -> Draft {
+    let mut f = Draft::default();
+    for id in 0..512 {
+        f.public(id, AK);
+        f.private(id, AK);
+    }
+    f
+}
+
+/// The first of the worlds made from seeds that fills a file with commands: enrolments of several boards, honest and hostile, mixed.
+fn world() -> Draft {
+    let full = |file: &Vec<u8>| match reading::load(file, &mut [0; birdweekly::STATE_BYTES]) {
+        reading::LoadAnswer::Loaded { commands, .. } => file.len() + 768 >= FILE_LIMIT && commands >= 4_500,
+        reading::LoadAnswer::Refused { .. } => false,
+    };
+    Draft { bytes: (0..).map(worlds::world).find(full).unwrap(), terms: 0 }
+}
+
 fn nested_and_sent() -> Draft {
     let mut f = Draft::default();
     (0..8).for_each(|_| f.party(DEVICE));
@@ -471,6 +490,7 @@ pub fn loaded() -> Vec<File> {
         ("1,024 numbers, scattered", numbers(40_503)),
         ("1,024 terms, 1,022 of them certificates", certificates()),
         ("512 keys and 512 certificates", keys_and_certificates()),
+        ("512 key pairs", keys()),
         ("256 key pairs and 512 pairs", key_pairs_and_pairs()),
         ("1,023 pairs inside each other", nested_pairs()),
         ("8,136 commands 30", commands(1)),
@@ -509,9 +529,11 @@ pub fn run() -> Vec<File> {
         ("commands 3F, Subjects in a row", subjects(in_a_row, 1)),
         ("commands 3F, made against the lists of serial numbers", subjects(in_one_bucket, 1)),
         ("commands 3F, the same by six desks", subjects(in_one_bucket, 6)),
+        ("commands 41, issued already", again(include_bytes!("../../crates/cases/data/c41_28"), 6)),
+        ("commands 42, issued already", again(include_bytes!("../../crates/cases/data/c42_28"), 6)),
         ("four IAKs together", stored(include_bytes!("../../crates/cases/data/s_four_iaks_together"))),
         ("commands 43, refused at the fourth pair", refused_together()),
+        ("a world: enrolments mixed", world()),
         ("1,023 pairs inside each other, sent to seven parties", nested_and_sent()),
-        ("set-up 20, of 1,022 certificates in turn to 8 parties", learning_in_turn()),
     ])
 }

@@ -1,13 +1,15 @@
-//! `bench/run`: loading, runs and stocks of numbers timed beside the second reading, on the same files and in the same run.
+//! `bench/run`: loading, runs and stocks of numbers, timed beside a C implementation (peer.c, -O3) in one process. What is timed is compared
+//! with the second reading first: answers and every byte and entry.
 //!
 //! The two are called in turn on one file, and the shortest of all timings of each counts; these come in rounds over all
 //! files, so that a busy second of the machine does not fall on one row. The buffers are those that the call before
 //! has written; nobody clears them in between, since each call clears what it has to itself.
 
 mod files;
+mod peer;
 mod walk;
 
-use birdweekly::{LoadAnswer, Refusal, RunAnswer, StockAnswer, LEDGER_ENTRIES, OUTCOME_BYTES, STATE_BYTES};
+use birdweekly::{Entry, LoadAnswer, Refusal, RunAnswer, StockAnswer, LEDGER_ENTRIES, OUTCOME_BYTES, STATE_BYTES};
 use std::hint::black_box;
 use std::time::Instant;
 
@@ -17,12 +19,11 @@ const TIMINGS: usize = 50;
 /// A timing takes as many calls as fill this, so that reading the clock does not show.
 const TIMING_NS: f64 = 4_000.0;
 
-/// The buffers of both.
+#[derive(PartialEq)]
 struct Buffers {
     state: Vec<u8>,
     outcomes: Vec<u8>,
-    ours: Vec<birdweekly::Entry>,
-    theirs: Vec<reading::Entry>,
+    ledger: Vec<Entry>,
 }
 
 impl Buffers {
@@ -30,42 +31,54 @@ impl Buffers {
         Buffers {
             state: vec![0xA5; STATE_BYTES],
             outcomes: vec![0xA5; OUTCOME_BYTES],
-            ours: vec![birdweekly::Entry::default(); LEDGER_ENTRIES],
-            theirs: vec![reading::Entry::default(); LEDGER_ENTRIES],
+            ledger: vec![Entry::default(); LEDGER_ENTRIES],
         }
     }
 }
 
-/// What a call answers, in words.
+/// What a call answers: its values.
 type Call = fn(&[u8], &mut Buffers) -> [u32; 3];
 
 fn refused(refusal: Refusal) -> [u32; 3] {
     panic!("a timed file loads: {refusal}")
 }
 
-fn our_load(file: &[u8], b: &mut Buffers) -> [u32; 3] {
+fn load(file: &[u8], b: &mut Buffers) -> [u32; 3] {
     match birdweekly::load(file, &mut b.state) {
         LoadAnswer::Loaded { parties, terms, commands } => [parties, terms, commands],
         LoadAnswer::Refused(refusal) => refused(refusal),
     }
 }
 
-fn their_load(file: &[u8], b: &mut Buffers) -> [u32; 3] {
+fn peer_load(file: &[u8], b: &mut Buffers) -> [u32; 3] {
+    peer::load(file, &mut b.state)
+}
+
+fn read_load(file: &[u8], b: &mut Buffers) -> [u32; 3] {
     match reading::load(file, &mut b.state) {
         reading::LoadAnswer::Loaded { parties, terms, commands } => [parties, terms, commands],
         reading::LoadAnswer::Refused { number, place } => refused(Refusal { number, place }),
     }
 }
 
-fn our_run(file: &[u8], b: &mut Buffers) -> [u32; 3] {
-    match birdweekly::run(file, usize::MAX, &mut b.state, &mut b.ours, &mut b.outcomes) {
+fn run(file: &[u8], b: &mut Buffers) -> [u32; 3] {
+    match birdweekly::run(file, usize::MAX, &mut b.state, &mut b.ledger, &mut b.outcomes) {
         RunAnswer::Ran { accepted, refused, issued } => [accepted, refused, issued],
         RunAnswer::Refused(refusal) => refused(refusal),
     }
 }
 
-fn their_run(file: &[u8], b: &mut Buffers) -> [u32; 3] {
-    match reading::run(file, usize::MAX, &mut b.state, &mut b.theirs, &mut b.outcomes) {
+fn peer_run(file: &[u8], b: &mut Buffers) -> [u32; 3] {
+    peer::run(file, &mut b.state, &mut b.ledger, &mut b.outcomes)
+}
+
+fn read_run(file: &[u8], b: &mut Buffers) -> [u32; 3] {
+    let mut ledger = vec![reading::Entry::default(); LEDGER_ENTRIES];
+    let answer = reading::run(file, usize::MAX, &mut b.state, &mut ledger, &mut b.outcomes);
+    for (ours, e) in b.ledger.iter_mut().zip(ledger) {
+        *ours = Entry { certificate: e.certificate, parent: e.parent, depth: e.depth };
+    }
+    match answer {
         reading::RunAnswer::Ran { accepted, refused, issued } => [accepted, refused, issued],
         reading::RunAnswer::Refused { number, place } => refused(Refusal { number, place }),
     }
@@ -74,15 +87,17 @@ fn their_run(file: &[u8], b: &mut Buffers) -> [u32; 3] {
 /// The desk whose stock is asked for, and the IAKs per board.
 const STOCK: (u8, u32) = (2, 4);
 
-fn our_stock(file: &[u8], b: &mut Buffers) -> [u32; 3] {
-    match birdweekly::stock(file, &mut b.state, &mut b.ours, &mut b.outcomes, STOCK.0, STOCK.1) {
+fn stock(file: &[u8], b: &mut Buffers) -> [u32; 3] {
+    match birdweekly::stock(file, &mut b.state, &mut b.ledger, &mut b.outcomes, STOCK.0, STOCK.1) {
         StockAnswer::Boards { boards, rest } => [boards, rest, 0],
         StockAnswer::Refused(refusal) => refused(refusal),
     }
 }
 
-fn their_stock(file: &[u8], b: &mut Buffers) -> [u32; 3] {
-    match reading::stock(file, &mut b.state, &mut b.theirs, &mut b.outcomes, STOCK.0, STOCK.1) {
+fn read_stock(file: &[u8], b: &mut Buffers) -> [u32; 3] {
+    read_run(file, b);
+    let mut ledger = vec![reading::Entry::default(); LEDGER_ENTRIES];
+    match reading::stock(file, &mut b.state, &mut ledger, &mut b.outcomes, STOCK.0, STOCK.1) {
         reading::StockAnswer::Boards { boards, rest } => [boards, rest, 0],
         reading::StockAnswer::Refused { number, place } => refused(Refusal { number, place }),
     }
@@ -97,7 +112,7 @@ fn timing(call: Call, file: &[u8], buffers: &mut Buffers, calls: usize) -> f64 {
     start.elapsed().as_nanos() as f64 / calls as f64
 }
 
-/// A file, and the shortest timings so far of the second reading and of birdweekly.
+/// A file, and the shortest timings so far of the two calls.
 struct Row {
     file: files::File,
     answer: [u32; 3],
@@ -106,16 +121,18 @@ struct Row {
 }
 
 impl Row {
-    fn new(file: files::File, calls: [Call; 2]) -> Row {
-        let mut buffers = [Buffers::new(), Buffers::new()];
-        let answers = [0, 1].map(|i| calls[i](&file.bytes, &mut buffers[i]));
-        assert_eq!(answers[0], answers[1], "{}", file.name);
-        assert!(buffers[0].state == buffers[1].state, "{}: state", file.name);
-        assert!(buffers[0].outcomes == buffers[1].outcomes, "{}: outcomes", file.name);
-        let ledger = buffers[0].theirs.iter().map(|e| (e.certificate, e.parent, e.depth));
-        assert!(ledger.eq(buffers[1].ours.iter().map(|e| (e.certificate, e.parent, e.depth))), "{}: ledger", file.name);
-        let once = timing(calls[1], &file.bytes, &mut buffers[1], 10);
-        Row { file, answer: answers[0], calls: (TIMING_NS / once).ceil() as usize, shortest: [f64::INFINITY; 2] }
+    fn new(file: files::File, timed: [Call; 2], told: [Call; 2]) -> Row {
+        let mut answer = [0; 3];
+        let mut buffers = Buffers::new();
+        for i in 0..2 {
+            let mut expected = Buffers::new();
+            buffers = Buffers::new();
+            answer = told[i](&file.bytes, &mut expected);
+            assert_eq!(timed[i](&file.bytes, &mut buffers), answer, "{}", file.name);
+            assert!(buffers == expected, "{}: buffers", file.name);
+        }
+        let once = timing(timed[1], &file.bytes, &mut buffers, 10);
+        Row { file, answer, calls: (TIMING_NS / once).ceil() as usize, shortest: [f64::INFINITY; 2] }
     }
 }
 
@@ -128,8 +145,9 @@ fn microseconds(ns: f64) -> String {
     }
 }
 
-fn table(title: &str, files: Vec<files::File>, calls: [Call; 2], answer: fn([u32; 3]) -> String) {
-    let mut rows: Vec<Row> = files.into_iter().map(|file| Row::new(file, calls)).collect();
+/// Two calls on each file, and what the second reading tells of each.
+fn timed(files: Vec<files::File>, calls: [Call; 2], told: [Call; 2]) -> Vec<Row> {
+    let mut rows: Vec<Row> = files.into_iter().map(|file| Row::new(file, calls, told)).collect();
     let mut buffers = [Buffers::new(), Buffers::new()];
     for _ in 0..ROUNDS {
         for row in &mut rows {
@@ -141,23 +159,20 @@ fn table(title: &str, files: Vec<files::File>, calls: [Call; 2], answer: fn([u32
             }
         }
     }
-    println!("| {title} | bytes | answer | second reading | birdweekly | ratio |\n|---|---|---|---|---|---|");
+    rows
+}
+
+fn table(title: &str, other: &str, rows: Vec<Row>, answer: fn([u32; 3]) -> String) {
+    println!("| {title} | bytes | answer | {other} | birdweekly | ratio |\n|---|---|---|---|---|---|");
     for row in rows {
-        let [theirs, ours] = row.shortest;
-        println!(
-            "| {} | {} | {} | {} | {} | {:.2} |",
-            row.file.name,
-            row.file.bytes.len(),
-            answer(row.answer),
-            microseconds(theirs),
-            microseconds(ours),
-            ours / theirs
-        );
+        let [theirs, ours] = row.shortest.map(microseconds);
+        let ratio = row.shortest[1] / row.shortest[0];
+        println!("| {} | {} | {} | {theirs} | {ours} | {ratio:.2} |", row.file.name, row.file.bytes.len(), answer(row.answer));
     }
     println!();
 }
 
-/// Writes the files of both tables into a folder, in their order.
+/// Writes the files into a folder, in their order.
 fn write(folder: &str) {
     let mut names = std::collections::HashSet::new();
     let files = files::run().into_iter().chain(files::loaded()).filter(|file| names.insert(file.name));
@@ -173,10 +188,12 @@ fn main() {
         return write(folder);
     }
     println!("The shortest of {} timings. Buffers are not cleared between calls.\n", ROUNDS * TIMINGS);
-    table("loading", files::loaded(), [their_load, our_load], |[p, t, c]| format!("{p} parties, {t} terms, {c} commands"));
-    table("a run", files::run(), [their_run, our_run], |[a, r, i]| format!("T {a} {r} {i}"));
-    table("a run, for the stock below", files::stocks(), [their_run, our_run], |[a, r, i]| format!("T {a} {r} {i}"));
-    table("a stock of numbers", files::stocks(), [their_stock, our_stock], |[b, r, _]| format!("{b} boards, {r} left over"));
+    let totals = |[a, r, i]: [u32; 3]| format!("T {a} {r} {i}");
+    table("a run", "C", timed(files::run(), [peer_run, run], [read_run; 2]), totals);
+    let declared = |[p, t, c]: [u32; 3]| format!("{p} parties, {t} terms, {c} commands");
+    table("loading", "C", timed(files::loaded(), [peer_load, load], [read_load; 2]), declared);
+    let boards = |[b, r, _]: [u32; 3]| format!("{b} boards, {r} left over");
+    table("a stock of numbers", "a run", timed(files::stocks(), [run, stock], [read_run, read_stock]), boards);
     println!("| index of terms | terms passed by all walks | by the longest |\n|---|---|---|");
     for file in files::loaded() {
         let steps = walk::steps(&file.bytes);
