@@ -24,10 +24,10 @@ use Rattle.rules.specs.Stock.{boardsLeft, stockAnswer}
 use Rattle.rules.specs.Questions.{askInNumbers, countOf, answerOf, leavesOf}
 use Rattle.theorems.proofs.Asking.{refused-first, asked-loaded, left-as-run}
 use Rattle.loaded.specs.Loaded.{fileIn}
-use Rattle.engine.specs.Runs.{lentWith}
-use Rattle.runs.specs.declared.Finished.{Finished}
-use Rattle.runs.specs.Raw.{ranIn, Ran, Runs, Stood}
-use Rattle.runs.proofs.Whole.{run-left, run-stood, near-place}
+use Rattle.beginning.specs.Runs.{lentWith}
+use Rattle.engine.specs.declared.Finished.{Finished}
+use Rattle.engine.specs.Raw.{ranIn, Ran, Runs, Stood}
+use Rattle.engine.proofs.Whole.{run-left, run-stood, near-place}
 use Rattle.asking.specs.Asks.{Askable, Answers}
 
 pub totals-told : (accepted refused issued : ℕ) → askInNumbers (told.Totals accepted refused issued) ≡ success (accepted ∷ refused ∷ issued ∷ [])

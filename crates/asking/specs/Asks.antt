@@ -16,7 +16,7 @@ use Rattle.rules.specs.Questions.{askInNumbers}
 use Rattle.state.specs.View.{view}
 use Rattle.state.proofs.Exact.{stateOf}
 use Rattle.loaded.specs.Loaded.{fileIn, Holds}
-use Rattle.runs.specs.declared.Finished.{Finished}
+use Rattle.engine.specs.declared.Finished.{Finished}
 
 -- a loaded file in bytes, and how many parties and terms it declares
 pub record Standing (bs s : List ℕ) (parties terms : ℕ) : Type 0 where

@@ -1,4 +1,4 @@
--- The call of `running::ask` in a walk, whatever is asked: every exported function that is lent Run's buffers alone goes on to it.
+-- The call of `calls::ask` in a walk, whatever is asked: every exported function that is lent Run's buffers alone goes on to it.
 --     Inner, to-inner     its contract, and what the call binds outside
 --     Done                what it ensures, of its result and of the last lists
 --     goes                a caller that has the slices and the question has what it asks
@@ -35,11 +35,11 @@ use Rattle.rules.specs.declared.Question.{Question}
 use Rattle.rules.specs.declared.AskAnswer.{AskAnswer}
 use Rattle.rules.specs.Lent.{Lent}
 use Rattle.rules.specs.Questions.{askInNumbers, answerOf, leavesOf}
-use Rattle.engine.specs.Runs.{lentWith}
+use Rattle.beginning.specs.Runs.{lentWith}
 use Rattle.rules.proofs.Entry as E
 use Rattle.rules.proofs.Question as Q
 use Rattle.rules.proofs.Question.Laws as Q′
-use Rattle.running.proofs.ask as inner
+use Rattle.calls.proofs.ask as inner
 
 abbrev pub R : RattleType
 R = E.the-row
@@ -78,7 +78,7 @@ module _ {M : Type 1} (𝓤 : URA M) (H : Heap 𝓤) (A : Atoms 𝓤) (W : Given
   abbrev pub to-inner : Inner 𝓤 H A mem run .Ghost
   to-inner = (((κf, (κs, (κl, (κo, tt)))), (qf, (qs, (ql, (qo, tt)))), tt, asked, vals), tt)
 
-  -- what `running::ask` ensures, of its result and of the last lists
+  -- what `calls::ask` ensures, of its result and of the last lists
   abbrev pub Done : AskAnswer → List ℕ → List Entry → List ℕ → Type 0
   Done r zs zl zo = (askInNumbers r ≡ answerOf qn (xf .now) lent) × (zs ≡ leavesOf qn (xf .now) lent .state) × (zl ≡ leavesOf qn (xf .now) lent .ledger) × (zo ≡ leavesOf qn (xf .now) lent .outcomes)
 

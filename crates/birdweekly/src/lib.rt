@@ -9,7 +9,7 @@ ghost use lib.ListN.{getD};
 ghost use Rattle.rules.specs.Lent.{noEntry, loadAnswer, loadLeaves, runAnswer, runLeaves, pathInNumbers, pathAnswer, pathBuffers, pathLeaves};
 ghost use Rattle.rules.specs.Stock.{stockAnswer, stockLeaves};
 ghost use Rattle.rules.specs.Questions.{askInNumbers};
-ghost use Rattle.engine.specs.Runs.{lentWith};
+ghost use Rattle.beginning.specs.Runs.{lentWith};
 ghost use Rattle.birdweekly.specs.Numbers.{numbersOf, loadNumbers, runNumbers, pathNumbers, stockNumbers};
 
 // What loading answers: number 0 with the parties, terms and commands, or the refusal with its place.
@@ -167,7 +167,7 @@ pub extern "C" fn birdweekly_run(
         × (now (ledger .exit) ≡ runLeaves (now (file .entry)) n (lentWith (now (state .entry)) (now (ledger .entry)) (now (outcomes .entry))) .ledger)
         × (now (outcomes .exit) ≡ runLeaves (now (file .entry)) n (lentWith (now (state .entry)) (now (ledger .entry)) (now (outcomes .entry))) .outcomes) ⌝ }
 {
-    let answer = running::ask(file, Question::Totals(n), state, ledger, outcomes);
+    let answer = calls::ask(file, Question::Totals(n), state, ledger, outcomes);
     run_numbers(answer)
 }
 
@@ -187,7 +187,7 @@ pub extern "C" fn birdweekly_stock(
         × (now (ledger .exit) ≡ stockLeaves (now (file .entry)) (lentWith (now (state .entry)) (now (ledger .entry)) (now (outcomes .entry))) party iaks .ledger)
         × (now (outcomes .exit) ≡ stockLeaves (now (file .entry)) (lentWith (now (state .entry)) (now (ledger .entry)) (now (outcomes .entry))) party iaks .outcomes) ⌝ }
 {
-    let answer = running::ask(file, Question::Stock(party, iaks), state, ledger, outcomes);
+    let answer = calls::ask(file, Question::Stock(party, iaks), state, ledger, outcomes);
     stock_numbers(answer)
 }
 
@@ -208,7 +208,7 @@ pub extern "C" fn birdweekly_path(
         × (now (outcomes .exit) ≡ pathBuffers (now (file .entry)) n (lentWith (now (state .entry)) (now (ledger .entry)) (now (outcomes .entry))) term (now (list .entry)) .outcomes)
         × (now (list .exit) ≡ pathLeaves (now (file .entry)) n (lentWith (now (state .entry)) (now (ledger .entry)) (now (outcomes .entry))) term (now (list .entry))) ⌝ }
 {
-    let answer = running::path(file, n, state, ledger, outcomes, term, list);
+    let answer = calls::path(file, n, state, ledger, outcomes, term, list);
     path_numbers(answer)
 }
 
@@ -217,5 +217,5 @@ pub extern "C" fn birdweekly_path(
 pub extern "C" fn birdweekly_entry_at(ledger: &[Entry], i: usize) -> Entry
     ensures { λ r. ⌜ r ≡ getD (now (ledger .entry)) i noEntry ⌝ }
 {
-    running::entry(ledger, i)
+    calls::entry(ledger, i)
 }

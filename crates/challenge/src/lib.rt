@@ -49,11 +49,11 @@ pub fn decide(
     if !state::knows(state, party, q) {
         return 14;
     }
-    let request = requests::form(file, state, q, 0x17);
+    let request = requests::form(file, tables, q, 0x17);
     if request.refusal != 0 {
         return request.refusal;
     }
-    let asked = requests::idevid_request_of(file, state, request.body);
+    let asked = requests::idevid_request_of(file, tables, request.body);
     let named = asked.subject;
     if !requests::is_device(named) {
         return 19;
@@ -62,25 +62,32 @@ pub fn decide(
     if proved != 0 {
         return proved;
     }
-    let certificate = requests::certificate_of(file, state, asked.certificate);
-    let endorsed = requests::endorsement(file, state, tables, parties, certificate, asked.key);
+    let certificate = requests::certificate_of(file, tables, asked.certificate);
+    let endorsed = requests::endorsement(file, tables, parties, certificate, asked.key);
     if endorsed != 0 {
         return endorsed;
     }
-    let credential = requests::credential_of(file, state, r);
+    let credential = requests::credential_of(file, tables, r);
     let fresh = fresh_number(state, party, credential.number);
     if fresh != 0 {
         return fresh;
     }
-    requests::credential_names(file, state, credential, asked.key, certificate.key)
+    requests::credential_names(file, tables, credential, asked.key, certificate.key)
 }
 
 // What 3E leaves: the desk learns the credential; its number is used, and it is open with the request and the desk.
-pub fn effect(file: &[u8], state: &mut [u8], party: usize, q: usize, r: usize)
-    requires { ⌜ Holds (now file) (now state) × Wellformed (fileIn (now file)) (challenge party q r) ⌝ }
+pub fn effect(
+    file: &[u8],
+    state: &mut [u8],
+    tables: &[u16; tables::WORDS],
+    party: usize,
+    q: usize,
+    r: usize,
+)
+    requires { ⌜ Holds (now file) (now state) × Wellformed (fileIn (now file)) (challenge party q r) × Finds (now file) (now tables) ⌝ }
     ensures { λ _. ⌜ Leaves (now (file .entry)) (now (state .entry)) (now (state .exit)) (challenge party q r) ⌝ }
 {
-    let credential = requests::credential_of(file, state, r);
+    let credential = requests::credential_of(file, tables, r);
     loaded::learn(file, state, party, r);
     state::note_mark(state, credential.number, rules::NUMBER_USED);
     state::note_mark(state, r, rules::CREDENTIAL_OPEN);

@@ -5,45 +5,37 @@ ghost use lib.ListN.{length};
 ghost use Rattle.theorems.proofs.Loading.{Wellformed};
 ghost use Rattle.lookup.specs.Commands.{CommandAt};
 ghost use Rattle.loaded.specs.Loaded.{fileIn};
-ghost use Rattle.commands.specs.Standing.{SomeStands, Executes};
+ghost use Rattle.commands.specs.Standing.{AnyStands, Decided, DeskAccepted, DeskDoes};
 
-// What a command did: its outcome, and the entries that the ledger gains.
-pub struct Executed {
-    pub outcome: u8,
-    pub gained: Gained,
+// The outcome of the command at a place. A device command is executed; of a desk command nothing is done yet.
+pub fn decide(
+    file: &[u8],
+    state: &mut [u8],
+    tables: &[u16; tables::WORDS],
+    parties: usize,
+    at: usize,
+) -> u8
+    requires { ⌜ AnyStands (now file) (now state) (now tables) × CommandAt (Wellformed (fileIn (now file))) (now file) at × (parties ≡ length (fileIn (now file) .roles)) ⌝ }
+    ensures { λ r. ⌜ Decided (now (file .entry)) (now (state .entry)) (now (tables .entry)) at (now (state .exit)) r ⌝ }
+{
+    let kind = file[at];
+    if kind < 0x3E {
+        return device::execute(file, state, tables, at);
+    }
+    desk::decide(file, state, tables, parties, at)
 }
 
-// Executes the command at a place, where the ledger has so many entries.
-pub fn execute(
+// Does the accepted desk command at a place, where the ledger has so many entries. Answers the entries that the ledger
+// gains.
+pub fn effect(
     file: &[u8],
     state: &mut [u8],
     tables: &mut [u16; tables::WORDS],
-    parties: usize,
     entries: usize,
     at: usize,
-) -> Executed
-    requires { ⌜ SomeStands (now file) (now state) (now tables) entries × CommandAt (Wellformed (fileIn (now file))) (now file) at × (parties ≡ length (fileIn (now file) .roles)) ⌝ }
-    ensures { λ r. ⌜ Executes (now (file .entry)) (now (state .entry)) (now (tables .entry)) entries at (now (state .exit)) (now (tables .exit)) r ⌝ }
+) -> Gained
+    requires { ⌜ DeskAccepted (now file) (now state) (now tables) entries at ⌝ }
+    ensures { λ r. ⌜ DeskDoes (now (file .entry)) (now (state .entry)) (now (tables .entry)) entries at (now (state .exit)) (now (tables .exit)) r ⌝ }
 {
-    let none = gained::none();
-    let kind = file[at];
-    if kind < 0x3E {
-        let done = device::execute(file, state, tables, at);
-        return Executed {
-            outcome: done,
-            gained: none,
-        };
-    }
-    let outcome = desk::decide(file, state, tables, parties, at);
-    if outcome != 0 {
-        return Executed {
-            outcome: outcome,
-            gained: none,
-        };
-    }
-    let gained = desk::effect(file, state, tables, entries, at);
-    Executed {
-        outcome: 0,
-        gained: gained,
-    }
+    desk::effect(file, state, tables, entries, at)
 }

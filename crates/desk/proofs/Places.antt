@@ -81,7 +81,7 @@ module _ (bs : List ℕ) (at : ℕ) {c : Command} (e : commandThere bs at ≡ c)
       boards = subst⁻¹ (Boarded (fileIn bs) (tablesIn tables .boards)) (append-nil old) (o .ledgered .boards);
     };
     places = d .places;
-    keys = record { words = refl; signer = refl; half = refl };
+    keys = record { words = refl; signer = refl; half = refl; terms = refl };
   })
     where
       none : (k : ℕ) → k + 0 ≡ k

@@ -1,15 +1,12 @@
 -- A desk command by its record's place: what it is decided and done by, and what an accepted one leaves.
-use mathlib.Core.Path.{_≡_}
 use mathlib.Core.List.{List}
 use Prim.Native.Nat.{ℕ, _<_}
-use lib.ListN.{length}
 use Rattle.rules.specs.declared.Entry.{Entry}
 use Rattle.theorems.proofs.Loading.{Wellformed}
-use Rattle.tables.specs.Regions.{tableWords}
 use Rattle.learning.specs.There.{kindThere}
 use Rattle.lookup.specs.There.{commandThere}
 use Rattle.lookup.specs.Commands.{CommandAt}
-use Rattle.loaded.specs.Loaded.{fileIn, Holds}
+use Rattle.loaded.specs.Loaded.{fileIn, Holds, Finds}
 use Rattle.loaded.specs.Entries.{Ledgered, Accepts}
 use Rattle.requests.specs.Formed.{OpenRequested}
 use Rattle.issuance.specs.Issues.{ParentsEntered}
@@ -21,7 +18,7 @@ SomeLedger bs s tables = (n : ℕ) × (ledger : List Entry) × Ledgered bs s tab
 -- what an accepted desk command is done by
 pub record DeskEffectReady (bs s tables : List ℕ) (n at : ℕ) : Type 0 where
   pub holds : Holds bs s
-  pub keys : length tables ≡ tableWords
+  pub finds : Finds bs tables
   pub command : CommandAt (Wellformed (fileIn bs)) bs at
   pub isDesk : 0x3D < kindThere bs at
   pub opened : OpenRequested bs s

@@ -69,7 +69,7 @@ pub fn effect(
     let q = records::word_at(file, at + 2) as usize;
     let r = records::word_at(file, at + 4) as usize;
     if kind == 0x3E {
-        challenge::effect(file, state, party, q, r);
+        challenge::effect(file, state, tables, party, q, r);
         return gained::none();
     }
     let e = issuance::effect_issue(file, state, tables, entries, party, q, r);

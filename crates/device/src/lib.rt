@@ -1,4 +1,4 @@
-// Device commands: what each decides, by the words where the terms stand.
+// Device commands: what each decides and what it leaves. Terms are read from the tables, commands where they stand.
 ghost use mathlib.Core.Path.{_≡_};
 ghost use mathlib.Core.Bool.{_||_};
 ghost use mathlib.Core.List.{[], _∷_};
@@ -14,17 +14,23 @@ ghost use Rattle.learning.specs.There.{kindThere};
 ghost use Rattle.lookup.specs.There.{commandThere};
 ghost use Rattle.lookup.specs.Commands.{CommandAt};
 ghost use Rattle.theorems.specs.Chain.{chain};
-ghost use Rattle.loaded.specs.Loaded.{fileIn, Holds, Finds, PartyHere, TermHere, Decides, Leaves};
+ghost use Rattle.loaded.specs.Loaded.{fileIn, Holds, Finds, PartyHere, TermNoted, Decides, Leaves};
 
 // 30 Hash.
-pub fn decide_hash(file: &[u8], state: &[u8], party: usize, r: usize) -> u8
-    requires { ⌜ Holds (now file) (now state) × Wellformed (fileIn (now file)) (hash party r) ⌝ }
+pub fn decide_hash(
+    file: &[u8],
+    state: &[u8],
+    tables: &[u16; tables::WORDS],
+    party: usize,
+    r: usize,
+) -> u8
+    requires { ⌜ Holds (now file) (now state) × Wellformed (fileIn (now file)) (hash party r) × Finds (now file) (now tables) ⌝ }
     ensures { λ x. ⌜ Decides (now (file .entry)) (now (state .entry)) (hash party r) x ⌝ }
 {
     if !loaded::is_role(file, party, rules::DEVICE) {
         return 13;
     }
-    let content = loaded::hashed_term(file, state, r);
+    let content = loaded::hashed_term(file, tables, r);
     if !state::knows(state, party, content) {
         return 14;
     }
@@ -32,22 +38,28 @@ pub fn decide_hash(file: &[u8], state: &[u8], party: usize, r: usize) -> u8
 }
 
 // 33 MakeCredential.
-pub fn decide_make_credential(file: &[u8], state: &[u8], party: usize, r: usize) -> u8
-    requires { ⌜ Holds (now file) (now state) × Wellformed (fileIn (now file)) (makeCredential party r) ⌝ }
+pub fn decide_make_credential(
+    file: &[u8],
+    state: &[u8],
+    tables: &[u16; tables::WORDS],
+    party: usize,
+    r: usize,
+) -> u8
+    requires { ⌜ Holds (now file) (now state) × Wellformed (fileIn (now file)) (makeCredential party r) × Finds (now file) (now tables) ⌝ }
     ensures { λ x. ⌜ Decides (now (file .entry)) (now (state .entry)) (makeCredential party r) x ⌝ }
 {
     if !loaded::is_role(file, party, rules::DEVICE) {
         return 13;
     }
-    let content = loaded::credential_term_of(file, state, r);
+    let content = loaded::credential_term_of(file, tables, r);
     if !state::knows(state, party, content) {
         return 14;
     }
-    let number = loaded::credential_number_of(file, state, r);
+    let number = loaded::credential_number_of(file, tables, r);
     if !state::knows(state, party, number) {
         return 14;
     }
-    let key = loaded::credential_key_of(file, state, r);
+    let key = loaded::credential_key_of(file, tables, r);
     if !state::knows(state, party, key) {
         return 14;
     }
@@ -72,32 +84,50 @@ fn both_known(file: &[u8], state: &[u8], party: usize, t: usize, u: usize) -> u8
 }
 
 // 35 MakeIdevidRequest.
-pub fn decide_idevid_request(file: &[u8], state: &[u8], party: usize, r: usize) -> u8
-    requires { ⌜ Holds (now file) (now state) × Wellformed (fileIn (now file)) (makeIdevidRequest party r) ⌝ }
+pub fn decide_idevid_request(
+    file: &[u8],
+    state: &[u8],
+    tables: &[u16; tables::WORDS],
+    party: usize,
+    r: usize,
+) -> u8
+    requires { ⌜ Holds (now file) (now state) × Wellformed (fileIn (now file)) (makeIdevidRequest party r) × Finds (now file) (now tables) ⌝ }
     ensures { λ x. ⌜ Decides (now (file .entry)) (now (state .entry)) (makeIdevidRequest party r) x ⌝ }
 {
-    let certificate = loaded::idevid_certificate_of(file, state, r);
-    let key = loaded::idevid_key_of(file, state, r);
+    let certificate = loaded::idevid_certificate_of(file, tables, r);
+    let key = loaded::idevid_key_of(file, tables, r);
     both_known(file, state, party, certificate, key)
 }
 
 // 36 MakeLdevidRequest.
-pub fn decide_ldevid_request(file: &[u8], state: &[u8], party: usize, r: usize) -> u8
-    requires { ⌜ Holds (now file) (now state) × Wellformed (fileIn (now file)) (makeLdevidRequest party r) ⌝ }
+pub fn decide_ldevid_request(
+    file: &[u8],
+    state: &[u8],
+    tables: &[u16; tables::WORDS],
+    party: usize,
+    r: usize,
+) -> u8
+    requires { ⌜ Holds (now file) (now state) × Wellformed (fileIn (now file)) (makeLdevidRequest party r) × Finds (now file) (now tables) ⌝ }
     ensures { λ x. ⌜ Decides (now (file .entry)) (now (state .entry)) (makeLdevidRequest party r) x ⌝ }
 {
-    let message = loaded::ldevid_message_of(file, state, r);
-    let certificate = loaded::ldevid_certificate_of(file, state, r);
+    let message = loaded::ldevid_message_of(file, tables, r);
+    let certificate = loaded::ldevid_certificate_of(file, tables, r);
     both_known(file, state, party, message, certificate)
 }
 
 // 37 MakePair.
-pub fn decide_pair(file: &[u8], state: &[u8], party: usize, r: usize) -> u8
-    requires { ⌜ Holds (now file) (now state) × Wellformed (fileIn (now file)) (makePair party r) ⌝ }
+pub fn decide_pair(
+    file: &[u8],
+    state: &[u8],
+    tables: &[u16; tables::WORDS],
+    party: usize,
+    r: usize,
+) -> u8
+    requires { ⌜ Holds (now file) (now state) × Wellformed (fileIn (now file)) (makePair party r) × Finds (now file) (now tables) ⌝ }
     ensures { λ x. ⌜ Decides (now (file .entry)) (now (state .entry)) (makePair party r) x ⌝ }
 {
-    let left = loaded::left_of(file, state, r);
-    let right = loaded::right_of(file, state, r);
+    let left = loaded::left_of(file, tables, r);
+    let right = loaded::right_of(file, tables, r);
     both_known(file, state, party, left, right)
 }
 
@@ -113,22 +143,22 @@ fn is_desk(file: &[u8], party: usize) -> bool
 }
 
 // Whether a desk may send a term: a public key, a credential or a certificate.
-fn sent_by_desks(file: &[u8], state: &[u8], t: usize) -> bool
-    requires { ⌜ TermHere (now file) (now state) t ⌝ }
+fn sent_by_desks(file: &[u8], tables: &[u16; tables::WORDS], t: usize) -> bool
+    requires { ⌜ TermNoted (now file) (now tables) t ⌝ }
     ensures { λ x. ⌜ x ≡ mayBeSentByDesk (fileIn (now (file .entry))) t ⌝ }
 {
-    if loaded::is_kind(file, state, t, 0x10) {
+    if loaded::is_kind(file, tables, t, 0x10) {
         return true;
     }
-    if loaded::is_kind(file, state, t, 0x15) {
+    if loaded::is_kind(file, tables, t, 0x15) {
         return true;
     }
-    loaded::is_kind(file, state, t, 0x19)
+    loaded::is_kind(file, tables, t, 0x19)
 }
 
 // Whether a party may send a term.
-fn may_send(file: &[u8], state: &[u8], party: usize, t: usize) -> bool
-    requires { ⌜ PartyHere (now file) party × TermHere (now file) (now state) t ⌝ }
+fn may_send(file: &[u8], tables: &[u16; tables::WORDS], party: usize, t: usize) -> bool
+    requires { ⌜ PartyHere (now file) party × TermNoted (now file) (now tables) t ⌝ }
     ensures { λ x. ⌜ x ≡ maySend (fileIn (now (file .entry))) party t ⌝ }
 {
     if loaded::is_role(file, party, rules::DEVICE) {
@@ -137,15 +167,22 @@ fn may_send(file: &[u8], state: &[u8], party: usize, t: usize) -> bool
     if !is_desk(file, party) {
         return false;
     }
-    sent_by_desks(file, state, t)
+    sent_by_desks(file, tables, t)
 }
 
 // 3C Send, to any party.
-pub fn decide_send(file: &[u8], state: &[u8], party: usize, other: usize, t: usize) -> u8
-    requires { ⌜ Holds (now file) (now state) × Wellformed (fileIn (now file)) (send party other t) ⌝ }
+pub fn decide_send(
+    file: &[u8],
+    state: &[u8],
+    tables: &[u16; tables::WORDS],
+    party: usize,
+    other: usize,
+    t: usize,
+) -> u8
+    requires { ⌜ Holds (now file) (now state) × Wellformed (fileIn (now file)) (send party other t) × Finds (now file) (now tables) ⌝ }
     ensures { λ x. ⌜ Decides (now (file .entry)) (now (state .entry)) (send party other t) x ⌝ }
 {
-    if !may_send(file, state, party, t) {
+    if !may_send(file, tables, party, t) {
         return 13;
     }
     if !state::knows(state, party, t) {
@@ -155,25 +192,31 @@ pub fn decide_send(file: &[u8], state: &[u8], party: usize, other: usize, t: usi
 }
 
 // 3D SelfIssue.
-pub fn decide_self_issue(file: &[u8], state: &[u8], party: usize, r: usize) -> u8
-    requires { ⌜ Holds (now file) (now state) × Wellformed (fileIn (now file)) (selfIssue party r) ⌝ }
+pub fn decide_self_issue(
+    file: &[u8],
+    state: &[u8],
+    tables: &[u16; tables::WORDS],
+    party: usize,
+    r: usize,
+) -> u8
+    requires { ⌜ Holds (now file) (now state) × Wellformed (fileIn (now file)) (selfIssue party r) × Finds (now file) (now tables) ⌝ }
     ensures { λ x. ⌜ Decides (now (file .entry)) (now (state .entry)) (selfIssue party r) x ⌝ }
 {
     if !loaded::is_role(file, party, rules::DEVICE) {
         return 13;
     }
-    let certified = loaded::certified_key_of(file, state, r);
+    let certified = loaded::certified_key_of(file, tables, r);
     if !state::knows(state, party, certified) {
         return 14;
     }
-    let signer = loaded::signer_of(file, state, r);
+    let signer = loaded::signer_of(file, tables, r);
     if !state::in_table(state, party, signer) {
         return 15;
     }
-    if !loaded::key_has(file, state, signer, rules::Attributes::SIGN) {
+    if !loaded::key_has(file, tables, signer, rules::Attributes::SIGN) {
         return 16;
     }
-    if loaded::key_has(file, state, signer, rules::Attributes::RESTRICTED) {
+    if loaded::key_has(file, tables, signer, rules::Attributes::RESTRICTED) {
         return 16;
     }
     0
@@ -191,29 +234,35 @@ fn known_unless(state: &[u8], party: usize, t: usize, free: bool) -> bool
 }
 
 // 31 Sign: a Restricted key signs a 12 of this TPM's table, another key what is known.
-pub fn decide_sign(file: &[u8], state: &[u8], party: usize, r: usize) -> u8
-    requires { ⌜ Holds (now file) (now state) × Wellformed (fileIn (now file)) (sign party r) ⌝ }
+pub fn decide_sign(
+    file: &[u8],
+    state: &[u8],
+    tables: &[u16; tables::WORDS],
+    party: usize,
+    r: usize,
+) -> u8
+    requires { ⌜ Holds (now file) (now state) × Wellformed (fileIn (now file)) (sign party r) × Finds (now file) (now tables) ⌝ }
     ensures { λ x. ⌜ Decides (now (file .entry)) (now (state .entry)) (sign party r) x ⌝ }
 {
     if !loaded::is_role(file, party, rules::DEVICE) {
         return 13;
     }
-    let key = loaded::signing_key_of(file, state, r);
-    let message = loaded::message_of(file, state, r);
-    let restricted = loaded::key_has(file, state, key, rules::Attributes::RESTRICTED);
+    let key = loaded::signing_key_of(file, tables, r);
+    let message = loaded::message_of(file, tables, r);
+    let restricted = loaded::key_has(file, tables, key, rules::Attributes::RESTRICTED);
     if !known_unless(state, party, message, restricted) {
         return 14;
     }
     if !state::in_table(state, party, key) {
         return 15;
     }
-    if !loaded::key_has(file, state, key, rules::Attributes::SIGN) {
+    if !loaded::key_has(file, tables, key, rules::Attributes::SIGN) {
         return 16;
     }
     if !restricted {
         return 0;
     }
-    if !loaded::is_kind(file, state, message, 0x12) {
+    if !loaded::is_kind(file, tables, message, 0x12) {
         return 17;
     }
     if !state::in_table(state, party, message) {
@@ -236,16 +285,16 @@ pub fn decide_certify(
     if !loaded::is_role(file, party, rules::DEVICE) {
         return 13;
     }
-    let key = loaded::signing_key_of(file, state, r);
+    let key = loaded::signing_key_of(file, tables, r);
     if !state::in_table(state, party, key) {
         return 15;
     }
-    let message = loaded::message_of(file, state, r);
-    let attested = loaded::attested_key_of(file, state, message);
+    let message = loaded::message_of(file, tables, r);
+    let attested = loaded::attested_key_of(file, tables, message);
     if !lookup::holds_half(state, tables, party, attested) {
         return 15;
     }
-    if !loaded::key_has(file, state, key, rules::Attributes::SIGN) {
+    if !loaded::key_has(file, tables, key, rules::Attributes::SIGN) {
         return 16;
     }
     0
@@ -268,25 +317,25 @@ pub fn decide_activate(
     if !state::knows(state, party, r) {
         return 14;
     }
-    let key = loaded::credential_key_of(file, state, r);
+    let key = loaded::credential_key_of(file, tables, r);
     if !lookup::holds_half(state, tables, party, key) {
         return 15;
     }
-    let content = loaded::credential_term_of(file, state, r);
-    if !loaded::is_kind(file, state, content, 0x12) {
+    let content = loaded::credential_term_of(file, tables, r);
+    if !loaded::is_kind(file, tables, content, 0x12) {
         return 15;
     }
-    let named = loaded::hashed_term(file, state, content);
-    if !loaded::is_kind(file, state, named, 0x10) {
+    let named = loaded::hashed_term(file, tables, content);
+    if !loaded::is_kind(file, tables, named, 0x10) {
         return 15;
     }
     if !lookup::holds_half(state, tables, party, named) {
         return 15;
     }
-    if !loaded::key_has(file, state, key, rules::Attributes::RESTRICTED) {
+    if !loaded::key_has(file, tables, key, rules::Attributes::RESTRICTED) {
         return 16;
     }
-    if !loaded::key_has(file, state, key, rules::Attributes::DECRYPT) {
+    if !loaded::key_has(file, tables, key, rules::Attributes::DECRYPT) {
         return 16;
     }
     0
@@ -324,11 +373,18 @@ fn checked(file: &[u8], state: &[u8], party: usize, t: usize, u: usize, right: b
 }
 
 // 38 CheckHash.
-pub fn decide_check_hash(file: &[u8], state: &[u8], party: usize, h: usize, t: usize) -> u8
-    requires { ⌜ Holds (now file) (now state) × Wellformed (fileIn (now file)) (checkHash party h t) ⌝ }
+pub fn decide_check_hash(
+    file: &[u8],
+    state: &[u8],
+    tables: &[u16; tables::WORDS],
+    party: usize,
+    h: usize,
+    t: usize,
+) -> u8
+    requires { ⌜ Holds (now file) (now state) × Wellformed (fileIn (now file)) (checkHash party h t) × Finds (now file) (now tables) ⌝ }
     ensures { λ x. ⌜ Decides (now (file .entry)) (now (state .entry)) (checkHash party h t) x ⌝ }
 {
-    let content = loaded::hashed_term(file, state, h);
+    let content = loaded::hashed_term(file, tables, h);
     checked(file, state, party, h, t, content == t)
 }
 
@@ -344,7 +400,7 @@ pub fn decide_check_signature(
     requires { ⌜ Holds (now file) (now state) × Wellformed (fileIn (now file)) (checkSignature party t k) × Finds (now file) (now tables) ⌝ }
     ensures { λ x. ⌜ Decides (now (file .entry)) (now (state .entry)) (checkSignature party t k) x ⌝ }
 {
-    let key = loaded::signing_key_of(file, state, t);
+    let key = loaded::signing_key_of(file, tables, t);
     let right = loaded::is_half(tables, k, key);
     checked(file, state, party, t, k, right)
 }
@@ -361,28 +417,40 @@ pub fn decide_check_certificate(
     requires { ⌜ Holds (now file) (now state) × Wellformed (fileIn (now file)) (checkCertificate party t k) × Finds (now file) (now tables) ⌝ }
     ensures { λ x. ⌜ Decides (now (file .entry)) (now (state .entry)) (checkCertificate party t k) x ⌝ }
 {
-    let key = loaded::signer_of(file, state, t);
+    let key = loaded::signer_of(file, tables, t);
     let right = loaded::is_half(tables, k, key);
     checked(file, state, party, t, k, right)
 }
 
 // 3B CheckAttributes.
-pub fn decide_check_attributes(file: &[u8], state: &[u8], party: usize, k: usize, bits: u8) -> u8
-    requires { ⌜ Holds (now file) (now state) × Wellformed (fileIn (now file)) (checkAttributes party k bits) ⌝ }
+pub fn decide_check_attributes(
+    file: &[u8],
+    state: &[u8],
+    tables: &[u16; tables::WORDS],
+    party: usize,
+    k: usize,
+    bits: u8,
+) -> u8
+    requires { ⌜ Holds (now file) (now state) × Wellformed (fileIn (now file)) (checkAttributes party k bits) × Finds (now file) (now tables) ⌝ }
     ensures { λ x. ⌜ Decides (now (file .entry)) (now (state .entry)) (checkAttributes party k bits) x ⌝ }
 {
-    let at = state::place_of(state, k);
-    let attributes = learning::attributes_at(file, at);
-    checked(file, state, party, k, k, attributes.bits == bits)
+    let right = loaded::attributes_of(file, tables, k) == bits as u16;
+    checked(file, state, party, k, k, right)
 }
 
 // What 30 leaves: the party learns the hash, and its TPM table has it unless it is of an attest.
-pub fn effect_hash(file: &[u8], state: &mut [u8], party: usize, r: usize)
-    requires { ⌜ Holds (now file) (now state) × Wellformed (fileIn (now file)) (hash party r) ⌝ }
+pub fn effect_hash(
+    file: &[u8],
+    state: &mut [u8],
+    tables: &[u16; tables::WORDS],
+    party: usize,
+    r: usize,
+)
+    requires { ⌜ Holds (now file) (now state) × Wellformed (fileIn (now file)) (hash party r) × Finds (now file) (now tables) ⌝ }
     ensures { λ _. ⌜ Leaves (now (file .entry)) (now (state .entry)) (now (state .exit)) (hash party r) ⌝ }
 {
-    let content = loaded::hashed_term(file, state, r);
-    let attested = loaded::is_kind(file, state, content, 0x14);
+    let content = loaded::hashed_term(file, tables, r);
+    let attested = loaded::is_kind(file, tables, content, 0x14);
     loaded::learn(file, state, party, r);
     if attested {
         return;
@@ -391,11 +459,17 @@ pub fn effect_hash(file: &[u8], state: &mut [u8], party: usize, r: usize)
 }
 
 // What 34 leaves: the party learns the number.
-pub fn effect_activate(file: &[u8], state: &mut [u8], party: usize, r: usize)
-    requires { ⌜ Holds (now file) (now state) × Wellformed (fileIn (now file)) (activateCredential party r) ⌝ }
+pub fn effect_activate(
+    file: &[u8],
+    state: &mut [u8],
+    tables: &[u16; tables::WORDS],
+    party: usize,
+    r: usize,
+)
+    requires { ⌜ Holds (now file) (now state) × Wellformed (fileIn (now file)) (activateCredential party r) × Finds (now file) (now tables) ⌝ }
     ensures { λ _. ⌜ Leaves (now (file .entry)) (now (state .entry)) (now (state .exit)) (activateCredential party r) ⌝ }
 {
-    let number = loaded::credential_number_of(file, state, r);
+    let number = loaded::credential_number_of(file, tables, r);
     loaded::learn(file, state, party, number);
 }
 
@@ -407,14 +481,14 @@ fn decide_made(file: &[u8], state: &[u8], tables: &[u16; tables::WORDS], at: usi
     let party = file[at + 1] as usize;
     let r = records::word_at(file, at + 2) as usize;
     match kind {
-        0x30 => decide_hash(file, state, party, r),
-        0x31 => decide_sign(file, state, party, r),
+        0x30 => decide_hash(file, state, tables, party, r),
+        0x31 => decide_sign(file, state, tables, party, r),
         0x32 => decide_certify(file, state, tables, party, r),
-        0x33 => decide_make_credential(file, state, party, r),
+        0x33 => decide_make_credential(file, state, tables, party, r),
         0x34 => decide_activate(file, state, tables, party, r),
-        0x35 => decide_idevid_request(file, state, party, r),
-        0x36 => decide_ldevid_request(file, state, party, r),
-        _ => decide_pair(file, state, party, r),
+        0x35 => decide_idevid_request(file, state, tables, party, r),
+        0x36 => decide_ldevid_request(file, state, tables, party, r),
+        _ => decide_pair(file, state, tables, party, r),
     }
 }
 
@@ -432,47 +506,47 @@ fn decide_checked(
     let party = file[at + 1] as usize;
     let t = records::word_at(file, at + 2) as usize;
     if kind == 0x3B {
-        return decide_check_attributes(file, state, party, t, file[at + 4]);
+        return decide_check_attributes(file, state, tables, party, t, file[at + 4]);
     }
     let u = records::word_at(file, at + 4) as usize;
     match kind {
-        0x38 => decide_check_hash(file, state, party, t, u),
+        0x38 => decide_check_hash(file, state, tables, party, t, u),
         0x39 => decide_check_signature(file, state, tables, party, t, u),
         _ => decide_check_certificate(file, state, tables, party, t, u),
     }
 }
 
 // 3C, by the record.
-fn decide_sent(file: &[u8], state: &[u8], at: usize) -> u8
-    requires { ⌜ Holds (now file) (now state) × CommandAt (Wellformed (fileIn (now file))) (now file) at × (kindThere (now file) at ≡ 0x3C) ⌝ }
+fn decide_sent(file: &[u8], state: &[u8], tables: &[u16; tables::WORDS], at: usize) -> u8
+    requires { ⌜ Holds (now file) (now state) × CommandAt (Wellformed (fileIn (now file))) (now file) at × (kindThere (now file) at ≡ 0x3C) × Finds (now file) (now tables) ⌝ }
     ensures { λ x. ⌜ Decides (now (file .entry)) (now (state .entry)) (commandThere (now (file .entry)) at) x ⌝ }
 {
     let party = file[at + 1] as usize;
     let other = file[at + 2] as usize;
     let t = records::word_at(file, at + 3) as usize;
-    decide_send(file, state, party, other, t)
+    decide_send(file, state, tables, party, other, t)
 }
 
 // 3D, by the record.
-fn decide_issued(file: &[u8], state: &[u8], at: usize) -> u8
-    requires { ⌜ Holds (now file) (now state) × CommandAt (Wellformed (fileIn (now file))) (now file) at × (kindThere (now file) at ≡ 0x3D) ⌝ }
+fn decide_issued(file: &[u8], state: &[u8], tables: &[u16; tables::WORDS], at: usize) -> u8
+    requires { ⌜ Holds (now file) (now state) × CommandAt (Wellformed (fileIn (now file))) (now file) at × (kindThere (now file) at ≡ 0x3D) × Finds (now file) (now tables) ⌝ }
     ensures { λ x. ⌜ Decides (now (file .entry)) (now (state .entry)) (commandThere (now (file .entry)) at) x ⌝ }
 {
     let party = file[at + 1] as usize;
     let r = records::word_at(file, at + 2) as usize;
-    decide_self_issue(file, state, party, r)
+    decide_self_issue(file, state, tables, party, r)
 }
 
 // What 30 to 37 leave, by the record: the party learns what it made.
-fn effect_made(file: &[u8], state: &mut [u8], at: usize, kind: u8)
-    requires { ⌜ Holds (now file) (now state) × CommandAt (Wellformed (fileIn (now file))) (now file) at × (kindThere (now file) at ≡ kind) × (0x30 ≤ kind) × (kind ≤ 0x37) ⌝ }
+fn effect_made(file: &[u8], state: &mut [u8], tables: &[u16; tables::WORDS], at: usize, kind: u8)
+    requires { ⌜ Holds (now file) (now state) × CommandAt (Wellformed (fileIn (now file))) (now file) at × (kindThere (now file) at ≡ kind) × (0x30 ≤ kind) × (kind ≤ 0x37) × Finds (now file) (now tables) ⌝ }
     ensures { λ _. ⌜ Leaves (now (file .entry)) (now (state .entry)) (now (state .exit)) (commandThere (now (file .entry)) at) ⌝ }
 {
     let party = file[at + 1] as usize;
     let r = records::word_at(file, at + 2) as usize;
     match kind {
-        0x30 => effect_hash(file, state, party, r),
-        0x34 => effect_activate(file, state, party, r),
+        0x30 => effect_hash(file, state, tables, party, r),
+        0x34 => effect_activate(file, state, tables, party, r),
         _ => loaded::learn(file, state, party, r),
     }
 }
@@ -510,21 +584,21 @@ pub fn execute(file: &[u8], state: &mut [u8], tables: &[u16; tables::WORDS], at:
         if made != 0 {
             return made;
         }
-        effect_made(file, state, at, kind);
+        effect_made(file, state, tables, at, kind);
         return 0;
     }
     if kind < 0x3C {
         return decide_checked(file, state, tables, at, kind);
     }
     if kind == 0x3C {
-        let sent = decide_sent(file, state, at);
+        let sent = decide_sent(file, state, tables, at);
         if sent != 0 {
             return sent;
         }
         effect_sent(file, state, at);
         return 0;
     }
-    let issued = decide_issued(file, state, at);
+    let issued = decide_issued(file, state, tables, at);
     if issued != 0 {
         return issued;
     }

@@ -1,4 +1,3 @@
-pub mod Begins
-pub mod Few
-pub mod All
-pub mod Refused
+pub mod Ready
+pub mod Ended
+pub mod Whole

@@ -1,78 +1,44 @@
-// The covered part of a run before the loop over commands: on plain slices and numbers.
+// Run on a lent slice of entries, by hand: what is found before the first command, the ledger's places cleared, and the loop over commands.
+use rules::Entry;
 use turns::Begun;
+use turns::Progress;
 ghost use mathlib.Core.Path.{_≡_};
-ghost use Rattle.engine.specs.Begins.{roomy, PartsReady, PartsBegin, Begins, stops};
+ghost use Prim.Native.Nat.{_≤_};
+ghost use lib.ListN.{length};
+ghost use Rattle.tables.specs.Regions.{EmptyTables};
+ghost use Rattle.engine.specs.Raw.{Runs};
 
-// Loads a file into the first parts of state and outcomes.
-fn begin_parts(
+// What a run found before its first command, and how far it went.
+pub struct Finished {
+    pub begun: Begun,
+    pub progress: Progress,
+}
+
+fn finish(b: Begun, p: Progress) -> Finished
+    ensures { λ r. ⌜ r ≡ record { begun = b; progress = p } ⌝ }
+{
+    Finished {
+        begun: b,
+        progress: p,
+    }
+}
+
+// Loads a file and executes its first n commands, or all if fewer, on a ledger of so many places; the tables, empty
+// before, are left beside it.
+pub fn run(
     file: &[u8],
-    state: &mut [u8],
-    outcomes: &mut [u8],
-    tables: &mut [u16; tables::WORDS],
-) -> Begun
-    requires { ⌜ PartsReady (now file) (now state) (now outcomes) ⌝ }
-    ensures { λ r. ⌜ PartsBegin (now (file .entry)) (now (state .exit)) (now (outcomes .exit)) (now (tables .exit)) r ⌝ }
-{
-    state::clear(outcomes);
-    let found = loader::fill(file, state, tables);
-    let tally = found.tally;
-    Begun {
-        number: found.number as u32,
-        place: found.place,
-        places: rules::TERM_LIMIT,
-        parties: tally.parties,
-        terms: tally.terms,
-        first: found.first,
-    }
-}
-
-// Whether state, ledger and outcomes of these lengths are long enough.
-fn enough(state: usize, room: usize, outcomes: usize) -> bool
-    ensures { λ r. ⌜ r ≡ roomy state room outcomes ⌝ }
-{
-    if state < rules::STATE_BYTES {
-        return false;
-    }
-    if room < rules::TERM_LIMIT {
-        return false;
-    }
-    rules::COMMAND_LIMIT <= outcomes
-}
-
-// A refusal that leaves all untouched.
-fn stopped(number: u32) -> Begun
-    ensures { λ r. ⌜ r ≡ stops number ⌝ }
-{
-    Begun {
-        number: number,
-        place: 0,
-        places: 0,
-        parties: 0,
-        terms: 0,
-        first: 0,
-    }
-}
-
-// Loads a file into lent buffers of any length, with a ledger of so many places.
-pub fn begin(
-    file: &[u8],
+    n: usize,
     room: usize,
     state: &mut [u8],
+    ledger: &mut [Entry],
     outcomes: &mut [u8],
     tables: &mut [u16; tables::WORDS],
-) -> Begun
-    ensures { λ r. ⌜ Begins (now (file .entry)) room (now (state .entry)) (now (outcomes .entry)) (now (state .exit)) (now (outcomes .exit)) (now (tables .exit)) r ⌝ }
+) -> Finished
+    requires { ⌜ (room ≤ length (now ledger)) × EmptyTables (now tables) ⌝ }
+    ensures { λ r. ⌜ Runs (now (file .entry)) n room (now (state .entry)) (now (ledger .entry)) (now (outcomes .entry)) (now (state .exit)) (now (ledger .exit)) (now (outcomes .exit)) (now (tables .exit)) r ⌝ }
 {
-    if !enough(state.len(), room, outcomes.len()) {
-        return stopped(1);
-    }
-    if rules::FILE_LIMIT < file.len() {
-        return stopped(2);
-    }
-    begin_parts(
-        file,
-        &mut state[..rules::STATE_BYTES],
-        &mut outcomes[..rules::COMMAND_LIMIT],
-        tables,
-    )
+    let b = beginning::begin(file, room, state, outcomes, tables);
+    ledger::clear(ledger, b.places);
+    let p = command_loop::run_commands(file, state, ledger, outcomes, tables, b, n);
+    finish(b, p)
 }

@@ -92,8 +92,8 @@ small : (bs : List ℕ) → ((i : ℕ) → getD bs i 0 < 256) → (at : ℕ) →
 unfolding termThere
 small bs bytes at = fields-small (kindThere bs at) _ (take-bytes (bodyLength (kindThere bs at)) (drop (at + 1) bs) (λ i. rw getD-drop (bytes (at + 1 + i))))
 
-module _ {bs : List ℕ} {place : ℕ → ℕ} {links keys tables : List ℕ} {n key at rest m : ℕ}
-    (bytes : (i : ℕ) → getD bs i 0 < 256) (whole : (t : ℕ) → t < n → TermRecord bs (place t)) (ix : Indexed bs place links keys tables n)
+module _ {bs : List ℕ} {place : ℕ → ℕ} {links tables : List ℕ} {n key at rest m : ℕ}
+    (bytes : (i : ℕ) → getD bs i 0 < 256) (whole : (t : ℕ) → t < n → TermRecord bs (place t)) (ix : Indexed bs place links tables n)
     (short : key < 2 ^ keyBits) (w : Way links key at rest m) where
   kind-there : (t : ℕ) → t < n → kindOf (termThere bs (place t)) ≡ kindOfThere bs place t
   unfolding termThere

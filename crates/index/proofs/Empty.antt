@@ -4,16 +4,14 @@ use mathlib.Core.List.{List}
 use Prim.Native.Nat.{ℕ, _<_}
 use native.Mathlib.Omega.{arith}
 use lib.ListN.{length, getD, replicate, length-replicate}
-use Rattle.rules.specs.Limits.{termLimit}
-use Rattle.tables.specs.Regions.{tableWords}
+use Rattle.tables.specs.Regions.{tableWords, EmptyTables}
 use Rattle.tables.proofs.Regions.{zeros-at, tables-none, unlinked-none}
-use Rattle.index.specs.declared.Searched.{Searched}
 use Rattle.index.specs.Tree.{linkCount}
-use Rattle.index.specs.Indexed.{keyThere, sameThere, Indexed, SearchResult}
+use Rattle.index.specs.Indexed.{keyThere, Indexed}
 use Rattle.index.proofs.Found.{found-same}
 
-pub indexed-none : (bs : List ℕ) (place : ℕ → ℕ) (links keys tables : List ℕ) → links ≡ replicate linkCount 0 → keys ≡ replicate termLimit 0 → tables ≡ replicate tableWords 0 → Indexed bs place links keys tables 0
-indexed-none bs place links keys tables el ek et =
+pub indexed-none : (bs : List ℕ) (place : ℕ → ℕ) (links tables : List ℕ) → links ≡ replicate linkCount 0 → EmptyTables tables → Indexed bs place links tables 0
+indexed-none bs place links tables el et =
     let none : (i : ℕ) → getD links i 0 ≡ 0 = λ i. ap (λ (xs : List ℕ). getD xs i 0) el ∙ zeros-at linkCount i in
     record {
       tree = record {
@@ -22,9 +20,9 @@ indexed-none bs place links keys tables el ek et =
         later = λ t rest h. absurd (h (none _));
         once = λ i j t p q. absurd (omega (arith, none i));
       };
-      room = ap length ek ∙ length-replicate {A = ℕ} termLimit 0;
       words = ap length et ∙ length-replicate {A = ℕ} tableWords 0;
-      key = λ t l. absurd (omega arith);
+      kinds = λ t l. absurd (omega arith);
+      fields = λ t i l. absurd (omega arith);
       met = λ t l. absurd (omega arith);
       unlike = λ t u l. absurd (omega arith);
       halves = λ t l. absurd (omega arith);
@@ -35,13 +33,13 @@ indexed-none bs place links keys tables el ek et =
     }
 
 module _ {bs : List ℕ} {place place′ : ℕ → ℕ} {n : ℕ} (h : (t : ℕ) → t < n → place t ≡ place′ t) where
-  pub indexed-same : {links keys tables : List ℕ} → Indexed bs place links keys tables n → Indexed bs place′ links keys tables n
+  pub indexed-same : {links tables : List ℕ} → Indexed bs place links tables n → Indexed bs place′ links tables n
   unfolding keyThere
   indexed-same i = record {
     tree = i .tree;
-    room = i .room;
     words = i .words;
-    key = λ t l. rw (← h t l) (i .key t l);
+    kinds = λ t l. rw (← h t l) (i .kinds t l);
+    fields = λ t j l. rw (← h t l) (i .fields t j l);
     met = λ t l. rw (← h t l) (i .met t l);
     unlike = λ t u l m. rw (← h t l, ← h u m) (i .unlike t u l m);
     halves = λ t l. found-same (λ u m. rw (h t l, h u m) refl) (i .halves t l);
@@ -49,12 +47,4 @@ module _ {bs : List ℕ} {place place′ : ℕ → ℕ} {n : ℕ} (h : (t : ℕ)
     unlisted = i .unlisted;
     shallow = i .shallow;
     unlinked = i .unlinked;
-  }
-
-  pub search-same : {links : List ℕ} {kind second key : ℕ} {r : Searched} → SearchResult bs place links kind second key n r → SearchResult bs place′ links kind second key n r
-  unfolding sameThere keyThere
-  search-same f = record {
-    same = found-same (λ t l. rw (h t l) refl) (f .same);
-    other = λ z. found-same (λ t l. rw (h t l) refl) (f .other z);
-    free = f .free;
   }

@@ -1,11 +1,13 @@
+pub mod Found
+pub mod Noted
 pub mod Same
 pub mod Walk
 pub mod Pairs
 pub mod There
 pub mod Growing
-pub mod Found
 pub mod More
 pub mod Empty
 pub mod Entering
 pub mod Halves
 pub mod Bound
+pub mod Fields

@@ -5,20 +5,20 @@ use mathlib.Core.List.{List}
 use Prim.Native.Nat.{ℕ, _+_, _-_, _<_, _≤_}
 use native.Mathlib.Omega.{arith}
 use lib.Dec.{eqb}
-use lib.ListN.{getD, set, length-set}
-use lib.Seq.{getD-set-same, getD-set-other}
+use lib.ListN.{set}
 use borrow.Author.Tests.{eqb-true, eqb-false, ne-eqb}
 use Rattle.rules.specs.Limits.{termLimit}
 use Rattle.rules.specs.Term.{publicKeyKind, privateKeyKind, alike}
 use Rattle.rules.specs.State.{put}
 use Rattle.records.proofs.Lengths.{term-kinds}
-use Rattle.tables.specs.Regions.{Unlinked, Tables, tablesIn, withHalf}
+use Rattle.tables.specs.Regions.{Unlinked, Terms, fieldOf, Tables, tablesIn, withHalf, withTerms}
 use Rattle.learning.specs.There.{termThere}
 use Rattle.checks.specs.There.{kindOfThere}
 use Rattle.index.specs.declared.Searched.{Searched}
 use Rattle.index.specs.Tree.{Found}
-use Rattle.index.specs.Indexed.{keyThere, sameThere, pairThere, otherHalf, Halves, Unlike, Indexed, SearchResult}
+use Rattle.index.specs.Indexed.{keyThere, sameBy, pairThere, otherHalf, Halves, Unlike, Indexed, SearchResult}
 use Rattle.index.proofs.Found.{at-most, put-same, put-other, found-more}
+use Rattle.index.proofs.Noted.{Termed}
 use Rattle.index.proofs.Same.{not-true, same-true, same-kind, same-key}
 use Rattle.index.proofs.There.{Bytes, Records, alike-there, there-alike, pair-there, there-pair}
 use Rattle.index.proofs.Growing.{grown-tree, grown-met, still-met}
@@ -41,17 +41,17 @@ pub record Halved (bs : List ℕ) (place : ℕ → ℕ) (half : ℕ → ℕ) (n 
   pub halves : Halves bs place half n
   pub unpaired : (t : ℕ) → n ≤ t → half t ≡ 0
 
-module _ {bs : List ℕ} (bytes : Bytes bs) {place : ℕ → ℕ} {links keys tables : List ℕ} {n : ℕ} (i : Indexed bs place links keys tables n) (few : n < termLimit) (records : Records bs place (n + 1)) where
+module _ {bs : List ℕ} (bytes : Bytes bs) {place : ℕ → ℕ} {links tables : List ℕ} {n : ℕ} (i : Indexed bs place links tables n) (few : n < termLimit) (records : Records bs place (n + 1)) where
   abbrev kind : ℕ → ℕ
   kind = kindOfThere bs place
 
   abbrev key : ℕ → ℕ
   key = keyThere bs place
 
-  module _ {found : Searched} (f : SearchResult bs place links (kind n) (otherHalf (kind n)) (key n) n found) (none : found .same ≡ 0) where
+  module _ {found : Searched} (f : SearchResult kind key links (kind n) (otherHalf (kind n)) (key n) n found) (none : found .same ≡ 0) where
     -- none of the first n is of the new term's kind and key
     apart : (t : ℕ) → t < n → kind t ≡ kind n → key t ≡ key n → ⊥
-    apart t l a b = false≢true (sym (f .same .none none t l) ∙ same-true bs place _ _ t a b)
+    apart t l a b = false≢true (sym (f .same .none none t l) ∙ same-true kind key _ _ t a b)
 
     unlike-new : (t : ℕ) → t < n → alike (termThere bs (place t)) (termThere bs (place n)) ≡ true → ⊥
     unlike-new t l e = let h = alike-there bs bytes place records t n (omega arith) (omega arith) e in apart t l (h .0) (h .1)
@@ -69,7 +69,7 @@ module _ {bs : List ℕ} (bytes : Bytes bs) {place : ℕ → ℕ} {links keys ta
     abbrev half : ℕ → ℕ
     half = tablesIn tables .half
 
-    other : Found (sameThere bs place (otherHalf (kind n)) (key n)) n (found .other)
+    other : Found (sameBy kind key (otherHalf (kind n)) (key n)) n (found .other)
     other = f .other none
 
     -- the new term is not the half of t
@@ -93,7 +93,7 @@ module _ {bs : List ℕ} (bytes : Bytes bs) {place : ℕ → ℕ} {links keys ta
     }
       where
         alone : (t : ℕ) → t < n → kind t ≡ otherHalf (kind n) → key t ≡ key n → ⊥
-        alone t l a b = false≢true (sym (other .none z t l) ∙ same-true bs place _ _ t a b)
+        alone t l a b = false≢true (sym (other .none z t l) ∙ same-true kind key _ _ t a b)
 
     -- they have the private half of a public key
     pub halved-public : (found .other ≡ 0 → ⊥) → kind n ≡ publicKeyKind → Halved bs place (put half n (found .other)) (n + 1)
@@ -102,8 +102,8 @@ module _ {bs : List ℕ} (bytes : Bytes bs) {place : ℕ → ℕ} {links keys ta
           (rw (put-same half n (found .other)) (record {
             one = λ t q.
                 let w = other .one t q in
-                let a : kind t ≡ privateKeyKind = same-kind bs place _ _ t (w .1) ∙ ap otherHalf p ∙ half-of-public in
-                (omega arith, there-pair bs bytes place records n t (omega arith) (omega arith) p a (sym (same-key bs place _ _ t (w .1))));
+                let a : kind t ≡ privateKeyKind = same-kind kind key _ _ t (w .1) ∙ ap otherHalf p ∙ half-of-public in
+                (omega arith, there-pair bs bytes place records n t (omega arith) (omega arith) p a (sym (same-key kind key _ _ t (w .1))));
             none = λ q. absurd (z q);
           }))
           (λ t l. rw (put-other half n (found .other) t (omega arith)) (found-more (i .halves t l) (no-half t l (λ _ q _. omega arith))));
@@ -115,7 +115,7 @@ module _ {bs : List ℕ} (bytes : Bytes bs) {place : ℕ → ℕ} {links keys ta
       abbrev u : ℕ
       u = found .other - 1
 
-      found-u : (u < n) × (sameThere bs place (otherHalf (kind n)) (key n) u ≡ true)
+      found-u : (u < n) × (sameBy kind key (otherHalf (kind n)) (key n) u ≡ true)
       found-u = other .one u (omega arith)
 
       is-private : kind n ≡ privateKeyKind
@@ -124,16 +124,16 @@ module _ {bs : List ℕ} (bytes : Bytes bs) {place : ℕ → ℕ} {links keys ta
           go : (b : Bool) → eqb (kind n) privateKeyKind ≡ b → kind n ≡ privateKeyKind
           go true e = eqb-true _ _ e
           go false e =
-              let q : kind u ≡ 0 = same-kind bs place _ _ u (found-u .1) ∙ half-of-none (kind n) d (eqb-false _ _ e) in
+              let q : kind u ≡ 0 = same-kind kind key _ _ u (found-u .1) ∙ half-of-none (kind n) d (eqb-false _ _ e) in
               let l = found-u .0 in
               let r = term-kinds (kind u) (records u (omega arith)) in
               absurd (omega arith)
 
       u-public : kind u ≡ publicKeyKind
-      u-public = same-kind bs place _ _ u (found-u .1) ∙ ap otherHalf is-private ∙ half-of-private
+      u-public = same-kind kind key _ _ u (found-u .1) ∙ ap otherHalf is-private ∙ half-of-private
 
       u-key : key u ≡ key n
-      u-key = same-key bs place _ _ u (found-u .1)
+      u-key = same-key kind key _ _ u (found-u .1)
 
       sole : (t : ℕ) → t < n → kind t ≡ publicKeyKind → key t ≡ key n → t ≡ u
       sole t l a b =
@@ -167,21 +167,19 @@ module _ {bs : List ℕ} (bytes : Bytes bs) {place : ℕ → ℕ} {links keys ta
         unpaired = λ t l. put-other half u (n + 1) t (let m = found-u .0 in omega arith) ∙ i .unpaired t (omega arith);
       }
 
-    -- its key and its halves are noted, and it stands at the free entry
-    key-more : (t : ℕ) → t < n + 1 → getD (set keys n (key n)) t 0 ≡ key t
-    key-more = at-most n
-        (getD-set-same keys n (key n) 0 (omega (arith, i .room)))
-        (λ t l. getD-set-other keys n t (key n) 0 (λ q. omega arith) ∙ i .key t l)
-
-    pub indexed-more : {links′ keys′ tables′ : List ℕ} (half′ : ℕ → ℕ) → links′ ≡ set links (found .free) (n + 1) → keys′ ≡ set keys n (key n) → tablesIn tables′ ≡ withHalf (tablesIn tables) half′ → Halved bs place half′ (n + 1) → Indexed bs place links′ keys′ tables′ (n + 1)
-    indexed-more {links′} {keys′} {tables′} half′ el ek et h =
+    -- its kind, its words and its halves are noted, and it stands at the free entry
+    pub indexed-more :
+        {links′ tables′ : List ℕ} (half′ : ℕ → ℕ) (terms′ : Terms) → links′ ≡ set links (found .free) (n + 1) → tablesIn tables′ ≡ withHalf (withTerms (tablesIn tables) terms′) half′
+        → Termed bs place terms′ (n + 1) → Halved bs place half′ (n + 1) → Indexed bs place links′ tables′ (n + 1)
+    indexed-more {links′} {tables′} half′ terms′ el et w h =
         let g = f .free none in
         let eh : tablesIn tables′ .half ≡ half′ = ap (λ (v : Tables). v .half) et in
-        rw (el, ek) (record {
+        let ew : tablesIn tables′ .terms ≡ terms′ = ap (λ (v : Tables). v .terms) et in
+        rw el (record {
           tree = grown-tree (i .tree) few g;
-          room = length-set keys n (key n) ∙ i .room;
           words = ap (λ (v : Tables). v .words) et ∙ i .words;
-          key = key-more;
+          kinds = λ t l. ap (λ (v : Terms). v .kind t) ew ∙ w .kinds t l;
+          fields = λ t j l m. ap (λ (v : Terms). fieldOf v t j) ew ∙ w .fields t j l m;
           met = at-most n (grown-met (i .tree) few g) (λ t l. still-met (i .tree) few g (key t) (i .met t l));
           unlike = unlike-more;
           halves = rw eh (h .halves);

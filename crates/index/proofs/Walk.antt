@@ -6,9 +6,8 @@ use mathlib.Core.List.{List}
 use Prim.Native.Nat.{ℕ, zero, suc, _-_, _/_, _<_, _≤_}
 use native.Mathlib.Omega.{arith}
 use lib.ListN.{getD}
-use Rattle.checks.specs.There.{kindOfThere}
 use Rattle.index.specs.Tree.{bucketOf, below, Met, here, under, Way, root, down, Tree, Free, Found, yet}
-use Rattle.index.specs.Indexed.{keyThere, sameThere, Indexed, SearchResult}
+use Rattle.index.specs.Indexed.{sameBy, Reached, SearchResult}
 use Rattle.index.proofs.Same.{not-true, same-true, same-key, other-kind, other-key}
 
 -- nothing is met from no entry
@@ -88,42 +87,39 @@ module _ {links : List ℕ} {one two : ℕ → Bool} {key n slot rest half e : �
         yet-falls n e (getD links (below (e - 1) rest) 0) z walk-most
         (λ q. let k = tree .later (e - 1) rest q in omega arith) (tree .most (below (e - 1) rest))
 
--- the walk of a key, by the kinds and the keys of the terms that it meets
-module _ {bs : List ℕ} {place : ℕ → ℕ} {links keys tables : List ℕ} {n : ℕ} (i : Indexed bs place links keys tables n) (kind second key : ℕ) where
+-- the walk of a key, by the kinds and the keys of the numbers that it meets
+module _ (kinds : ℕ → ℕ) {keys : ℕ → ℕ} {links : List ℕ} {n : ℕ} (i : Reached keys links n) (kind second key : ℕ) where
   abbrev KeyWalk : ℕ → ℕ → ℕ → ℕ → Type 0
-  KeyWalk = Walking links (sameThere bs place kind key) (sameThere bs place second key) key n
+  KeyWalk = Walking links (sameBy kinds keys kind key) (sameBy kinds keys second key) key n
 
   pub walk-start : KeyWalk (bucketOf key) key 0 (getD links (bucketOf key) 0)
   walk-start =
-      let ahead : (k : ℕ) → Ahead links (sameThere bs place k key) n (getD links (bucketOf key) 0) key =
-      λ k u l p. subst (λ (y : ℕ). Met links u (getD links (bucketOf y) 0) y) (same-key bs place k key u p) (i .met u l) in
+      let ahead : (k : ℕ) → Ahead links (sameBy kinds keys k key) n (getD links (bucketOf key) 0) key =
+      λ k u l p. subst (λ (y : ℕ). Met links u (getD links (bucketOf y) 0) y) (same-key kinds keys k key u p) (i .met u l) in
       record { passed = 0; way = root; entry = refl; first = ahead kind; second = λ _. ahead second; noted = λ t q. absurd (omega arith) }
 
   module _ {slot rest half e : ℕ} (w : KeyWalk slot rest half e) where
-    pub walk-ends : e ≡ 0 → SearchResult bs place links kind second key n (record { same = 0; other = half; free = slot })
+    pub walk-ends : e ≡ 0 → SearchResult kinds keys links kind second key n (record { same = 0; other = half; free = slot })
     walk-ends z = record { same = walk-none (i .tree) w z; other = λ _. walk-half (i .tree) w z; free = λ _. walk-free (i .tree) w z }
 
-    module _ (z : e ≡ 0 → ⊥) where
-      key-there : getD keys (e - 1) 0 ≡ keyThere bs place (e - 1)
-      key-there = i .key (e - 1) (omega (arith, walk-most (i .tree) w))
-
+    module _ (z : e ≡ 0 → ⊥) {own : ℕ} (keyIs : own ≡ keys (e - 1)) where
       abbrev Next : ℕ → Type 0
       Next half′ = KeyWalk (below (e - 1) rest) (rest / 2) half′ (getD links (below (e - 1) rest) 0)
 
-      -- a term of another key
-      pub walk-past : {half′ : ℕ} → (getD keys (e - 1) 0 ≡ key → ⊥) → half′ ≡ half → Next half′
+      -- a number of another key
+      pub walk-past : {half′ : ℕ} → (own ≡ key → ⊥) → half′ ≡ half → Next half′
       walk-past {half′} d h =
-          let no : (k : ℕ) → sameThere bs place k key (e - 1) ≡ false = λ k. other-key bs place k key (e - 1) (λ q. d (key-there ∙ q)) in
+          let no : (k : ℕ) → sameBy kinds keys k key (e - 1) ≡ false = λ k. other-key kinds keys k key (e - 1) (λ q. d (keyIs ∙ q)) in
           walk-on (i .tree) w z half′ (no kind) (inr (no second, h))
 
-      module _ (same : getD keys (e - 1) 0 ≡ key) {there : ℕ} (is : there ≡ kindOfThere bs place (e - 1)) where
-        is-same : (k : ℕ) → there ≡ k → sameThere bs place k key (e - 1) ≡ true
-        is-same k q = same-true bs place k key (e - 1) (sym is ∙ q) (sym key-there ∙ same)
+      module _ (same : own ≡ key) {there : ℕ} (is : there ≡ kinds (e - 1)) where
+        is-same : (k : ℕ) → there ≡ k → sameBy kinds keys k key (e - 1) ≡ true
+        is-same k q = same-true kinds keys k key (e - 1) (sym is ∙ q) (sym keyIs ∙ same)
 
-        not-same : (k : ℕ) → (there ≡ k → ⊥) → sameThere bs place k key (e - 1) ≡ false
-        not-same k d = other-kind bs place k key (e - 1) (λ q. d (is ∙ q))
+        not-same : (k : ℕ) → (there ≡ k → ⊥) → sameBy kinds keys k key (e - 1) ≡ false
+        not-same k d = other-kind kinds keys k key (e - 1) (λ q. d (is ∙ q))
 
-        pub walk-same : there ≡ kind → SearchResult bs place links kind second key n (record { same = e; other = 0; free = 0 })
+        pub walk-same : there ≡ kind → SearchResult kinds keys links kind second key n (record { same = e; other = 0; free = 0 })
         walk-same q = record { same = walk-found (i .tree) w z (is-same kind q); other = λ y. absurd (z y); free = λ y. absurd (z y) }
 
         -- one of the second kind, which is noted

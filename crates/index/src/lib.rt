@@ -1,13 +1,17 @@
 // The terms by their keys, filled as they are entered: refusal 9 and the halves of a key pair by a walk down one bucket.
+use records::Words;
 ghost use mathlib.Core.Path.{_≡_};
 ghost use mathlib.Core.Bool.{cond, not};
 ghost use Prim.Native.Nat.{_+_, _<_, _≤_};
 ghost use lib.Dec.{eqb};
+ghost use lib.ListN.{length};
+ghost use Rattle.rules.specs.Limits.{termLimit};
 ghost use Rattle.rules.specs.Load.{refuseUnless, termAt};
 ghost use Rattle.rules.specs.State.{put};
 ghost use Rattle.state.specs.View.{view, withPlace};
-ghost use Rattle.checks.specs.There.{TermsThere, anyAlikeThere};
-ghost use Rattle.index.specs.Indexed.{otherHalf, Indexed, SearchResult, EntersTerm};
+ghost use Rattle.tables.specs.Regions.{tableWords, tablesIn, withTerms};
+ghost use Rattle.checks.specs.There.{anyAlikeThere};
+ghost use Rattle.index.specs.Indexed.{keyNoted, termNoted, otherHalf, Indexed, Reached, SearchResult, EntersTerm};
 
 pub const BUCKETS: usize = 1024;
 
@@ -34,20 +38,40 @@ fn other_half(kind: u8) -> u8
     }
 }
 
+// The key of a term, by its words.
+fn key_of(tables: &[u16; tables::WORDS], t: usize) -> u64
+    requires { ⌜ t < termLimit ⌝ }
+    ensures { λ r. ⌜ r ≡ keyNoted (tablesIn (now (tables .entry)) .terms) t ⌝ }
+{
+    let first = tables::field_of(tables, t, 0);
+    let second = tables::field_of(tables, t, 1);
+    let third = tables::field_of(tables, t, 2);
+    records::key(first, second, third, tables::field_of(tables, t, 3))
+}
+
+// The kind of a term and its words.
+fn note_term(tables: &mut [u16; tables::WORDS], t: usize, kind: u8, words: Words)
+    requires { ⌜ (length (now tables) ≡ tableWords) × (t < termLimit) ⌝ }
+    ensures { λ _. ⌜ tablesIn (now (tables .exit)) ≡ withTerms (tablesIn (now (tables .entry))) (termNoted (tablesIn (now (tables .entry)) .terms) t kind words) ⌝ }
+{
+    tables::note_kind(tables, t, kind as u16);
+    tables::note_field(tables, t, 0, words.first);
+    tables::note_field(tables, t, 1, words.second);
+    tables::note_field(tables, t, 2, words.third);
+    tables::note_field(tables, t, 3, words.fourth);
+}
+
 // The way of a key down its bucket.
 fn search(
-    file: &[u8],
-    state: &[u8],
     links: &[u16; LINKS],
-    keys: &[u64; rules::TERM_LIMIT],
     tables: &[u16; tables::WORDS],
     kind: u8,
     other: u8,
     key: u64,
     terms: usize,
 ) -> Searched
-    requires { ⌜ TermsThere (now file) (now state) terms × Indexed (now file) (view (now state) .place) (now links) (now keys) (now tables) terms ⌝ }
-    ensures { λ r. ⌜ SearchResult (now (file .entry)) (view (now (state .entry)) .place) (now (links .entry)) kind other key terms r ⌝ }
+    requires { ⌜ Reached (keyNoted (tablesIn (now tables) .terms)) (now links) terms ⌝ }
+    ensures { λ r. ⌜ SearchResult (tablesIn (now (tables .entry)) .terms .kind) (keyNoted (tablesIn (now (tables .entry)) .terms)) (now (links .entry)) kind other key terms r ⌝ }
 {
     let mut slot = (key % PRIME) as usize;
     let mut rest = key;
@@ -55,16 +79,16 @@ fn search(
     let mut e = links[slot] as usize;
     while e != 0 {
         let t = e - 1;
-        if keys[t] == key {
-            let there = checks::kind_there(file, state, t);
-            if there == kind {
+        if key_of(tables, t) == key {
+            let there = tables::kind_of(tables, t);
+            if there == kind as u16 {
                 return Searched {
                     same: e,
                     other: 0,
                     free: 0,
                 };
             }
-            if there == other {
+            if there == other as u16 {
                 half = e;
             }
         }
@@ -84,30 +108,20 @@ pub fn enter_term(
     file: &[u8],
     state: &mut [u8],
     links: &mut [u16; LINKS],
-    keys: &mut [u64; rules::TERM_LIMIT],
     tables: &mut [u16; tables::WORDS],
     body: &[u8],
     kind: u8,
     at: usize,
     terms: usize,
 ) -> u8
-    requires { ⌜ EntersTerm (now file) (now state) (now links) (now keys) (now tables) (now body) kind at terms ⌝ }
+    requires { ⌜ EntersTerm (now file) (now state) (now links) (now tables) (now body) kind at terms ⌝ }
     ensures refusal { λ r. ⌜ r ≡ refuseUnless 9 (not (anyAlikeThere (now (file .entry)) (view (now (state .entry)) .place) (termAt kind (now (body .entry))) terms)) ⌝ }
     ensures left { λ r. ⌜ view (now (state .exit)) ≡ cond (eqb r 0) (withPlace (view (now (state .entry))) (put (view (now (state .entry)) .place) terms at)) (view (now (state .entry))) ⌝ }
-    ensures indexed { λ r. ⌜ (r ≡ 0 → Indexed (now (file .entry)) (view (now (state .exit)) .place) (now (links .exit)) (now (keys .exit)) (now (tables .exit)) (terms + 1)) ⌝ }
+    ensures indexed { λ r. ⌜ (r ≡ 0 → Indexed (now (file .entry)) (view (now (state .exit)) .place) (now (links .exit)) (now (tables .exit)) (terms + 1)) ⌝ }
 {
-    let key = records::key_in(kind, body);
-    let found = search(
-        file,
-        state,
-        links,
-        keys,
-        tables,
-        kind,
-        other_half(kind),
-        key,
-        terms,
-    );
+    let words = records::words_in(kind, body);
+    let key = records::key(words.first, words.second, words.third, words.fourth);
+    let found = search(links, tables, kind, other_half(kind), key, terms);
     let same = found.same;
     let other = found.other;
     let free = found.free;
@@ -115,7 +129,7 @@ pub fn enter_term(
         return 9;
     }
     state::note_place(state, terms, at);
-    keys[terms] = key;
+    note_term(tables, terms, kind, words);
     links[free] = (terms + 1) as u16;
     if other != 0 {
         if kind == 0x10 {

@@ -110,7 +110,7 @@ module _ (tables tables₁ tables₂ tables′ : List ℕ) (n certificate depth 
       depth = depths-next e q m h new;
       falls = subst⁻¹ (λ (b : Boards). Falls b (n + 1)) (ap (λ (v : Tables). v .boards) written) (falls-ek _ _ (n + 1) (falls-more _ n (h .falls)));
     };
-    keys = record { words = ap (λ (v : Tables). v .words) written; signer = ap (λ (v : Tables). v .signer) written; half = ap (λ (v : Tables). v .half) written };
+    keys = record { words = ap (λ (v : Tables). v .words) written; signer = ap (λ (v : Tables). v .signer) written; half = ap (λ (v : Tables). v .half) written; terms = ap (λ (v : Tables). v .terms) written };
     boards = ap (λ (v : Tables). v .boards) written;
   }
 
@@ -166,5 +166,5 @@ module _ (tables tables′ : List ℕ) (n : ℕ) where
       keys (Device m) = go (eqb (entryOf (tablesIn tables .boards) m) 0)
         where
           go : (b : Bool) → SameKeys v (cond b (withBoards (tablesIn tables) (linked (tablesIn tables .boards) n m)) (tablesIn tables))
-          go true = record { words = h .words; signer = h .signer; half = h .half }
+          go true = record { words = h .words; signer = h .signer; half = h .half; terms = h .terms }
           go false = h

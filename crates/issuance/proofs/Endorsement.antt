@@ -1,5 +1,5 @@
 -- The certificate of the EK in a request that a challenge was accepted for.
---     endorsement-here     it is a certificate of the file
+--     endorsement-noted    the tables have it
 --     ek-few               the number of its key
 -- Assumes nothing.
 use mathlib.Core.Path.{_≡_}
@@ -10,19 +10,21 @@ use lib.ListN.{length}
 use Rattle.rules.specs.Limits.{termLimit}
 use Rattle.rules.specs.Term.{certificateKind}
 use Rattle.rules.specs.File.{kind, certifiedKey, idevidCertificate, leftOf}
-use Rattle.loaded.specs.Loaded.{fileIn, Holds, TermHere}
-use Rattle.loaded.proofs.Standing.{checked-here, term-here, left-declared, idevid-certificate-declared, certified-key-declared}
+use Rattle.loaded.specs.Loaded.{fileIn, Holds, Finds, TermNoted}
+use Rattle.loaded.proofs.Standing.{checked-here}
+use Rattle.loaded.proofs.Declared.{left-declared, idevid-certificate-declared, certified-key-declared}
+use Rattle.loaded.proofs.Noted.{term-noted}
 use Rattle.requests.specs.Formed.{Requested}
 
 module _ {bs s : List ℕ} {q : ℕ} (h : Holds bs s) (r : Requested (fileIn bs) q) where
   inside : idevidCertificate (fileIn bs) (leftOf (fileIn bs) q) < length (fileIn bs .terms)
-  inside = idevid-certificate-declared h (left-declared h (r .declared) (r .formed .pair)) (r .body)
+  inside = idevid-certificate-declared (checked-here h) (left-declared (checked-here h) (r .declared) (r .formed .pair)) (r .body)
 
   isCertificate : kind (fileIn bs) (idevidCertificate (fileIn bs) (leftOf (fileIn bs) q)) ≡ certificateKind
   isCertificate = checked-here h .idevidCertificateKind (leftOf (fileIn bs) q) (r .body)
 
-  pub endorsement-here : TermHere bs s (idevidCertificate (fileIn bs) (leftOf (fileIn bs) q)) × (kind (fileIn bs) (idevidCertificate (fileIn bs) (leftOf (fileIn bs) q)) ≡ certificateKind)
-  endorsement-here = (term-here h inside, isCertificate)
+  pub endorsement-noted : {tables : List ℕ} → Finds bs tables → TermNoted bs tables (idevidCertificate (fileIn bs) (leftOf (fileIn bs) q))
+  endorsement-noted d = term-noted d inside
 
   pub ek-few : certifiedKey (fileIn bs) (idevidCertificate (fileIn bs) (leftOf (fileIn bs) q)) < termLimit
-  ek-few = omega (arith, checked-here h .fewTerms, certified-key-declared h inside isCertificate)
+  ek-few = omega (arith, checked-here h .fewTerms, certified-key-declared (checked-here h) inside isCertificate)

@@ -1,7 +1,7 @@
 -- What an issue on an 18 request (40, 41, 42) asks, by what was read.
 --     signatureAt, halfAt, newAt, parentAt, keyAt, signerAt   what its request names
 --     asked                                  what a request has whose form was accepted
---     here, half-declared, new-declared, parent-is, key-declared, by-declared     what it names is declared
+--     noted, half-declared, new-declared, parent-is, key-declared, by-declared     what it names is declared
 --     parent-noted                           the parent's entry has a place where a desk signed it
 --     attest-goes, parentage-goes            parts that pass
 --     attest-read to called-read             parts by what was read are parts by the request
@@ -28,10 +28,12 @@ use Rattle.theorems.proofs.Requests.{DeskParent}
 use Rattle.state.specs.View.{view}
 use Rattle.tables.specs.Regions.{tablesIn}
 use Rattle.theorems.specs.Chain.{chain}
-use Rattle.loaded.specs.Loaded.{fileIn, Holds, TermHere}
+use Rattle.loaded.specs.Loaded.{fileIn, Holds, Finds, TermNoted}
 use Rattle.loaded.specs.Entries.{Enters}
 use Rattle.theorems.proofs.Chain.{in-order, chain-rest, passed}
-use Rattle.loaded.proofs.Standing.{checked-here, term-here, kind-declared, signing-key-declared, certified-key-declared, signer-declared}
+use Rattle.loaded.proofs.Standing.{checked-here, kind-declared}
+use Rattle.loaded.proofs.Declared.{signing-key-declared, certified-key-declared, signer-declared}
+use Rattle.loaded.proofs.Noted.{term-noted}
 use Rattle.requests.specs.Formed.{Formed}
 use Rattle.requests.specs.Tests.{calledTests, attestTests, parentageTests}
 use Rattle.issuance.specs.Tests.{entryTests, parentTests, belowTests}
@@ -73,17 +75,17 @@ asked f q e w =
     let b = passed 19 _ _ (omega arith) (a .1) in
     record { formed = m .0; body = m .1; signature = is-kind-kind f _ (a .0); attest = is-kind-kind f _ (b .0) }
 
--- a term of another kind than 12, and its kind
-pub here : {bs s : List ℕ} {t k : ℕ} → Holds bs s → kind (fileIn bs) t ≡ k → (k ≡ hashKind → ⊥) → TermHere bs s t × (kind (fileIn bs) t ≡ k)
-here {bs} h e n = (term-here h (kind-declared bs e n), e)
+-- a term of another kind than 12
+pub noted : {bs tables : List ℕ} {t k : ℕ} → Finds bs tables → kind (fileIn bs) t ≡ k → (k ≡ hashKind → ⊥) → TermNoted bs tables t
+noted {bs} d e n = term-noted d (kind-declared bs e n)
 
 pub parent-noted : (bs s tables : List ℕ) (p q : ℕ) → ParentsEntered bs s tables → DeskParent (fileIn bs) (view s .knows) p q → 0 < tablesIn tables .entry (parentAt (fileIn bs) q)
 unfolding parentCertificateOf requestBody
-parent-noted bs s tables p q noted w = noted p q w
+parent-noted bs s tables p q entered w = entered p q w
 
 module _ {bs s : List ℕ} {q : ℕ} (h : Holds bs s) (w : Asked (fileIn bs) q) where
   pub half-declared : halfAt (fileIn bs) q < length (fileIn bs .terms)
-  half-declared = signing-key-declared h (kind-declared bs (w .signature) (λ e. omega arith)) (w .signature)
+  half-declared = signing-key-declared (checked-here h) (kind-declared bs (w .signature) (λ e. omega arith)) (w .signature)
 
   pub new-declared : newAt (fileIn bs) q < length (fileIn bs .terms)
   new-declared = kind-declared bs (checked-here h .attestedKeyKind _ (w .attest)) (λ e. omega arith)
@@ -92,10 +94,10 @@ module _ {bs s : List ℕ} {q : ℕ} (h : Holds bs s) (w : Asked (fileIn bs) q) 
   parent-is = checked-here h .ldevidCertificateKind _ (w .body)
 
   pub key-declared : keyAt (fileIn bs) q < length (fileIn bs .terms)
-  key-declared = certified-key-declared h (kind-declared bs parent-is (λ e. omega arith)) parent-is
+  key-declared = certified-key-declared (checked-here h) (kind-declared bs parent-is (λ e. omega arith)) parent-is
 
   pub by-declared : signerAt (fileIn bs) q < length (fileIn bs .terms)
-  by-declared = signer-declared h (kind-declared bs parent-is (λ e. omega arith)) parent-is
+  by-declared = signer-declared (checked-here h) (kind-declared bs parent-is (λ e. omega arith)) parent-is
 
 module _ (f : File) (ys : List Test) where
   pub attest-goes : (t : ℕ) → chain (attestTests f t) ≡ 0 → chain (attestTests f t ++ ys) ≡ chain ys

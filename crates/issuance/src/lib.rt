@@ -99,19 +99,19 @@ pub fn decide_issue_iak(
     if !loaded::is_role(file, other, rules::DEVICE) {
         return 26;
     }
-    let credential = requests::credential_of(file, state, c);
+    let credential = requests::credential_of(file, tables, c);
     if !state::knows(state, other, credential.number) {
         return 26;
     }
     let q = state::request_of(state, c);
-    let request = requests::pair_of(file, state, q);
-    let asked = requests::idevid_request_of(file, state, request.left);
+    let request = requests::pair_of(file, tables, q);
+    let asked = requests::idevid_request_of(file, tables, request.left);
     let wanted = asked.subject;
-    let called = requests::called_for(file, state, tables, party, r, asked.key, wanted);
+    let called = requests::called_for(file, tables, party, r, asked.key, wanted);
     if called != 0 {
         return called;
     }
-    let ek = loaded::certified_key_of(file, state, asked.certificate);
+    let ek = loaded::certified_key_of(file, tables, asked.certificate);
     iak_allowed(tables, r, wanted, ek)
 }
 
@@ -146,22 +146,13 @@ fn below(
     requires { ⌜ Holds (now file) (now state) × Finds (now file) (now tables) × (parties ≡ length (fileIn (now file) .roles)) × (party < partyLimit) × (half < length (fileIn (now file) .terms)) × (new < length (fileIn (now file) .terms)) × (kind (fileIn (now file)) parent ≡ certificateKind) × (kind (fileIn (now file)) r ≡ certificateKind) ⌝ }
     ensures { λ x. ⌜ ((n : ℕ) (ledger : List Entry) → Enters (now (tables .entry)) n ledger → x ≡ chain (belowTests (fileIn (now (file .entry))) ledger family party r half new parent)) ⌝ }
 {
-    let certificate = requests::certificate_of(file, state, parent);
-    let descends = requests::parentage(
-        file,
-        state,
-        tables,
-        parties,
-        family,
-        half,
-        new,
-        certificate,
-    );
+    let certificate = requests::certificate_of(file, tables, parent);
+    let descends = requests::parentage(file, tables, parties, family, half, new, certificate);
     if descends != 0 {
         return descends;
     }
     let wanted = certificate.subject;
-    let called = requests::called_for(file, state, tables, party, r, new, wanted);
+    let called = requests::called_for(file, tables, party, r, new, wanted);
     if called != 0 {
         return called;
     }
@@ -188,12 +179,12 @@ pub fn decide_issue(
     if !state::knows(state, party, q) {
         return 14;
     }
-    let request = requests::form(file, state, q, 0x18);
+    let request = requests::form(file, tables, q, 0x18);
     if request.refusal != 0 {
         return request.refusal;
     }
-    let asked = requests::ldevid_request_of(file, state, request.body);
-    let attested = requests::attested_by(file, state, asked.message);
+    let asked = requests::ldevid_request_of(file, tables, request.body);
+    let attested = requests::attested_by(file, tables, asked.message);
     if attested.refusal != 0 {
         return attested.refusal;
     }
@@ -258,9 +249,9 @@ pub fn effect_issue_iak(
     ensures { λ x. ⌜ ((other : ℕ) → DeskLeaves (now (file .entry)) (now (state .entry)) (now (tables .entry)) n (issueIak party other c r) (now (state .exit)) (now (tables .exit)) (x ∷ [])) ⌝ }
 {
     let q = state::request_of(state, c);
-    let request = requests::pair_of(file, state, q);
-    let asked = requests::idevid_request_of(file, state, request.left);
-    let ek = loaded::certified_key_of(file, state, asked.certificate);
+    let request = requests::pair_of(file, tables, q);
+    let asked = requests::idevid_request_of(file, tables, request.left);
+    let ek = loaded::certified_key_of(file, tables, asked.certificate);
     loaded::learn(file, state, party, r);
     state::note_mark(state, c, rules::CREDENTIAL_CLOSED);
     append(tables, n, r, 1, ek as u16);
@@ -286,8 +277,8 @@ pub fn effect_issue(
     requires { ⌜ Holds (now file) (now state) × IssuesOnRequest (now file) (now state) (now tables) n party q r ⌝ }
     ensures { λ x. ⌜ ((family : Family) → DeskLeaves (now (file .entry)) (now (state .entry)) (now (tables .entry)) n (issue family party q r) (now (state .exit)) (now (tables .exit)) (x ∷ [])) ⌝ }
 {
-    let request = requests::pair_of(file, state, q);
-    let asked = requests::ldevid_request_of(file, state, request.left);
+    let request = requests::pair_of(file, tables, q);
+    let asked = requests::ldevid_request_of(file, tables, request.left);
     let parent = asked.certificate;
     let depth = tables::depth_of(tables, parent);
     let ek = ek_of(tables, parent);

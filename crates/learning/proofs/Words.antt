@@ -1,16 +1,15 @@
 -- The term of a record by the words where they stand.
 --     byte-at, word-at                 what stands in a body, by where it stands in the file
 --     inside                           where the body of a record ends in the file
---     body-there                       the term of a record of a kind, by its body
---     public-key-there to pair-there   the term of a record, one law a kind
---     idevid-certificate-there, idevid-key-there, signer-there   the fields behind a Subject
---     tpm-byte, device-byte            the byte of a Subject
---     request-device, certificate-tpm  whether a 17 is a device's, and a 19 a TPM's
+--     public-key-there to pair-there   the term of a record, one law a kind but for numbers
+--     signer-there                     the field behind a Subject
+--     tpm-byte                         the byte of a Subject
+--     certificate-tpm                  whether a 19 is a TPM's
 --     key-attributes, no-attributes    the attributes of keys; other terms have none
 --     no-parts                         terms of other kinds than 13, 14 and 17 to 1A have no parts
 -- Assumes nothing.
 use mathlib.Core.Path.{_≡_, refl, ap, ap₂, subst}
-use mathlib.Core.Bool.{Bool, true, false, cond, not, _||_}
+use mathlib.Core.Bool.{Bool, true, false, cond, _||_}
 use mathlib.Core.List.{List, [], _∷_}
 use Prim.Native.Nat.{ℕ, suc, _+_, _*_, _-_, _<_, _≤_}
 use native.Mathlib.Omega.{arith}
@@ -20,8 +19,8 @@ use lib.Seq.{getD-take, getD-drop}
 use borrow.Author.Tests.{eqb-true, eqb-false}
 use Rattle.rules.specs.declared.Subject.{Subject}
 use Rattle.rules.specs.declared.Subject.the-variants.{Tpm, Device}
-use Rattle.rules.specs.declared.Term.the-variants.{PublicKey, PrivateKey, Hash, Signature, Attest, Credential, Number, IdevidRequest, LdevidRequest, Certificate, Pair}
-use Rattle.rules.specs.Term.{publicKeyKind, privateKeyKind, hashKind, signatureKind, attestKind, credentialKind, numberKind, idevidRequestKind, ldevidRequestKind, certificateKind, pairKind, subjectFields, fieldsIn, subjectOf, isTpmSubject, isDeviceSubject, attributesOf, partsOf}
+use Rattle.rules.specs.declared.Term.the-variants.{PublicKey, PrivateKey, Hash, Signature, Attest, Credential, IdevidRequest, LdevidRequest, Certificate, Pair}
+use Rattle.rules.specs.Term.{publicKeyKind, privateKeyKind, hashKind, signatureKind, attestKind, credentialKind, idevidRequestKind, ldevidRequestKind, certificateKind, pairKind, subjectFields, fieldsIn, subjectOf, isTpmSubject, attributesOf, partsOf}
 use Rattle.rules.specs.Attributes.{noAttributes}
 use Rattle.rules.specs.Record.{sectionOf, fieldsOf, bodyLength, width, widths, word}
 use Rattle.rules.specs.Load.{termAt, subjectAt}
@@ -40,14 +39,6 @@ module _ (bs : List ℕ) (i : ℕ) where
   tpm-byte = go (eqb (getD bs i 0) 0)
     where
       go : (t : Bool) → isTpmSubject (cond t (Tpm (word bs (i + 1))) (Device (word bs (i + 1)))) ≡ t
-      go true = refl
-      go false = refl
-
-  pub device-byte : isDeviceSubject (subjectAt bs i) ≡ not (eqb (getD bs i 0) 0)
-  unfolding subjectAt isDeviceSubject
-  device-byte = go (eqb (getD bs i 0) 0)
-    where
-      go : (t : Bool) → isDeviceSubject (cond t (Tpm (word bs (i + 1))) (Device (word bs (i + 1)))) ≡ not t
       go true = refl
       go false = refl
 
@@ -86,10 +77,6 @@ module _ (bs : List ℕ) (at : ℕ) where
       let l : bodyLength (kindThere bs at) ≡ bodyBytes (kindThere bs at) = agree bodyLength bodyBytes 0x10 11 refl (kindThere bs at) (h .0) (omega (arith, h .1)) in
       subst (λ (k : ℕ). at + 1 + bodyBytes k ≤ length bs) e (omega (arith, r .rest, l))
 
-  pub body-there : (k : ℕ) → kindThere bs at ≡ k → termThere bs at ≡ termAt k (take (bodyLength k) (drop (at + 1) bs))
-  unfolding termThere
-  body-there k e = ap (λ (x : ℕ). termAt x (take (bodyLength x) (drop (at + 1) bs))) e
-
   -- 10 (identifier, attributes)
   pub public-key-there : kindThere bs at ≡ publicKeyKind → termThere bs at ≡ PublicKey (word bs (at + 1)) (record { bits = getD bs (at + 3) 0 })
   unfolding termThere termAt bodyLength widths width fieldsOf sectionOf
@@ -120,11 +107,6 @@ module _ (bs : List ℕ) (at : ℕ) where
   unfolding termThere termAt bodyLength widths width fieldsOf sectionOf
   credential-there e = rw e (λ x. Credential (word-at 6 0 (omega arith) x) (word-at 6 2 (omega arith) x) (word-at 6 4 (omega arith) x))
 
-  -- 16 (identifier)
-  pub number-there : kindThere bs at ≡ numberKind → termThere bs at ≡ Number (word bs (at + 1))
-  unfolding termThere termAt bodyLength widths width fieldsOf sectionOf
-  number-there e = rw e (λ x. Number (word-at 2 0 (omega arith) x))
-
   -- 17 (Subject, certificate, public key)
   pub idevid-request-there : kindThere bs at ≡ idevidRequestKind → termThere bs at ≡ IdevidRequest (subjectAt bs (at + 1)) (word bs (at + 4)) (word bs (at + 6))
   unfolding termThere termAt bodyLength widths width fieldsOf sectionOf
@@ -145,24 +127,12 @@ module _ (bs : List ℕ) (at : ℕ) where
   unfolding termThere termAt bodyLength widths width fieldsOf sectionOf
   pair-there e = rw e (λ x. Pair (word-at 4 0 (omega arith) x) (word-at 4 2 (omega arith) x))
 
-  -- the fields behind the Subject of a 17 and of a 19
-  pub idevid-certificate-there : kindThere bs at ≡ idevidRequestKind → getD (fieldsIn (termThere bs at)) 2 0 ≡ word bs (at + 4)
-  unfolding fieldsIn
-  idevid-certificate-there e = rw (idevid-request-there e) (behind (subjectAt bs (at + 1)) _ 0)
-
-  pub idevid-key-there : kindThere bs at ≡ idevidRequestKind → getD (fieldsIn (termThere bs at)) 3 0 ≡ word bs (at + 6)
-  unfolding fieldsIn
-  idevid-key-there e = rw (idevid-request-there e) (behind (subjectAt bs (at + 1)) _ 1)
-
+  -- the field behind the Subject of a 19
   pub signer-there : kindThere bs at ≡ certificateKind → getD (fieldsIn (termThere bs at)) 3 0 ≡ word bs (at + 6)
   unfolding fieldsIn
   signer-there e = rw (certificate-there e) (behind (subjectAt bs (at + 3)) _ 0)
 
-  -- whose they are
-  pub request-device : kindThere bs at ≡ idevidRequestKind → isDeviceSubject (subjectOf (termThere bs at)) ≡ not (eqb (getD bs (at + 1) 0) 0)
-  unfolding subjectOf
-  request-device e = rw (idevid-request-there e) (device-byte bs (at + 1))
-
+  -- whose it is
   pub certificate-tpm : kindThere bs at ≡ certificateKind → isTpmSubject (subjectOf (termThere bs at)) ≡ eqb (getD bs (at + 3) 0) 0
   unfolding subjectOf
   certificate-tpm e = rw (certificate-there e) (tpm-byte bs (at + 3))

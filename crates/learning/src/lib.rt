@@ -4,14 +4,13 @@ use rules::Attributes;
 use rules::Term;
 ghost use mathlib.Core.Path.{_≡_};
 ghost use mathlib.Core.List.{[], _∷_};
-ghost use Prim.Native.Nat.{ℕ, _+_, _*_, _<_, _≤_};
+ghost use Prim.Native.Nat.{_+_, _<_};
 ghost use lib.ListN.{length};
-ghost use Rattle.rules.specs.Limits.{rowWidth};
-ghost use Rattle.rules.specs.Term.{idevidRequestKind, certificateKind, attributesOf, partsOf};
+ghost use Rattle.rules.specs.Term.{attributesOf, partsOf};
 ghost use Rattle.rules.specs.Record.{word};
 ghost use Rattle.records.specs.Parts.{listed};
 ghost use Rattle.state.specs.View.{view, withKnows};
-ghost use Rattle.learning.specs.There.{kindThere, termThere, TermRecord, learnThere, learnPartsThere, Ready};
+ghost use Rattle.learning.specs.There.{termThere, TermRecord, learnThere, learnPartsThere, Ready};
 
 // The term of the record at a place.
 pub fn term_at(file: &[u8], at: usize) -> Term
@@ -23,39 +22,6 @@ pub fn term_at(file: &[u8], at: usize) -> Term
     let end = start + records::body_length(kind);
     let body = &file[start..end];
     records::term_in(kind, body)
-}
-
-// The term of a number, read back from its record's place.
-pub fn term_of(file: &[u8], state: &[u8], t: usize) -> Term
-    requires { ⌜ (rowWidth * t + rowWidth ≤ length (now state)) × TermRecord (now file) (view (now state) .place t) ⌝ }
-    ensures { λ r. ⌜ r ≡ termThere (now (file .entry)) (view (now (state .entry)) .place t) ⌝ }
-{
-    let at = state::place_of(state, t);
-    term_at(file, at)
-}
-
-// The IDevID request of a number, read back from its record's place.
-pub fn idevid_request_of(file: &[u8], state: &[u8], t: usize) -> Term
-    requires { ⌜ (rowWidth * t + rowWidth ≤ length (now state)) × TermRecord (now file) (view (now state) .place t) × (kindThere (now file) (view (now state) .place t) ≡ idevidRequestKind) ⌝ }
-    ensures { λ r. ⌜ r ≡ termThere (now (file .entry)) (view (now (state .entry)) .place t) ⌝ }
-{
-    let at = state::place_of(state, t);
-    let start = at + 1;
-    let end = at + 8;
-    let body = &file[start..end];
-    records::idevid_request_in(body)
-}
-
-// The certificate of a number, read back from its record's place.
-pub fn certificate_of(file: &[u8], state: &[u8], t: usize) -> Term
-    requires { ⌜ (rowWidth * t + rowWidth ≤ length (now state)) × TermRecord (now file) (view (now state) .place t) × (kindThere (now file) (view (now state) .place t) ≡ certificateKind) ⌝ }
-    ensures { λ r. ⌜ r ≡ termThere (now (file .entry)) (view (now (state .entry)) .place t) ⌝ }
-{
-    let at = state::place_of(state, t);
-    let start = at + 1;
-    let end = at + 8;
-    let body = &file[start..end];
-    records::certificate_in(body)
 }
 
 // The attributes of the key of the record at a place, read where they stand; none of another term.

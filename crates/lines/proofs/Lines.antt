@@ -27,11 +27,11 @@ use Rattle.decimal.specs.Text.{Written}
 use Rattle.decimal.proofs.Writing.{written-none, written-then, written-length}
 use Rattle.lister.specs.Text.{refusalBytes, entryBytes, totalBytes, faultBytes, listingBytes, Listed}
 use Rattle.lister.proofs.Room.{listed}
-use Rattle.engine.specs.Runs.{lentWith}
-use Rattle.engine.proofs.Few.{loaded-short, all-commands}
-use Rattle.runs.specs.declared.Finished.{Finished}
-use Rattle.runs.specs.Raw.{ranIn, Ran, Runs, Stood}
-use Rattle.runs.proofs.Whole.{enough-is, run-left, run-stood, near-place}
+use Rattle.beginning.specs.Runs.{lentWith}
+use Rattle.beginning.proofs.Few.{loaded-short, all-commands}
+use Rattle.engine.specs.declared.Finished.{Finished}
+use Rattle.engine.specs.Raw.{ranIn, Ran, Runs, Stood}
+use Rattle.engine.proofs.Whole.{enough-is, run-left, run-stood, near-place}
 use Rattle.lines.specs.Lines.{headLines, entriesOf, lastLine, HeadReady, Headed, LastReady, Ended, ListReady}
 
 -- the parts
@@ -105,7 +105,7 @@ ledger-long = length-replicate termLimit noEntry
 pub ledger-fits : termLimit ≤ length (replicate termLimit noEntry)
 ledger-fits = omega (arith, ledger-long)
 
-module _ (bs : List ℕ) (s : List ℕ) (l : List Entry) (out : List ℕ) (text s′ : List ℕ) {l′ : List Entry} {out′ tables : List ℕ} {r : Finished} (el : length l ≡ termLimit) (ready : ListReady s out text) (w : Runs bs (length bs) termLimit s l out s′ l′ out′ tables r) (ls : length s′ ≡ length s) where
+module _ (bs : List ℕ) (s : List ℕ) (l : List Entry) (out : List ℕ) (text s′ : List ℕ) {l′ : List Entry} {out′ before tables : List ℕ} {r : Finished} (el : length l ≡ termLimit) (ready : ListReady s out before text) (w : Runs bs (length bs) termLimit s l out s′ l′ out′ tables r) (ls : length s′ ≡ length s) where
   abbrev lent : Lent
   lent = lentWith s l out
 

@@ -7,9 +7,10 @@ use lib.Dec.{eqb}
 use lib.ListN.{length, take}
 use Rattle.rules.specs.Limits.{termLimit, commandLimit, stateBytes}
 use Rattle.rules.specs.Listing.{line, refusalLines}
+use Rattle.tables.specs.Regions.{EmptyTables}
 use Rattle.decimal.specs.Text.{Written}
 use Rattle.lister.specs.Text.{refusalBytes, totalBytes, listingBytes}
-use Rattle.runs.specs.declared.Finished.{Finished}
+use Rattle.engine.specs.declared.Finished.{Finished}
 
 abbrev pub headLines : Finished → List ℕ → List ℕ
 headLines r outcomes = cond (eqb (r .begun .number) 0) (refusalLines 0 (take (r .progress .accepted + r .progress .refused) outcomes)) (line 0x46 (r .begun .number ∷ r .begun .place ∷ []))
@@ -37,7 +38,8 @@ pub record LastReady (r : Finished) (out : List ℕ) (at : ℕ) : Type 0 where
 abbrev pub Ended : Finished → List ℕ → ℕ → List ℕ → ℕ → Type 0
 Ended r out at out′ n = Written out at (lastLine r) out′ n × (n ≤ at + totalBytes)
 
-pub record ListReady (s os out : List ℕ) : Type 0 where
+pub record ListReady (s os tables out : List ℕ) : Type 0 where
   pub state : stateBytes ≤ length s
   pub outcomes : commandLimit ≤ length os
+  pub empty : EmptyTables tables
   pub room : listingBytes ≤ length out

@@ -1,7 +1,7 @@
 // The listing of a file, in a buffer and on standard output.
 use libc::STDOUT_FILENO;
 use rules::Entry;
-use runs::Finished;
+use engine::Finished;
 ghost use mathlib.Core.Path.{_≡_};
 ghost use Prim.Native.Nat.{_≤_};
 ghost use lib.ListN.{length};
@@ -67,13 +67,13 @@ fn list_with(
     tables: &mut [u16; tables::WORDS],
     out: &mut [u8],
 ) -> usize
-    requires { ⌜ ListReady (now state) (now outcomes) (now out) ⌝ }
+    requires { ⌜ ListReady (now state) (now outcomes) (now tables) (now out) ⌝ }
     ensures { λ n. ⌜ Listed (listing (now (file .entry))) (now (out .entry)) (now (out .exit)) n ⌝ }
 {
     let commands = file.len();
     let e = no_entry();
     let mut ledger = [e; rules::TERM_LIMIT];
-    let done = runs::run(
+    let done = engine::run(
         file,
         commands,
         rules::TERM_LIMIT,

@@ -7,11 +7,11 @@ use Prim.Native.Nat.{ℕ, _*_, _<_, _≤_}
 use native.Mathlib.Omega.{arith}
 use lib.Dec.{eqb}
 use lib.ListN.{length}
-use Rattle.rules.specs.Limits.{partyLimit, stateBytes}
-use Rattle.rules.specs.File.{File, term, roleOf, halfIn, signsFor}
+use Rattle.rules.specs.Limits.{partyLimit, termLimit, stateBytes}
+use Rattle.rules.specs.File.{File, term, kind, field, roleOf, halfIn, signsFor}
 use Rattle.rules.specs.Load.{loaded}
 use Rattle.state.specs.View.{view}
-use Rattle.tables.specs.Regions.{tablesIn}
+use Rattle.tables.specs.Regions.{fieldWords, tablesIn, fieldOf}
 use Rattle.learning.specs.There.{termThere}
 use Rattle.checks.specs.There.{roleThere, TermsThere}
 use Rattle.setup.specs.Allowed.{noKey}
@@ -42,6 +42,9 @@ module _ {bs s tables : List ℕ} {r : Scanned} (w : Filled bs s tables r) where
 
   pub filled-finds : Finds bs tables
   filled-finds = record {
+    kindIs = subst⁻¹ (λ (f : File). (t : ℕ) → t < length (f .terms) → tablesIn tables .terms .kind t ≡ kind f t) file-is (w .tabled .kindIs);
+    fieldIs = subst⁻¹ (λ (f : File). (t i : ℕ) → t < length (f .terms) → i < fieldWords → fieldOf (tablesIn tables .terms) t i ≡ field f t i) file-is (w .tabled .fieldIs);
+    few = subst⁻¹ (λ (f : File). length (f .terms) ≤ termLimit) file-is (w .tabled .few);
     signer = subst⁻¹ (λ (f : File). (p k : ℕ) → p < partyLimit → k < noKey → signsFor f p k ≡ eqb (tablesIn tables .signer p) k) file-is (signs-for-table bs (w .file) (tablesIn tables) (w .loads) (w .tabled));
     half = subst⁻¹ (λ (f : File). (test : ℕ → Bool) (k : ℕ) → k < length (f .terms) → halfIn f test k ≡ passes test (tablesIn tables .half k)) file-is (w .tabled .half);
     declared = subst⁻¹ (λ (f : File). (k : ℕ) → tablesIn tables .half k ≤ length (f .terms)) file-is (w .tabled .declared);

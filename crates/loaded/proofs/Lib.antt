@@ -1,4 +1,5 @@
 pub mod Fields
+pub mod Declared
 pub mod Standing
 pub mod Filled
 pub mod Learning
@@ -7,3 +8,4 @@ pub mod Tested
 pub mod Ledger
 pub mod Boards
 pub mod Room
+pub mod Noted

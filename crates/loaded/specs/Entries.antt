@@ -65,6 +65,7 @@ pub record SameKeys (v w : Tables) : Type 0 where
   pub words : w .words ≡ v .words
   pub signer : w .signer ≡ v .signer
   pub half : w .half ≡ v .half
+  pub terms : w .terms ≡ v .terms
 
 -- a ledger that a command is accepted on
 pub record AcceptedOn (bs s tables : List ℕ) (n : ℕ) (c : Command) (old : List Entry) : Type 0 where

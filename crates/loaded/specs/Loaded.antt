@@ -1,19 +1,21 @@
 -- A loaded file in bytes: what the file's bytes, the state's bytes and the tables hold, and what a command decides and leaves there.
 use mathlib.Core.Path.{_≡_}
-use mathlib.Core.Bool.{Bool}
+use mathlib.Core.Bool.{Bool, cond}
 use mathlib.Core.List.{List}
 use Prim.Native.Nat.{ℕ, _+_, _*_, _<_, _≤_}
 use lib.Dec.{eqb}
 use lib.ListN.{length}
 use Rattle.rules.specs.declared.Entry.{Entry}
-use Rattle.rules.specs.Limits.{rowWidth, partyLimit, stateBytes}
-use Rattle.rules.specs.File.{File, Command, term, roleOf, halfIn, signsFor}
+use Rattle.rules.specs.declared.Subject.{Subject}
+use Rattle.rules.specs.declared.Subject.the-variants.{Tpm, Device}
+use Rattle.rules.specs.Limits.{rowWidth, partyLimit, termLimit, stateBytes}
+use Rattle.rules.specs.File.{File, Command, term, kind, field, roleOf, halfIn, signsFor}
 use Rattle.rules.specs.Load.{Load, loaded, refused, load, emptyFile}
 use Rattle.rules.specs.State.{learnt}
 use Rattle.rules.specs.Run.{outcome, effectOf}
 use Rattle.state.specs.View.{view}
 use Rattle.state.proofs.Exact.{stateOf}
-use Rattle.tables.specs.Regions.{tableWords, tablesIn}
+use Rattle.tables.specs.Regions.{fieldWords, tableWords, tablesIn, fieldOf}
 use Rattle.learning.specs.There.{termThere, TermRecord}
 use Rattle.checks.specs.There.{roleThere, TermsThere}
 use Rattle.setup.specs.Allowed.{noKey}
@@ -37,11 +39,14 @@ pub record Holds (bs s : List ℕ) : Type 0 where
   pub there : TermsThere bs s (length (fileIn bs .terms))
   pub termIs : (t : ℕ) → t < length (fileIn bs .terms) → termThere bs (view s .place t) ≡ term (fileIn bs) t
 
--- The tables find the signing keys and the private halves.
+-- The tables find the signing keys and the private halves, and have each term's kind and fields.
 pub record Finds (bs tables : List ℕ) : Type 0 where
   pub signer : (p k : ℕ) → p < partyLimit → k < noKey → signsFor (fileIn bs) p k ≡ eqb (tablesIn tables .signer p) k
   pub half : (test : ℕ → Bool) (k : ℕ) → k < length (fileIn bs .terms) → halfIn (fileIn bs) test k ≡ passes test (tablesIn tables .half k)
   pub declared : (k : ℕ) → tablesIn tables .half k ≤ length (fileIn bs .terms)
+  pub kindIs : (t : ℕ) → t < length (fileIn bs .terms) → tablesIn tables .terms .kind t ≡ kind (fileIn bs) t
+  pub fieldIs : (t i : ℕ) → t < length (fileIn bs .terms) → i < fieldWords → fieldOf (tablesIn tables .terms) t i ≡ field (fileIn bs) t i
+  pub few : length (fileIn bs .terms) ≤ termLimit
   pub words : length tables ≡ tableWords
 
 -- a party of the file, by its record
@@ -54,6 +59,16 @@ pub record TermHere (bs s : List ℕ) (t : ℕ) : Type 0 where
   pub row : rowWidth * t + rowWidth ≤ length s
   pub whole : TermRecord bs (view s .place t)
   pub same : termThere bs (view s .place t) ≡ term (fileIn bs) t
+
+-- a term of the file, as the tables have it
+pub record TermNoted (bs tables : List ℕ) (t : ℕ) : Type 0 where
+  pub few : t < termLimit
+  pub kindIs : tablesIn tables .terms .kind t ≡ kind (fileIn bs) t
+  pub fieldIs : (i : ℕ) → i < fieldWords → fieldOf (tablesIn tables .terms) t i ≡ field (fileIn bs) t i
+
+-- a Subject by its two fields
+unfoldable pub subjectBy : ℕ → ℕ → Subject
+subjectBy tag number = cond (eqb tag 0) (Tpm number) (Device number)
 
 -- a party has learnt a term: the columns of the rules' state, the places as they were
 pub record Learns (bs s s′ : List ℕ) (p t : ℕ) : Type 0 where

@@ -1,16 +1,14 @@
-// A loaded file in bytes: what commands read of its parties and terms, word by word where they stand.
+// A loaded file: what commands read of its parties, where they stand, and of its terms, by the tables. The file is lent too, for the
+// contracts to speak of.
 ghost use mathlib.Core.Path.{_≡_};
-ghost use Prim.Native.Nat.{_+_, _*_, _<_, _≤_};
+ghost use Prim.Native.Nat.{_+_, _<_};
 ghost use lib.Dec.{eqb};
 ghost use lib.ListN.{length};
-ghost use Rattle.rules.specs.Limits.{rowWidth, termLimit};
-ghost use Rattle.rules.specs.Term.{hashKind, signatureKind, attestKind, credentialKind, idevidRequestKind, ldevidRequestKind, certificateKind, pairKind};
-ghost use Rattle.rules.specs.Record.{word};
-ghost use Rattle.rules.specs.File.{isRole, kind, isKind, hashedTerm, message, signingKey, attestedKey, credentialTerm, credentialNumber, credentialKey, idevidCertificate, idevidKey, ldevidMessage, ldevidCertificate, certifiedKey, signer, leftOf, rightOf};
+ghost use Rattle.rules.specs.Limits.{termLimit};
+ghost use Rattle.rules.specs.File.{isRole, isKind, field, attributes, hashedTerm, message, signingKey, attestedKey, credentialTerm, credentialNumber, credentialKey, idevidCertificate, idevidKey, ldevidMessage, ldevidCertificate, certifiedKey, signer, leftOf, rightOf};
 ghost use Rattle.rules.specs.Device.{keyHas};
-ghost use Rattle.state.specs.View.{view};
-ghost use Rattle.tables.specs.Regions.{tablesIn};
-ghost use Rattle.loaded.specs.Loaded.{fileIn, Holds, PartyHere, TermHere, Learns};
+ghost use Rattle.tables.specs.Regions.{fieldWords, tablesIn};
+ghost use Rattle.loaded.specs.Loaded.{fileIn, Holds, PartyHere, TermNoted, Learns};
 
 // Whether a party has a role.
 pub fn is_role(file: &[u8], party: usize, role: u8) -> bool
@@ -21,144 +19,153 @@ pub fn is_role(file: &[u8], party: usize, role: u8) -> bool
 }
 
 // Whether a term is of a kind.
-pub fn is_kind(file: &[u8], state: &[u8], t: usize, kind: u8) -> bool
-    requires { ⌜ TermHere (now file) (now state) t ⌝ }
+pub fn is_kind(file: &[u8], tables: &[u16; tables::WORDS], t: usize, kind: u16) -> bool
+    requires { ⌜ TermNoted (now file) (now tables) t ⌝ }
     ensures { λ r. ⌜ r ≡ isKind (fileIn (now (file .entry))) kind t ⌝ }
 {
-    checks::kind_there(file, state, t) == kind
+    tables::kind_of(tables, t) == kind
+}
+
+// A field of a term.
+pub fn field_of(file: &[u8], tables: &[u16; tables::WORDS], t: usize, i: usize) -> usize
+    requires { ⌜ TermNoted (now file) (now tables) t × (i < fieldWords) ⌝ }
+    ensures { λ r. ⌜ r ≡ field (fileIn (now (file .entry))) t i ⌝ }
+{
+    tables::field_of(tables, t, i) as usize
+}
+
+// The attributes of a key, as a number; 0 of another term.
+pub fn attributes_of(file: &[u8], tables: &[u16; tables::WORDS], t: usize) -> u16
+    requires { ⌜ TermNoted (now file) (now tables) t ⌝ }
+    ensures { λ r. ⌜ r ≡ attributes (fileIn (now (file .entry))) t .bits ⌝ }
+{
+    if tables::kind_of(tables, t) <= 0x11 {
+        return tables::field_of(tables, t, 1);
+    }
+    0
 }
 
 // Whether a key has one of the four attributes.
-pub fn key_has(file: &[u8], state: &[u8], t: usize, flag: u8) -> bool
-    requires { ⌜ TermHere (now file) (now state) t × (0 < flag) ⌝ }
+pub fn key_has(file: &[u8], tables: &[u16; tables::WORDS], t: usize, flag: u8) -> bool
+    requires { ⌜ TermNoted (now file) (now tables) t × (0 < flag) ⌝ }
     ensures { λ r. ⌜ r ≡ keyHas (fileIn (now (file .entry))) t flag ⌝ }
 {
-    let at = state::place_of(state, t);
-    let attributes = learning::attributes_at(file, at);
-    records::has(attributes, flag)
-}
-
-// A word of a term's record.
-fn word_of(file: &[u8], state: &[u8], t: usize, i: usize) -> usize
-    requires { ⌜ (rowWidth * t + rowWidth ≤ length (now state)) × (view (now state) .place t + i + 1 < length (now file)) ⌝ }
-    ensures { λ r. ⌜ r ≡ word (now (file .entry)) (view (now (state .entry)) .place t + i) ⌝ }
-{
-    let at = state::place_of(state, t);
-    records::word_at(file, at + i) as usize
+    let bits = attributes_of(file, tables, t);
+    bits / flag as u16 % 2 == 1
 }
 
 // What a hash is of.
-pub fn hashed_term(file: &[u8], state: &[u8], t: usize) -> usize
-    requires { ⌜ TermHere (now file) (now state) t × (kind (fileIn (now file)) t ≡ hashKind) ⌝ }
+pub fn hashed_term(file: &[u8], tables: &[u16; tables::WORDS], t: usize) -> usize
+    requires { ⌜ TermNoted (now file) (now tables) t ⌝ }
     ensures { λ r. ⌜ r ≡ hashedTerm (fileIn (now (file .entry))) t ⌝ }
 {
-    word_of(file, state, t, 1)
+    field_of(file, tables, t, 0)
 }
 
 // The message of a signature.
-pub fn message_of(file: &[u8], state: &[u8], t: usize) -> usize
-    requires { ⌜ TermHere (now file) (now state) t × (kind (fileIn (now file)) t ≡ signatureKind) ⌝ }
+pub fn message_of(file: &[u8], tables: &[u16; tables::WORDS], t: usize) -> usize
+    requires { ⌜ TermNoted (now file) (now tables) t ⌝ }
     ensures { λ r. ⌜ r ≡ message (fileIn (now (file .entry))) t ⌝ }
 {
-    word_of(file, state, t, 1)
+    field_of(file, tables, t, 0)
 }
 
 // The private key that signed.
-pub fn signing_key_of(file: &[u8], state: &[u8], t: usize) -> usize
-    requires { ⌜ TermHere (now file) (now state) t × (kind (fileIn (now file)) t ≡ signatureKind) ⌝ }
+pub fn signing_key_of(file: &[u8], tables: &[u16; tables::WORDS], t: usize) -> usize
+    requires { ⌜ TermNoted (now file) (now tables) t ⌝ }
     ensures { λ r. ⌜ r ≡ signingKey (fileIn (now (file .entry))) t ⌝ }
 {
-    word_of(file, state, t, 3)
+    field_of(file, tables, t, 1)
 }
 
 // The attested public key.
-pub fn attested_key_of(file: &[u8], state: &[u8], t: usize) -> usize
-    requires { ⌜ TermHere (now file) (now state) t × (kind (fileIn (now file)) t ≡ attestKind) ⌝ }
+pub fn attested_key_of(file: &[u8], tables: &[u16; tables::WORDS], t: usize) -> usize
+    requires { ⌜ TermNoted (now file) (now tables) t ⌝ }
     ensures { λ r. ⌜ r ≡ attestedKey (fileIn (now (file .entry))) t ⌝ }
 {
-    word_of(file, state, t, 1)
+    field_of(file, tables, t, 0)
 }
 
 // The first term, the number and the public key of a credential.
-pub fn credential_term_of(file: &[u8], state: &[u8], t: usize) -> usize
-    requires { ⌜ TermHere (now file) (now state) t × (kind (fileIn (now file)) t ≡ credentialKind) ⌝ }
+pub fn credential_term_of(file: &[u8], tables: &[u16; tables::WORDS], t: usize) -> usize
+    requires { ⌜ TermNoted (now file) (now tables) t ⌝ }
     ensures { λ r. ⌜ r ≡ credentialTerm (fileIn (now (file .entry))) t ⌝ }
 {
-    word_of(file, state, t, 1)
+    field_of(file, tables, t, 0)
 }
 
-pub fn credential_number_of(file: &[u8], state: &[u8], t: usize) -> usize
-    requires { ⌜ TermHere (now file) (now state) t × (kind (fileIn (now file)) t ≡ credentialKind) ⌝ }
+pub fn credential_number_of(file: &[u8], tables: &[u16; tables::WORDS], t: usize) -> usize
+    requires { ⌜ TermNoted (now file) (now tables) t ⌝ }
     ensures { λ r. ⌜ r ≡ credentialNumber (fileIn (now (file .entry))) t ⌝ }
 {
-    word_of(file, state, t, 3)
+    field_of(file, tables, t, 1)
 }
 
-pub fn credential_key_of(file: &[u8], state: &[u8], t: usize) -> usize
-    requires { ⌜ TermHere (now file) (now state) t × (kind (fileIn (now file)) t ≡ credentialKind) ⌝ }
+pub fn credential_key_of(file: &[u8], tables: &[u16; tables::WORDS], t: usize) -> usize
+    requires { ⌜ TermNoted (now file) (now tables) t ⌝ }
     ensures { λ r. ⌜ r ≡ credentialKey (fileIn (now (file .entry))) t ⌝ }
 {
-    word_of(file, state, t, 5)
+    field_of(file, tables, t, 2)
 }
 
 // The certificate and the public key of an IDevID request.
-pub fn idevid_certificate_of(file: &[u8], state: &[u8], t: usize) -> usize
-    requires { ⌜ TermHere (now file) (now state) t × (kind (fileIn (now file)) t ≡ idevidRequestKind) ⌝ }
+pub fn idevid_certificate_of(file: &[u8], tables: &[u16; tables::WORDS], t: usize) -> usize
+    requires { ⌜ TermNoted (now file) (now tables) t ⌝ }
     ensures { λ r. ⌜ r ≡ idevidCertificate (fileIn (now (file .entry))) t ⌝ }
 {
-    word_of(file, state, t, 4)
+    field_of(file, tables, t, 2)
 }
 
-pub fn idevid_key_of(file: &[u8], state: &[u8], t: usize) -> usize
-    requires { ⌜ TermHere (now file) (now state) t × (kind (fileIn (now file)) t ≡ idevidRequestKind) ⌝ }
+pub fn idevid_key_of(file: &[u8], tables: &[u16; tables::WORDS], t: usize) -> usize
+    requires { ⌜ TermNoted (now file) (now tables) t ⌝ }
     ensures { λ r. ⌜ r ≡ idevidKey (fileIn (now (file .entry))) t ⌝ }
 {
-    word_of(file, state, t, 6)
+    field_of(file, tables, t, 3)
 }
 
 // The message and the certificate of an LDevID request.
-pub fn ldevid_message_of(file: &[u8], state: &[u8], t: usize) -> usize
-    requires { ⌜ TermHere (now file) (now state) t × (kind (fileIn (now file)) t ≡ ldevidRequestKind) ⌝ }
+pub fn ldevid_message_of(file: &[u8], tables: &[u16; tables::WORDS], t: usize) -> usize
+    requires { ⌜ TermNoted (now file) (now tables) t ⌝ }
     ensures { λ r. ⌜ r ≡ ldevidMessage (fileIn (now (file .entry))) t ⌝ }
 {
-    word_of(file, state, t, 1)
+    field_of(file, tables, t, 0)
 }
 
-pub fn ldevid_certificate_of(file: &[u8], state: &[u8], t: usize) -> usize
-    requires { ⌜ TermHere (now file) (now state) t × (kind (fileIn (now file)) t ≡ ldevidRequestKind) ⌝ }
+pub fn ldevid_certificate_of(file: &[u8], tables: &[u16; tables::WORDS], t: usize) -> usize
+    requires { ⌜ TermNoted (now file) (now tables) t ⌝ }
     ensures { λ r. ⌜ r ≡ ldevidCertificate (fileIn (now (file .entry))) t ⌝ }
 {
-    word_of(file, state, t, 3)
+    field_of(file, tables, t, 1)
 }
 
 // The certified key and the signer's private key of a certificate.
-pub fn certified_key_of(file: &[u8], state: &[u8], t: usize) -> usize
-    requires { ⌜ TermHere (now file) (now state) t × (kind (fileIn (now file)) t ≡ certificateKind) ⌝ }
+pub fn certified_key_of(file: &[u8], tables: &[u16; tables::WORDS], t: usize) -> usize
+    requires { ⌜ TermNoted (now file) (now tables) t ⌝ }
     ensures { λ r. ⌜ r ≡ certifiedKey (fileIn (now (file .entry))) t ⌝ }
 {
-    word_of(file, state, t, 1)
+    field_of(file, tables, t, 0)
 }
 
-pub fn signer_of(file: &[u8], state: &[u8], t: usize) -> usize
-    requires { ⌜ TermHere (now file) (now state) t × (kind (fileIn (now file)) t ≡ certificateKind) ⌝ }
+pub fn signer_of(file: &[u8], tables: &[u16; tables::WORDS], t: usize) -> usize
+    requires { ⌜ TermNoted (now file) (now tables) t ⌝ }
     ensures { λ r. ⌜ r ≡ signer (fileIn (now (file .entry))) t ⌝ }
 {
-    word_of(file, state, t, 6)
+    field_of(file, tables, t, 3)
 }
 
 // The two terms of a pair.
-pub fn left_of(file: &[u8], state: &[u8], t: usize) -> usize
-    requires { ⌜ TermHere (now file) (now state) t × (kind (fileIn (now file)) t ≡ pairKind) ⌝ }
+pub fn left_of(file: &[u8], tables: &[u16; tables::WORDS], t: usize) -> usize
+    requires { ⌜ TermNoted (now file) (now tables) t ⌝ }
     ensures { λ r. ⌜ r ≡ leftOf (fileIn (now (file .entry))) t ⌝ }
 {
-    word_of(file, state, t, 1)
+    field_of(file, tables, t, 0)
 }
 
-pub fn right_of(file: &[u8], state: &[u8], t: usize) -> usize
-    requires { ⌜ TermHere (now file) (now state) t × (kind (fileIn (now file)) t ≡ pairKind) ⌝ }
+pub fn right_of(file: &[u8], tables: &[u16; tables::WORDS], t: usize) -> usize
+    requires { ⌜ TermNoted (now file) (now tables) t ⌝ }
     ensures { λ r. ⌜ r ≡ rightOf (fileIn (now (file .entry))) t ⌝ }
 {
-    word_of(file, state, t, 3)
+    field_of(file, tables, t, 1)
 }
 
 // Whether a term is noted as the private half of a key.

@@ -13,8 +13,9 @@ use Rattle.rules.specs.Limits.{partyLimit, stateBytes}
 use Rattle.rules.specs.File.{File}
 use Rattle.setup.specs.Allowed.{noKey}
 use Rattle.state.specs.View.{view}
-use Rattle.tables.specs.Regions.{Unlinked, tablesIn}
+use Rattle.tables.specs.Regions.{Unlinked, Terms, fieldOf, tablesIn}
 use Rattle.index.specs.Indexed.{Indexed, passes}
+use Rattle.index.proofs.Fields.{kind-follows, field-follows}
 use Rattle.index.proofs.Halves.{half-follows}
 use Rattle.lookup.specs.Commands.{commandsFrom}
 use Rattle.scan.specs.declared.Scanned.{Scanned}
@@ -22,8 +23,8 @@ use Rattle.scan.specs.Describes.{Describes, ScanReady, ScanResult}
 use Rattle.loader.specs.Tabled.{Tabled, FillReady, FillResult, Signed}
 
 -- what the scan starts from
-pub scan-ready : (bytes old x : List ℕ) → FillReady bytes old → x ≡ replicate (length old) 0 → length x ≡ length old → ScanReady bytes x (replicate partyLimit noKey)
-scan-ready bytes old x r e l = record {
+pub scan-ready : {bytes old x tables : List ℕ} → FillReady bytes old tables → x ≡ replicate (length old) 0 → length x ≡ length old → ScanReady bytes x (replicate partyLimit noKey)
+scan-ready r e l = record {
   short = r .short;
   room = l ∙ r .room;
   clear = e ∙ ap (λ (n : ℕ). replicate n 0) (r .room);
@@ -39,7 +40,7 @@ module _ (bytes s signers : List ℕ) (r : Scanned) (found : ScanResult bytes s 
       go (inl (z, w)) = absurd (h z)
       go (inr (m, z, q)) = inr (m, z, q, e ∙ ap (λ (n : ℕ). replicate n 0) (l ∙ room))
 
-  module _ (links keys before tables : List ℕ) (indexed : Indexed bytes (view s .place) links keys before (r .tally .terms)) (signed : Signed signers (tablesIn before) (tablesIn tables) partyLimit) where
+  module _ (links before tables : List ℕ) (indexed : Indexed bytes (view s .place) links before (r .tally .terms)) (signed : Signed signers (tablesIn before) (tablesIn tables) partyLimit) where
     -- a half is a declared term
     half-most : (k : ℕ) → tablesIn before .half k ≤ r .tally .terms
     half-most k = go (ltb k (r .tally .terms)) refl
@@ -59,6 +60,9 @@ module _ (bytes s signers : List ℕ) (r : Scanned) (found : ScanResult bytes s 
           half-follows f bytes (view s .place) (tablesIn before .half) (d .termsAre) (d .termIs) (indexed .halves) (indexed .unlike) test k (omega (arith, d .termsAre))
           ∙ ap (λ (column : ℕ → ℕ). passes test (column k)) (sym (signed .half));
       declared = λ k. let e = ap (λ (column : ℕ → ℕ). column k) (signed .half) in omega (arith, half-most k, d .termsAre, e);
+      kindIs = λ t l. ap (λ (v : Terms). v .kind t) (signed .terms) ∙ kind-follows f (d .there) (d .termIs) indexed t (omega (arith, d .termsAre));
+      fieldIs = λ t i l h. ap (λ (v : Terms). fieldOf v t i) (signed .terms) ∙ field-follows f (d .there) (d .termIs) indexed t (omega (arith, d .termsAre)) i h;
+      few = omega (arith, d .termsAre, d .there .few);
       entry = λ t. ap (λ (column : ℕ → ℕ). column t) (signed .entry) ∙ indexed .unlisted t;
       depth = λ t. ap (λ (column : ℕ → ℕ). column t) (signed .depth) ∙ indexed .shallow t;
       unlinked = subst⁻¹ Unlinked (signed .boards) (indexed .unlinked);

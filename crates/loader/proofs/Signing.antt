@@ -20,7 +20,7 @@ use Rattle.loader.specs.Tabled.{Tabled, Signed}
 use Rattle.scan.proofs.Faults.{same-test, signer-is, signer-given}
 
 pub signed-none : (signers : List ℕ) (v : Tables) → Signed signers v v 0
-signed-none signers v = record { signer = λ p l. absurd (omega arith); half = refl; entry = refl; depth = refl; boards = refl; words = refl }
+signed-none signers v = record { signer = λ p l. absurd (omega arith); half = refl; entry = refl; depth = refl; terms = refl; boards = refl; words = refl }
 
 -- one more
 pub signed-next : {signers : List ℕ} {v w w′ : Tables} {n : ℕ} → Signed signers v w n → w′ ≡ withSigner w (put (w .signer) n (getD signers n 0)) → Signed signers v w′ (n + 1)
@@ -30,6 +30,7 @@ signed-next {signers} {v} {w} {w′} {n} s e = record {
   half = ap (λ (t : Tables). t .half) e ∙ s .half;
   entry = ap (λ (t : Tables). t .entry) e ∙ s .entry;
   depth = ap (λ (t : Tables). t .depth) e ∙ s .depth;
+  terms = ap (λ (t : Tables). t .terms) e ∙ s .terms;
   boards = ap (λ (t : Tables). t .boards) e ∙ s .boards;
   words = ap (λ (t : Tables). t .words) e ∙ s .words;
 }

@@ -20,17 +20,15 @@ fn note_signers(tables: &mut [u16; tables::WORDS], signers: &[u16; 8])
     }
 }
 
-// Fills the state and the tables of a file; where it is refused the state is cleared.
+// Fills the state and the empty tables of a file; where it is refused the state is cleared.
 pub fn fill(file: &[u8], state: &mut [u8], tables: &mut [u16; tables::WORDS]) -> Scanned
-    requires { ⌜ FillReady (now file) (now state) ⌝ }
+    requires { ⌜ FillReady (now file) (now state) (now tables) ⌝ }
     ensures { λ r. ⌜ FillResult (now (file .entry)) (now (state .exit)) (now (tables .exit)) r ⌝ }
 {
     let mut signers = [setup::NO_KEY; 8];
     let mut links = [0u16; index::LINKS];
-    let mut keys = [0u64; rules::TERM_LIMIT];
-    *tables = [0u16; tables::WORDS];
     state::clear(state);
-    let found = scan::scan(file, state, &mut signers, &mut links, &mut keys, tables);
+    let found = scan::scan(file, state, &mut signers, &mut links, tables);
     let number = found.number;
     if number != 0 {
         state::clear(state);

@@ -1,24 +1,22 @@
--- What a loop over commands has left: the laws of a turn and of the end.
+-- What a loop over commands has left: the laws of the next command and of the end.
 --     command-range, command-long     the kinds of commands, and their least length
 --     command-here, commands-next     the record at a place inside the file, and what stands after it
---     left-start, left-next, left-stop, left-all     the commands left at the first turn, before a turn, at the end of the file, after as many as were asked for
---     run-next, run-stop, outcomes-next, outcomes-stop     the same of the rules' run and outcomes
+--     left-next, left-inside     the commands left, by the next one; at the end of the file, however many are asked for
 --     first-commands, commands-of, commands-wellformed     what holds before the loop, of a file that loads
 -- Assumes nothing.
-use mathlib.Core.Path.{_≡_, refl, ap, _∙_}
+use mathlib.Core.Path.{_≡_, refl, sym, ap, _∙_}
 use mathlib.Core.Bool.{Bool, true, false, cond, _&&_}
 use mathlib.Core.Logic.{_⊎_, inl, inr, ⊎-elim}
 use mathlib.Core.List.{List, [], _∷_, reverseAux, List·Memᴰ, List·Memᴰ·head, List·Memᴰ·tail, List·Memᴰ·cases-cons}
 use Prim.Native.Nat.{ℕ, zero, suc, _+_, _*_, _-_, _<_, _≤_}
 use native.Mathlib.Omega.{arith}
-use lib.Dec.{eqb, leb}
+use lib.Dec.{eqb, leb, ltb}
 use lib.ListN.{length, take}
-use borrow.Author.Tests.{lt-ltb, le-ltb, leb-true}
+use borrow.Author.Tests.{lt-ltb, le-ltb, ltb-false, leb-true}
 use Rattle.rules.specs.Record.{lastKind, kindCount, sectionOf, commandSection, bodyLength, widths, width, fieldsOf}
 use Rattle.rules.specs.File.{File, Command}
 use Rattle.rules.specs.Load.{load, loaded, commandsOf}
-use Rattle.rules.specs.State.{State}
-use Rattle.rules.specs.Run.{outcome, after, run, outcomes, firstCommands}
+use Rattle.rules.specs.Run.{firstCommands}
 use Rattle.theorems.proofs.Loading.{Wellformed, checked}
 use Rattle.learning.specs.There.{kindThere}
 use Rattle.records.proofs.EachKind.{agree}
@@ -69,52 +67,26 @@ stand-map P Q f bs zero at s = s
 stand-map P Q f bs (suc m) at s = (record { whole = s .0 .whole; isCommand = s .0 .isCommand; known = f _ (s .0 .known) }, stand-map P Q f bs m (nextPlace bs at) (s .1))
 
 module _ (bs : List ℕ) (at : ℕ) where
-  left-suc : (n : ℕ) → at < length bs → commandsLeft bs at (suc n) ≡ commandThere bs at ∷ commandsLeft bs (nextPlace bs at) n
+  -- a command more
+  pub left-next : (n : ℕ) → 0 < n → at < length bs → commandsLeft bs at n ≡ commandThere bs at ∷ commandsLeft bs (nextPlace bs at) (n - 1)
   unfolding commandsLeft
-  left-suc n h = rw (lt-ltb at (length bs) h) refl
-
-  -- a turn: the i-th of n
-  pub left-next : (n i : ℕ) → at < length bs → i < n → commandsLeft bs at (n - i) ≡ commandThere bs at ∷ commandsLeft bs (nextPlace bs at) (n - (i + 1))
-  left-next n i h l =
-      let e : n - i ≡ suc (n - (i + 1)) = omega arith in
-      ap (commandsLeft bs at) e ∙ left-suc (n - (i + 1)) h
+  left-next n l h =
+      let e : n ≡ suc (n - 1) = omega arith in
+      ap (commandsLeft bs at) e ∙ rw (lt-ltb at (length bs) h) refl
 
   left-end : (n : ℕ) → length bs ≤ at → commandsLeft bs at n ≡ []
   unfolding commandsLeft
   left-end zero h = refl
   left-end (suc n) h = rw (le-ltb at (length bs) h) refl
 
-  -- the first turn
-  pub left-start : (n : ℕ) → commandsLeft bs at (n - 0) ≡ commandsLeft bs at n
-  left-start n = let e : n - 0 ≡ n = omega arith in ap (commandsLeft bs at) e
-
-  -- the end of the file
-  pub left-stop : (n i : ℕ) → length bs ≤ at → commandsLeft bs at (n - i) ≡ []
-  left-stop n i h = left-end (n - i) h
-
-  -- as many as were asked for
-  pub left-all : (n i : ℕ) → n ≤ i → commandsLeft bs at (n - i) ≡ []
+  -- at the end of the file none is asked for
+  pub left-inside : (n : ℕ) → commandsLeft bs at (cond (ltb at (length bs)) n 0) ≡ commandsLeft bs at n
   unfolding commandsLeft
-  left-all n i h = let e : n - i ≡ 0 = omega arith in ap (commandsLeft bs at) e
-
--- the rules' run and outcomes
-module _ (f : File) (bs : List ℕ) (at : ℕ) (s : State) (n i : ℕ) where
-  pub run-next : at < length bs → i < n → run f (commandsLeft bs at (n - i)) s ≡ run f (commandsLeft bs (nextPlace bs at) (n - (i + 1))) (after f s (commandThere bs at))
-  unfolding run
-  run-next h l = rw (left-next bs at n i h l) refl
-
-  pub outcomes-next : at < length bs → i < n
-      → outcomes f (commandsLeft bs at (n - i)) s ≡ outcome f s (commandThere bs at) ∷ outcomes f (commandsLeft bs (nextPlace bs at) (n - (i + 1))) (after f s (commandThere bs at))
-  unfolding outcomes
-  outcomes-next h l = rw (left-next bs at n i h l) refl
-
-  pub run-stop : commandsLeft bs at (n - i) ≡ [] → run f (commandsLeft bs at (n - i)) s ≡ s
-  unfolding run
-  run-stop e = rw e refl
-
-  pub outcomes-stop : commandsLeft bs at (n - i) ≡ [] → outcomes f (commandsLeft bs at (n - i)) s ≡ []
-  unfolding outcomes
-  outcomes-stop e = rw e refl
+  left-inside n = go (ltb at (length bs)) refl
+    where
+      go : (b : Bool) → ltb at (length bs) ≡ b → commandsLeft bs at (cond b n 0) ≡ commandsLeft bs at n
+      go true e = refl
+      go false e = sym (left-end n (ltb-false at (length bs) e))
 
 take-left : (P : Command → Type 0) (bs : List ℕ) (n m at : ℕ) → Stand P bs at m → take n (commandsThere bs at m) ≡ commandsLeft bs at n
 unfolding Stand commandsThere commandsLeft

@@ -24,11 +24,11 @@ use Rattle.tables.specs.Regions.{tablesIn}
 use Rattle.loaded.specs.Loaded.{fileIn}
 use Rattle.loaded.proofs.Ledger.{column-none, column-listed}
 use Rattle.turns.specs.declared.Begun.{Begun}
-use Rattle.engine.specs.Begins.{roomy, stops}
-use Rattle.engine.specs.Runs.{lentWith}
-use Rattle.runs.specs.declared.Finished.{Finished}
-use Rattle.runs.specs.Raw.{ranIn, Ran, Runs, Stood}
-use Rattle.runs.proofs.Whole.{run-left, run-stood, near-place, run-short}
+use Rattle.beginning.specs.Begins.{roomy, stops}
+use Rattle.beginning.specs.Runs.{lentWith}
+use Rattle.engine.specs.declared.Finished.{Finished}
+use Rattle.engine.specs.Raw.{ranIn, Ran, Runs, Stood}
+use Rattle.engine.proofs.Whole.{run-left, run-stood, near-place, run-short}
 use Rattle.path.specs.declared.Stage.{Stage}
 use Rattle.path.specs.Climbing.{placeAt, climbed, firstLength, FirstReady, firstStage, ClimbReady, AnswerReady, Answers}
 use Rattle.path.proofs.Climbing.{climbed-none, climbed-steps}

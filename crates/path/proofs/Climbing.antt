@@ -22,7 +22,7 @@ use Rattle.loaded.specs.Entries.{Enters}
 use Rattle.loaded.proofs.Ledger.{entry-inside, parent-read, parent-none}
 use Rattle.path.specs.declared.Stage.{Stage}
 use Rattle.rules.specs.declared.PathAnswer.the-variants as path
-use Rattle.runs.specs.declared.Finished.{Finished}
+use Rattle.engine.specs.declared.Finished.{Finished}
 use Rattle.path.specs.Climbing.{placeAt, parentIn, climbed, firstLength, firstStage, parentBy, nextStage, ClimbReady, Answers}
 
 -- terms beyond the limit have no entry

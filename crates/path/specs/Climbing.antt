@@ -10,7 +10,7 @@ use Rattle.rules.specs.declared.PathAnswer.{PathAnswer}
 use Rattle.rules.specs.Limits.{termLimit, depthLimit}
 use Rattle.rules.specs.Lent.{Answer, success, refusal, noEntry, pathInNumbers}
 use Rattle.tables.specs.Regions.{tablesIn}
-use Rattle.runs.specs.declared.Finished.{Finished}
+use Rattle.engine.specs.declared.Finished.{Finished}
 use Rattle.path.specs.declared.Stage.{Stage}
 
 -- the place of the ledger that a number of the column stands for; some place where it stands for none

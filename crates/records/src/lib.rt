@@ -12,7 +12,7 @@ ghost use Rattle.rules.specs.Term.{idevidRequestKind, certificateKind, subjectF
 ghost use Rattle.rules.specs.Record.{lastKind, sectionOf, bodyLength, fieldsOf, width as widthOf, termSection, word};
 ghost use Rattle.rules.specs.Load.{termAt, subjectAt};
 ghost use Rattle.records.specs.Codes.{packed, lowField, FieldRows};
-ghost use Rattle.records.specs.Keys.{keyOf};
+ghost use Rattle.records.specs.Keys.{keyOf, wordsOf};
 
 // Two bytes, high byte first.
 pub fn word_at(s: &[u8], i: usize) -> u16
@@ -316,8 +316,27 @@ pub fn term_in(kind: u8, body: &[u8]) -> Term
     }
 }
 
+// The first four fields of a term, 0 where it has fewer.
+pub struct Words {
+    pub first: u16,
+    pub second: u16,
+    pub third: u16,
+    pub fourth: u16,
+}
+
+fn four(first: u16, second: u16, third: u16, fourth: u16) -> Words
+    ensures { λ r. ⌜ r ≡ wordsOf (first ∷ second ∷ third ∷ fourth ∷ []) ⌝ }
+{
+    Words {
+        first: first,
+        second: second,
+        third: third,
+        fourth: fourth,
+    }
+}
+
 // Four words as one number, the first the lowest.
-fn key(first: u16, second: u16, third: u16, fourth: u16) -> u64
+pub fn key(first: u16, second: u16, third: u16, fourth: u16) -> u64
     ensures { λ r. ⌜ r ≡ keyOf (first ∷ second ∷ third ∷ fourth ∷ []) ⌝ }
 {
     let high = third as u64 + 65536 * fourth as u64;
@@ -332,36 +351,36 @@ fn tag_at(body: &[u8], i: usize) -> u16
     if body[i] == 0 { 0 } else { 1 }
 }
 
-// The key of the term of a kind with a body, read where its fields stand.
-pub fn key_in(kind: u8, body: &[u8]) -> u64
+// The words of the term of a kind with a body, read where its fields stand.
+pub fn words_in(kind: u8, body: &[u8]) -> Words
     requires { ⌜ (sectionOf kind ≡ termSection) × (bodyLength kind ≤ length (now body)) ⌝ }
-    ensures { λ r. ⌜ r ≡ keyOf (fieldsIn (termAt kind (now (body .entry)))) ⌝ }
+    ensures { λ r. ⌜ r ≡ wordsOf (fieldsIn (termAt kind (now (body .entry)))) ⌝ }
 {
     let first = word_at(body, 0);
     match kind {
-        0x10 => key(first, body[2] as u16, 0, 0),
-        0x11 => key(first, body[2] as u16, 0, 0),
-        0x12 => key(first, 0, 0, 0),
-        0x13 => key(first, word_at(body, 2), 0, 0),
-        0x14 => key(first, 0, 0, 0),
+        0x10 => four(first, body[2] as u16, 0, 0),
+        0x11 => four(first, body[2] as u16, 0, 0),
+        0x12 => four(first, 0, 0, 0),
+        0x13 => four(first, word_at(body, 2), 0, 0),
+        0x14 => four(first, 0, 0, 0),
         0x15 => {
             let n = word_at(body, 2);
-            key(first, n, word_at(body, 4), 0)
+            four(first, n, word_at(body, 4), 0)
         }
-        0x16 => key(first, 0, 0, 0),
+        0x16 => four(first, 0, 0, 0),
         0x17 => {
             let tag = tag_at(body, 0);
             let n = word_at(body, 1);
             let c = word_at(body, 3);
-            key(tag, n, c, word_at(body, 5))
+            four(tag, n, c, word_at(body, 5))
         }
-        0x18 => key(first, word_at(body, 2), 0, 0),
+        0x18 => four(first, word_at(body, 2), 0, 0),
         0x19 => {
             let tag = tag_at(body, 2);
             let n = word_at(body, 3);
-            key(first, tag, n, word_at(body, 5))
+            four(first, tag, n, word_at(body, 5))
         }
-        _ => key(first, word_at(body, 2), 0, 0),
+        _ => four(first, word_at(body, 2), 0, 0),
     }
 }
 

@@ -3,7 +3,6 @@ use rules::Attributes;
 use rules::Family;
 use rules::Signers;
 use rules::Subject;
-use rules::Term;
 ghost use mathlib.Core.Path.{_≡_};
 ghost use mathlib.Core.Bool.{_&&_};
 ghost use mathlib.Core.List.{List};
@@ -12,12 +11,13 @@ ghost use lib.Dec.{eqb};
 ghost use lib.ListN.{length};
 ghost use Rattle.rules.specs.Limits.{partyLimit, termLimit};
 ghost use Rattle.rules.specs.Attributes.{sameAttributes};
-ghost use Rattle.rules.specs.Term.{credentialKind, idevidRequestKind, ldevidRequestKind, certificateKind, pairKind, isTpmSubject, isDeviceSubject};
+ghost use Rattle.rules.specs.Term.{idevidRequestKind, certificateKind, isTpmSubject, isDeviceSubject};
 ghost use Rattle.rules.specs.File.{isRole, kind, message, signingKey, attestedKey, credentialTerm, credentialNumber, credentialKey, idevidCertificate, idevidKey, ldevidMessage, ldevidCertificate, certifiedKey, signer, leftOf, rightOf, subject, attributes, signsForRole, signsForSome};
 ghost use Rattle.rules.specs.Desk.{formTests, proofTests};
 ghost use Rattle.tables.specs.Regions.{tablesIn};
 ghost use Rattle.theorems.specs.Chain.{chain};
-ghost use Rattle.loaded.specs.Loaded.{fileIn, Holds, Finds, PartyHere, TermHere};
+ghost use Rattle.theorems.proofs.Loading.{Checked};
+ghost use Rattle.loaded.specs.Loaded.{fileIn, Finds, PartyHere, TermNoted, subjectBy};
 ghost use Rattle.requests.specs.Search.{hasSome, Searched};
 ghost use Rattle.requests.specs.Names.{Names};
 ghost use Rattle.requests.specs.Tests.{endorsementTests, credentialTests, calledTests, attestTests, parentageTests};
@@ -52,23 +52,23 @@ pub struct Certificate {
 }
 
 // The two terms of a pair.
-pub fn pair_of(file: &[u8], state: &[u8], t: usize) -> Pair
-    requires { ⌜ TermHere (now file) (now state) t × (kind (fileIn (now file)) t ≡ pairKind) ⌝ }
+pub fn pair_of(file: &[u8], tables: &[u16; tables::WORDS], t: usize) -> Pair
+    requires { ⌜ TermNoted (now file) (now tables) t ⌝ }
     ensures { λ x. ⌜ (x .left ≡ leftOf (fileIn (now (file .entry))) t) × (x .right ≡ rightOf (fileIn (now (file .entry))) t) ⌝ }
 {
-    let left = loaded::left_of(file, state, t);
-    let right = loaded::right_of(file, state, t);
+    let left = loaded::left_of(file, tables, t);
+    let right = loaded::right_of(file, tables, t);
     Pair { left, right }
 }
 
 // The first term, the number and the public key of a credential.
-pub fn credential_of(file: &[u8], state: &[u8], t: usize) -> Credential
-    requires { ⌜ TermHere (now file) (now state) t × (kind (fileIn (now file)) t ≡ credentialKind) ⌝ }
+pub fn credential_of(file: &[u8], tables: &[u16; tables::WORDS], t: usize) -> Credential
+    requires { ⌜ TermNoted (now file) (now tables) t ⌝ }
     ensures { λ x. ⌜ (x .content ≡ credentialTerm (fileIn (now (file .entry))) t) × (x .number ≡ credentialNumber (fileIn (now (file .entry))) t) × (x .key ≡ credentialKey (fileIn (now (file .entry))) t) ⌝ }
 {
-    let content = loaded::credential_term_of(file, state, t);
-    let number = loaded::credential_number_of(file, state, t);
-    let key = loaded::credential_key_of(file, state, t);
+    let content = loaded::credential_term_of(file, tables, t);
+    let number = loaded::credential_number_of(file, tables, t);
+    let key = loaded::credential_key_of(file, tables, t);
     Credential {
         content,
         number,
@@ -76,33 +76,40 @@ pub fn credential_of(file: &[u8], state: &[u8], t: usize) -> Credential
     }
 }
 
+// A Subject by its two fields.
+fn subject_of(tag: u16, number: u16) -> Subject
+    ensures { λ x. ⌜ x ≡ subjectBy tag number ⌝ }
+{
+    if tag == 0 {
+        return Subject::Tpm(number);
+    }
+    Subject::Device(number)
+}
+
 // The Subject, the certificate and the public key of an IDevID request.
-pub fn idevid_request_of(file: &[u8], state: &[u8], t: usize) -> IdevidRequest
-    requires { ⌜ TermHere (now file) (now state) t × (kind (fileIn (now file)) t ≡ idevidRequestKind) ⌝ }
+pub fn idevid_request_of(file: &[u8], tables: &[u16; tables::WORDS], t: usize) -> IdevidRequest
+    requires { ⌜ TermNoted (now file) (now tables) t × (kind (fileIn (now file)) t ≡ idevidRequestKind) ⌝ }
     ensures { λ x. ⌜ (x .subject ≡ subject (fileIn (now (file .entry))) t) × (x .certificate ≡ idevidCertificate (fileIn (now (file .entry))) t) × (x .key ≡ idevidKey (fileIn (now (file .entry))) t) ⌝ }
 {
-    let found = learning::idevid_request_of(file, state, t);
-    let Term::IdevidRequest(subject, certificate, key) = found else {
-        return IdevidRequest {
-            subject: Subject::Tpm(0),
-            certificate: 0,
-            key: 0,
-        };
-    };
+    let tag = tables::field_of(tables, t, 0);
+    let number = tables::field_of(tables, t, 1);
+    let subject = subject_of(tag, number);
+    let certificate = loaded::idevid_certificate_of(file, tables, t);
+    let key = loaded::idevid_key_of(file, tables, t);
     IdevidRequest {
         subject,
-        certificate: certificate as usize,
-        key: key as usize,
+        certificate,
+        key,
     }
 }
 
 // The message and the certificate of an LDevID request.
-pub fn ldevid_request_of(file: &[u8], state: &[u8], t: usize) -> LdevidRequest
-    requires { ⌜ TermHere (now file) (now state) t × (kind (fileIn (now file)) t ≡ ldevidRequestKind) ⌝ }
+pub fn ldevid_request_of(file: &[u8], tables: &[u16; tables::WORDS], t: usize) -> LdevidRequest
+    requires { ⌜ TermNoted (now file) (now tables) t ⌝ }
     ensures { λ x. ⌜ (x .message ≡ ldevidMessage (fileIn (now (file .entry))) t) × (x .certificate ≡ ldevidCertificate (fileIn (now (file .entry))) t) ⌝ }
 {
-    let message = loaded::ldevid_message_of(file, state, t);
-    let certificate = loaded::ldevid_certificate_of(file, state, t);
+    let message = loaded::ldevid_message_of(file, tables, t);
+    let certificate = loaded::ldevid_certificate_of(file, tables, t);
     LdevidRequest {
         message,
         certificate,
@@ -110,22 +117,19 @@ pub fn ldevid_request_of(file: &[u8], state: &[u8], t: usize) -> LdevidRequest
 }
 
 // The certified key, the Subject and the signer's private key of a certificate.
-pub fn certificate_of(file: &[u8], state: &[u8], t: usize) -> Certificate
-    requires { ⌜ TermHere (now file) (now state) t × (kind (fileIn (now file)) t ≡ certificateKind) ⌝ }
+pub fn certificate_of(file: &[u8], tables: &[u16; tables::WORDS], t: usize) -> Certificate
+    requires { ⌜ TermNoted (now file) (now tables) t × (kind (fileIn (now file)) t ≡ certificateKind) ⌝ }
     ensures { λ x. ⌜ (x .key ≡ certifiedKey (fileIn (now (file .entry))) t) × (x .subject ≡ subject (fileIn (now (file .entry))) t) × (x .signer ≡ signer (fileIn (now (file .entry))) t) ⌝ }
 {
-    let found = learning::certificate_of(file, state, t);
-    let Term::Certificate(key, subject, signer) = found else {
-        return Certificate {
-            key: 0,
-            subject: Subject::Tpm(0),
-            signer: 0,
-        };
-    };
+    let key = loaded::certified_key_of(file, tables, t);
+    let tag = tables::field_of(tables, t, 1);
+    let number = tables::field_of(tables, t, 2);
+    let subject = subject_of(tag, number);
+    let signer = loaded::signer_of(file, tables, t);
     Certificate {
-        key: key as usize,
+        key,
         subject,
-        signer: signer as usize,
+        signer,
     }
 }
 
@@ -137,11 +141,11 @@ pub struct Request {
     pub signer: usize,
 }
 
-pub fn form(file: &[u8], state: &[u8], q: usize, kind: u8) -> Request
-    requires { ⌜ Holds (now file) (now state) × (q < length (fileIn (now file) .terms)) ⌝ }
+pub fn form(file: &[u8], tables: &[u16; tables::WORDS], q: usize, kind: u16) -> Request
+    requires { ⌜ Checked (fileIn (now file)) × Finds (now file) (now tables) × (q < length (fileIn (now file) .terms)) ⌝ }
     ensures { λ x. ⌜ (x .refusal ≡ chain (formTests (fileIn (now (file .entry))) kind q)) × (x .refusal ≡ 0 → Names (fileIn (now (file .entry))) q (x .body) (x .content) (x .signer)) ⌝ }
 {
-    if !loaded::is_kind(file, state, q, 0x1A) {
+    if !loaded::is_kind(file, tables, q, 0x1A) {
         return Request {
             refusal: 19,
             body: 0,
@@ -149,8 +153,8 @@ pub fn form(file: &[u8], state: &[u8], q: usize, kind: u8) -> Request
             signer: 0,
         };
     }
-    let body = loaded::left_of(file, state, q);
-    if !loaded::is_kind(file, state, body, kind) {
+    let body = loaded::left_of(file, tables, q);
+    if !loaded::is_kind(file, tables, body, kind) {
         return Request {
             refusal: 19,
             body: 0,
@@ -158,8 +162,8 @@ pub fn form(file: &[u8], state: &[u8], q: usize, kind: u8) -> Request
             signer: 0,
         };
     }
-    let signature = loaded::right_of(file, state, q);
-    if !loaded::is_kind(file, state, signature, 0x13) {
+    let signature = loaded::right_of(file, tables, q);
+    if !loaded::is_kind(file, tables, signature, 0x13) {
         return Request {
             refusal: 19,
             body: 0,
@@ -167,8 +171,8 @@ pub fn form(file: &[u8], state: &[u8], q: usize, kind: u8) -> Request
             signer: 0,
         };
     }
-    let message = loaded::message_of(file, state, signature);
-    if !loaded::is_kind(file, state, message, 0x12) {
+    let message = loaded::message_of(file, tables, signature);
+    if !loaded::is_kind(file, tables, message, 0x12) {
         return Request {
             refusal: 19,
             body: 0,
@@ -176,8 +180,8 @@ pub fn form(file: &[u8], state: &[u8], q: usize, kind: u8) -> Request
             signer: 0,
         };
     }
-    let content = loaded::hashed_term(file, state, message);
-    let signer = loaded::signing_key_of(file, state, signature);
+    let content = loaded::hashed_term(file, tables, message);
+    let signer = loaded::signing_key_of(file, tables, signature);
     Request {
         refusal: 0,
         body,
@@ -254,25 +258,23 @@ pub fn is_device(named: Subject) -> bool
 }
 
 // Whether a key has exactly these attributes.
-fn has_exactly(file: &[u8], state: &[u8], t: usize, wanted: Attributes) -> bool
-    requires { ⌜ TermHere (now file) (now state) t ⌝ }
+fn has_exactly(file: &[u8], tables: &[u16; tables::WORDS], t: usize, wanted: Attributes) -> bool
+    requires { ⌜ TermNoted (now file) (now tables) t ⌝ }
     ensures { λ x. ⌜ x ≡ sameAttributes (attributes (fileIn (now (file .entry))) t) wanted ⌝ }
 {
-    let at = state::place_of(state, t);
-    let found = learning::attributes_at(file, at);
-    found.same(wanted)
+    let bits = wanted.bits;
+    loaded::attributes_of(file, tables, t) == bits as u16
 }
 
 // The endorsement of a challenge: a TPM's certificate by a TPM maker, and the attributes of both keys.
 pub fn endorsement(
     file: &[u8],
-    state: &[u8],
     tables: &[u16; tables::WORDS],
     parties: usize,
     certificate: Certificate,
     iak: usize,
 ) -> u8
-    requires { ⌜ Holds (now file) (now state) × Finds (now file) (now tables) × (parties ≡ length (fileIn (now file) .roles)) × (certificate .key < length (fileIn (now file) .terms)) × (certificate .signer < length (fileIn (now file) .terms)) × (iak < length (fileIn (now file) .terms)) ⌝ }
+    requires { ⌜ Searched (now file) (now tables) parties (certificate .signer) × (certificate .key < length (fileIn (now file) .terms)) × (iak < length (fileIn (now file) .terms)) ⌝ }
     ensures { λ x. ⌜ x ≡ chain (endorsementTests (fileIn (now (file .entry))) (certificate .subject) (certificate .signer) iak (certificate .key)) ⌝ }
 {
     let named = certificate.subject;
@@ -282,10 +284,10 @@ pub fn endorsement(
     if !signs_for_role(file, tables, rules::TPM_MAKER, certificate.signer, parties) {
         return 21;
     }
-    if !has_exactly(file, state, iak, Attributes::iak()) {
+    if !has_exactly(file, tables, iak, Attributes::iak()) {
         return 23;
     }
-    if !has_exactly(file, state, certificate.key, Attributes::ek()) {
+    if !has_exactly(file, tables, certificate.key, Attributes::ek()) {
         return 23;
     }
     0
@@ -294,19 +296,19 @@ pub fn endorsement(
 // The credential of a challenge: over the hash of the IAK, to the EK.
 pub fn credential_names(
     file: &[u8],
-    state: &[u8],
+    tables: &[u16; tables::WORDS],
     credential: Credential,
     iak: usize,
     ek: usize,
 ) -> u8
-    requires { ⌜ Holds (now file) (now state) × (credential .content < length (fileIn (now file) .terms)) ⌝ }
+    requires { ⌜ Finds (now file) (now tables) × (credential .content < length (fileIn (now file) .terms)) ⌝ }
     ensures { λ x. ⌜ x ≡ chain (credentialTests (fileIn (now (file .entry))) (credential .content) (credential .key) iak ek) ⌝ }
 {
     let content = credential.content;
-    if !loaded::is_kind(file, state, content, 0x12) {
+    if !loaded::is_kind(file, tables, content, 0x12) {
         return 27;
     }
-    let hashed = loaded::hashed_term(file, state, content);
+    let hashed = loaded::hashed_term(file, tables, content);
     if hashed != iak {
         return 27;
     }
@@ -319,17 +321,16 @@ pub fn credential_names(
 // Whether a certificate is the one called for: of the key, for the Subject, by the desk.
 pub fn called_for(
     file: &[u8],
-    state: &[u8],
     tables: &[u16; tables::WORDS],
     party: usize,
     r: usize,
     key: usize,
     wanted: Subject,
 ) -> u8
-    requires { ⌜ Holds (now file) (now state) × Finds (now file) (now tables) × (party < partyLimit) × (kind (fileIn (now file)) r ≡ certificateKind) ⌝ }
+    requires { ⌜ Checked (fileIn (now file)) × Finds (now file) (now tables) × (party < partyLimit) × (kind (fileIn (now file)) r ≡ certificateKind) ⌝ }
     ensures { λ x. ⌜ x ≡ chain (calledTests (fileIn (now (file .entry))) party r key wanted) ⌝ }
 {
-    let certificate = certificate_of(file, state, r);
+    let certificate = certificate_of(file, tables, r);
     if certificate.key != key {
         return 27;
     }
@@ -351,27 +352,27 @@ pub struct Attested {
     pub signer: usize,
 }
 
-pub fn attested_by(file: &[u8], state: &[u8], t: usize) -> Attested
-    requires { ⌜ Holds (now file) (now state) × (t < length (fileIn (now file) .terms)) ⌝ }
+pub fn attested_by(file: &[u8], tables: &[u16; tables::WORDS], t: usize) -> Attested
+    requires { ⌜ Checked (fileIn (now file)) × Finds (now file) (now tables) × (t < length (fileIn (now file) .terms)) ⌝ }
     ensures { λ x. ⌜ (x .refusal ≡ chain (attestTests (fileIn (now (file .entry))) t)) × (x .refusal ≡ 0 → (x .key ≡ attestedKey (fileIn (now (file .entry))) (message (fileIn (now (file .entry))) t)) × (x .signer ≡ signingKey (fileIn (now (file .entry))) t)) ⌝ }
 {
-    if !loaded::is_kind(file, state, t, 0x13) {
+    if !loaded::is_kind(file, tables, t, 0x13) {
         return Attested {
             refusal: 19,
             key: 0,
             signer: 0,
         };
     }
-    let message = loaded::message_of(file, state, t);
-    if !loaded::is_kind(file, state, message, 0x14) {
+    let message = loaded::message_of(file, tables, t);
+    if !loaded::is_kind(file, tables, message, 0x14) {
         return Attested {
             refusal: 19,
             key: 0,
             signer: 0,
         };
     }
-    let key = loaded::attested_key_of(file, state, message);
-    let signer = loaded::signing_key_of(file, state, t);
+    let key = loaded::attested_key_of(file, tables, message);
+    let signer = loaded::signing_key_of(file, tables, t);
     Attested {
         refusal: 0,
         key,
@@ -447,7 +448,6 @@ fn signs_for_some(
 // family asks.
 pub fn parentage(
     file: &[u8],
-    state: &[u8],
     tables: &[u16; tables::WORDS],
     parties: usize,
     family: Family,
@@ -455,7 +455,7 @@ pub fn parentage(
     new: usize,
     certificate: Certificate,
 ) -> u8
-    requires { ⌜ Holds (now file) (now state) × Finds (now file) (now tables) × (parties ≡ length (fileIn (now file) .roles)) × (half < length (fileIn (now file) .terms)) × (new < length (fileIn (now file) .terms)) × (certificate .key < length (fileIn (now file) .terms)) × (certificate .signer < length (fileIn (now file) .terms)) ⌝ }
+    requires { ⌜ Searched (now file) (now tables) parties (certificate .signer) × (half < length (fileIn (now file) .terms)) × (new < length (fileIn (now file) .terms)) × (certificate .key < length (fileIn (now file) .terms)) ⌝ }
     ensures { λ x. ⌜ x ≡ chain (parentageTests (fileIn (now (file .entry))) family half new (certificate .key) (certificate .signer)) ⌝ }
 {
     if !loaded::is_half(tables, certificate.key, half) {
@@ -464,10 +464,10 @@ pub fn parentage(
     if !signs_for_some(file, tables, family.signers, certificate.signer, parties) {
         return 21;
     }
-    if !has_exactly(file, state, new, family.key) {
+    if !has_exactly(file, tables, new, family.key) {
         return 23;
     }
-    if !has_exactly(file, state, certificate.key, family.parent) {
+    if !has_exactly(file, tables, certificate.key, family.parent) {
         return 23;
     }
     0

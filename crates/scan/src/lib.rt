@@ -71,7 +71,6 @@ fn enter(
     state: &mut [u8],
     signers: &mut [u16; 8],
     links: &mut [u16; index::LINKS],
-    keys: &mut [u64; rules::TERM_LIMIT],
     tables: &mut [u16; tables::WORDS],
     body: &[u8],
     kind: u8,
@@ -79,15 +78,15 @@ fn enter(
     at: usize,
     n: Tally,
 ) -> u8
-    requires { ⌜ (section ≡ sectionOf kind) × EnterReady (now file) (now state) (now body) kind at n × Indexed (now file) (view (now state) .place) (now links) (now keys) (now tables) (n .terms) × (kind ≡ getD (now file) at 0) × (termThere (now file) at ≡ termAt kind (now body)) ⌝ }
+    requires { ⌜ (section ≡ sectionOf kind) × EnterReady (now file) (now state) (now body) kind at n × Indexed (now file) (view (now state) .place) (now links) (now tables) (n .terms) × (kind ≡ getD (now file) at 0) × (termThere (now file) at ≡ termAt kind (now body)) ⌝ }
     ensures refusal { λ r. ⌜ r ≡ lastFault (now (file .entry)) (view (now (state .entry))) (now (signers .entry)) n kind (now (body .entry)) ⌝ }
     ensures left { λ r. ⌜ view (now (state .exit)) ≡ cond (eqb r 0) (columnsAfter (now (file .entry)) (view (now (state .entry))) n kind (now (body .entry)) at) (view (now (state .entry))) ⌝ }
     ensures keys { λ r. ⌜ now (signers .exit) ≡ cond (eqb r 0) (signersAfter (now (signers .entry)) kind (now (body .entry))) (now (signers .entry)) ⌝ }
-    ensures indexed { λ r. ⌜ (r ≡ 0 → Indexed (now (file .entry)) (view (now (state .exit)) .place) (now (links .exit)) (now (keys .exit)) (now (tables .exit)) (counted section n .terms)) ⌝ }
+    ensures indexed { λ r. ⌜ (r ≡ 0 → Indexed (now (file .entry)) (view (now (state .exit)) .place) (now (links .exit)) (now (tables .exit)) (counted section n .terms)) ⌝ }
 {
     if section == 2 {
         let terms = n.terms;
-        return index::enter_term(file, state, links, keys, tables, body, kind, at, terms);
+        return index::enter_term(file, state, links, tables, body, kind, at, terms);
     }
     if section == 3 {
         let parties = n.parties;
@@ -179,13 +178,12 @@ pub fn scan(
     state: &mut [u8],
     signers: &mut [u16; 8],
     links: &mut [u16; index::LINKS],
-    keys: &mut [u64; rules::TERM_LIMIT],
     tables: &mut [u16; tables::WORDS],
 ) -> Scanned
-    requires { ⌜ ScanReady (now file) (now state) (now signers) × Indexed (now file) (view (now state) .place) (now links) (now keys) (now tables) 0 ⌝ }
+    requires { ⌜ ScanReady (now file) (now state) (now signers) × Indexed (now file) (view (now state) .place) (now links) (now tables) 0 ⌝ }
     ensures result { λ r. ⌜ ScanResult (now (file .entry)) (now (state .exit)) (now (signers .exit)) r ⌝ }
     ensures first { λ r. ⌜ (r .number ≡ 0 → r .first ≡ commandsFrom (length (now (file .entry))) (now (file .entry)) 0) ⌝ }
-    ensures indexed { λ r. ⌜ (r .number ≡ 0 → Indexed (now (file .entry)) (view (now (state .exit)) .place) (now (links .exit)) (now (keys .exit)) (now (tables .exit)) (r .tally .terms)) ⌝ }
+    ensures indexed { λ r. ⌜ (r .number ≡ 0 → Indexed (now (file .entry)) (view (now (state .exit)) .place) (now (links .exit)) (now (tables .exit)) (r .tally .terms)) ⌝ }
 {
     let table = records::field_table();
     let mut at = 0;
@@ -245,19 +243,7 @@ pub fn scan(
             fields = fields / 256;
             i += 1;
         }
-        let last = enter(
-            file,
-            state,
-            signers,
-            links,
-            keys,
-            tables,
-            body,
-            kind,
-            own,
-            at,
-            n,
-        );
+        let last = enter(file, state, signers, links, tables, body, kind, own, at, n);
         if last != 0 {
             break 'records Scanned {
                 number: last,

@@ -1,4 +1,5 @@
 -- The stock by its tests, term by term; boards and the rest.
+--     is-number, no-number                                  whether a term is a number, by the kind that was read
 --     kind-fails, knows-fails, knowers-fail, mark-tells     the four tests of a number in stock, one after the other
 --     one-at-most, counted                                  one term more
 --     told-39, boards-are                                   39; whole boards and the rest
@@ -9,16 +10,25 @@ use Prim.Native.Nat.{ℕ, suc, _+_, _/_, _%_, _≤_}
 use native.Mathlib.Omega.{arith}
 use lib.Dec.{eqb}
 use mir.Val.{boolByte}
-use borrow.Author.Tests.{ne-eqb}
+use borrow.Author.Tests.{eq-eqb, ne-eqb}
 use Rattle.rules.specs.declared.AskAnswer.the-variants.{Boards, Refused}
 use Rattle.rules.specs.Limits.{oemDesk, partyLimit}
 use Rattle.rules.specs.Term.{numberKind}
-use Rattle.rules.specs.File.{File, isRole, isKind}
+use Rattle.rules.specs.File.{File, isRole, kind, isKind}
 use Rattle.rules.specs.State.{State, numberUsed}
 use Rattle.rules.specs.Desk.{knowers}
 use Rattle.rules.specs.Lent.{refusal}
 use Rattle.rules.specs.Stock.{inStock, stockAmong, stock, boardsLeft}
 use Rattle.rules.specs.Questions.{askInNumbers}
+
+module _ (f : File) (t : ℕ) {x k : ℕ} (e : x ≡ k) (same : k ≡ kind f t) where
+  pub is-number : x ≡ numberKind → isKind f numberKind t ≡ true
+  unfolding isKind
+  is-number q = eq-eqb (kind f t) numberKind (sym same ∙ sym e ∙ q)
+
+  pub no-number : (x ≡ numberKind → ⊥) → isKind f numberKind t ≡ false
+  unfolding isKind
+  no-number n = ne-eqb (kind f t) numberKind (λ q. n (e ∙ same ∙ q))
 
 module _ (f : File) (s : State) (desk t : ℕ) where
   pub kind-fails : isKind f numberKind t ≡ false → false ≡ inStock f s desk t

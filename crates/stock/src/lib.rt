@@ -17,7 +17,7 @@ fn in_stock(file: &[u8], state: &[u8], desk: usize, t: usize) -> bool
     requires { ⌜ TermHere (now file) (now state) t × (desk < partyLimit) ⌝ }
     ensures { λ x. ⌜ ((ledger : List Entry) → x ≡ inStock (fileIn (now (file .entry))) (stateOf (view (now (state .entry))) ledger) desk t) ⌝ }
 {
-    if !loaded::is_kind(file, state, t, 0x16) {
+    if checks::kind_there(file, state, t) != 0x16 {
         return false;
     }
     if !state::knows(state, desk, t) {

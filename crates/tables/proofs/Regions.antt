@@ -2,14 +2,15 @@
 --     region-at       a word inside a region
 --     region-put      a store inside a region is one to its column
 --     region-kept     one outside it changes nothing
---     put-signer, put-half, put-entry, put-depth, put-ek     a store to a column leaves the others
+--     put-signer, put-half, put-entry, put-depth, put-kind, put-field, put-ek     a store to a column leaves the others
 --     put-linked      the three stores that link an entry
 --     zeros-at, region-none, tables-none, unlinked-none     each word of zeros is 0
 -- Assumes nothing.
 use mathlib.Core.Bool.{Bool, true, false, cond}
+use mathlib.Core.Logic.{_⊎_, inl, inr, ⊎-elim}
 use mathlib.Core.Path.{_≡_, refl, ap, _∙_}
 use mathlib.Core.List.{List}
-use Prim.Native.Nat.{ℕ, _+_, _<_, _≤_}
+use Prim.Native.Nat.{ℕ, _+_, _*_, _<_, _≤_}
 use native.Mathlib.Omega.{arith}
 use lib.Dec.{eqb, ltb}
 use lib.ListN.{length, getD, set, replicate, length-set, length-replicate, getD-replicate, List·getD-eq-default}
@@ -17,7 +18,7 @@ use lib.Seq.{getD-set-same, getD-set-other}
 use borrow.Author.Tests.{ltb-true, ltb-false, lt-ltb, eqb-true, eqb-false}
 use Rattle.rules.specs.Limits.{partyLimit, termLimit}
 use Rattle.rules.specs.State.{put}
-use Rattle.tables.specs.Regions.{signerStart, halfStart, entryStart, depthStart, newestStart, serialBuckets, serialBucket, serialStart, earlierStart, ekStart, tableWords, region, Boards, boardsIn, Unlinked, Tables, tablesIn, withSigner, withHalf, withEntry, withDepth, withBoards, withEk, linked}
+use Rattle.tables.specs.Regions.{signerStart, halfStart, entryStart, depthStart, kindStart, fieldWords, fieldStart, newestStart, serialBuckets, serialBucket, serialStart, earlierStart, ekStart, tableWords, EmptyTables, region, Boards, boardsIn, Unlinked, Terms, termsIn, Tables, tablesIn, withSigner, withHalf, withEntry, withDepth, withTerms, withBoards, withKind, withField, withEk, linked}
 
 pub region-at : (xs : List ℕ) (start size i : ℕ) → i < size → getD xs (start + i) 0 ≡ region xs start size i
 unfolding region
@@ -49,6 +50,13 @@ module _ (xs : List ℕ) (start size at x : ℕ) (outside : (u : ℕ) → u < si
   pub region-kept : region (set xs at x) start size ≡ region xs start size
   region-kept = λ j u. kept-at u j
 
+-- a store outside the regions of terms
+terms-kept : (xs : List ℕ) (at x : ℕ) → (at < kindStart) ⊎ (newestStart ≤ at) → termsIn (set xs at x) ≡ termsIn xs
+terms-kept xs at x h = λ j. record {
+  kind = region-kept xs kindStart termLimit at x (λ u l e. ⊎-elim (λ b. omega arith) (λ b. omega arith) h) j;
+  field = region-kept xs fieldStart (fieldWords * termLimit) at x (λ u l e. ⊎-elim (λ b. omega arith) (λ b. omega arith) h) j;
+}
+
 -- a store before the boards' regions
 boards-kept : (xs : List ℕ) (at x : ℕ) → at < newestStart → boardsIn (set xs at x) ≡ boardsIn xs
 boards-kept xs at x h = λ j. record {
@@ -66,6 +74,7 @@ others-kept xs at x h = λ j. record {
   half = region-kept xs halfStart termLimit at x (omega arith) j;
   entry = region-kept xs entryStart termLimit at x (omega arith) j;
   depth = region-kept xs depthStart termLimit at x (omega arith) j;
+  terms = terms-kept xs at x (inr h) j;
   boards = boardsIn (set xs at x);
 }
 
@@ -77,6 +86,7 @@ module _ (xs : List ℕ) (i x : ℕ) (size : length xs ≡ tableWords) where
     half = region-kept xs halfStart termLimit at x (omega arith) j;
     entry = region-kept xs entryStart termLimit at x (omega arith) j;
     depth = region-kept xs depthStart termLimit at x (omega arith) j;
+    terms = terms-kept xs at x (inl (omega arith)) j;
     boards = boards-kept xs at x (omega arith) j;
   }
 
@@ -87,6 +97,7 @@ module _ (xs : List ℕ) (i x : ℕ) (size : length xs ≡ tableWords) where
     half = region-put xs halfStart termLimit i x h (omega arith) j;
     entry = region-kept xs entryStart termLimit at x (omega arith) j;
     depth = region-kept xs depthStart termLimit at x (omega arith) j;
+    terms = terms-kept xs at x (inl (omega arith)) j;
     boards = boards-kept xs at x (omega arith) j;
   }
 
@@ -97,6 +108,7 @@ module _ (xs : List ℕ) (i x : ℕ) (size : length xs ≡ tableWords) where
     half = region-kept xs halfStart termLimit at x (omega arith) j;
     entry = region-put xs entryStart termLimit i x h (omega arith) j;
     depth = region-kept xs depthStart termLimit at x (omega arith) j;
+    terms = terms-kept xs at x (inl (omega arith)) j;
     boards = boards-kept xs at x (omega arith) j;
   }
 
@@ -107,8 +119,33 @@ module _ (xs : List ℕ) (i x : ℕ) (size : length xs ≡ tableWords) where
     half = region-kept xs halfStart termLimit at x (omega arith) j;
     entry = region-kept xs entryStart termLimit at x (omega arith) j;
     depth = region-put xs depthStart termLimit i x h (omega arith) j;
+    terms = terms-kept xs at x (inl (omega arith)) j;
     boards = boards-kept xs at x (omega arith) j;
   }
+
+  -- a store in the regions of terms
+  pub terms-put : (at : ℕ) → kindStart ≤ at → at < newestStart → tablesIn (set xs at x) ≡ withTerms (tablesIn xs) (termsIn (set xs at x))
+  terms-put at l h = λ j. record {
+    words = length-set xs at x j;
+    signer = region-kept xs signerStart partyLimit at x (omega arith) j;
+    half = region-kept xs halfStart termLimit at x (omega arith) j;
+    entry = region-kept xs entryStart termLimit at x (omega arith) j;
+    depth = region-kept xs depthStart termLimit at x (omega arith) j;
+    terms = termsIn (set xs at x);
+    boards = boards-kept xs at x h j;
+  }
+
+  pub put-kind : i < termLimit → tablesIn (set xs (kindStart + i) x) ≡ withTerms (tablesIn xs) (withKind (termsIn xs) i x)
+  put-kind h = let at = kindStart + i in terms-put at (omega arith) (omega arith) ∙ ap (withTerms (tablesIn xs)) (λ j. record {
+    kind = region-put xs kindStart termLimit i x h (omega arith) j;
+    field = region-kept xs fieldStart (fieldWords * termLimit) at x (omega arith) j;
+  })
+
+  pub put-field : (k : ℕ) → i < termLimit → k < fieldWords → tablesIn (set xs (fieldStart + (fieldWords * i + k)) x) ≡ withTerms (tablesIn xs) (withField (termsIn xs) i k x)
+  put-field k h l = let at = fieldStart + (fieldWords * i + k) in terms-put at (omega arith) (omega arith) ∙ ap (withTerms (tablesIn xs)) (λ j. record {
+    kind = region-kept xs kindStart termLimit at x (omega arith) j;
+    field = region-put xs fieldStart (fieldWords * termLimit) (fieldWords * i + k) x (omega arith) (omega arith) j;
+  })
 
   pub put-ek : i < termLimit → tablesIn (set xs (ekStart + i) x) ≡ withBoards (tablesIn xs) (withEk (boardsIn xs) (put (boardsIn xs .ek) i x))
   put-ek h = let at = ekStart + i in others-kept xs at x (omega arith) ∙ ap (withBoards (tablesIn xs)) (λ j. record {
@@ -177,10 +214,10 @@ region-none m start size i = go (ltb i size)
     go true = zeros-at m (start + i)
     go false = refl
 
-pub tables-none : (xs : List ℕ) → xs ≡ replicate tableWords 0 → (t : ℕ) → (tablesIn xs .half t ≡ 0) × (tablesIn xs .entry t ≡ 0) × (tablesIn xs .depth t ≡ 0)
+pub tables-none : (xs : List ℕ) → EmptyTables xs → (t : ℕ) → (tablesIn xs .half t ≡ 0) × (tablesIn xs .entry t ≡ 0) × (tablesIn xs .depth t ≡ 0)
 tables-none xs e t =
     let none : (start : ℕ) → region xs start termLimit t ≡ 0 = λ start. rw e (region-none tableWords start termLimit t) in
     (none halfStart, none entryStart, none depthStart)
 
-pub unlinked-none : (xs : List ℕ) → xs ≡ replicate tableWords 0 → Unlinked (boardsIn xs)
+pub unlinked-none : (xs : List ℕ) → EmptyTables xs → Unlinked (boardsIn xs)
 unlinked-none xs e = record { newest = λ i. rw e (region-none tableWords newestStart serialBuckets i); earlier = λ i. rw e (region-none tableWords earlierStart termLimit i) }

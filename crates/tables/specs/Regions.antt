@@ -2,9 +2,9 @@
 use mathlib.Core.Bool.{cond}
 use mathlib.Core.List.{List}
 use mathlib.Core.Path.{_≡_}
-use Prim.Native.Nat.{ℕ, _+_, _%_}
+use Prim.Native.Nat.{ℕ, _+_, _*_, _%_}
 use lib.Dec.{ltb}
-use lib.ListN.{length, getD}
+use lib.ListN.{length, getD, replicate}
 use Rattle.rules.specs.Limits.{partyLimit, termLimit}
 use Rattle.rules.specs.State.{put}
 
@@ -21,8 +21,18 @@ entryStart = halfStart + termLimit
 abbrev pub depthStart : ℕ
 depthStart = entryStart + termLimit
 
+abbrev pub kindStart : ℕ
+kindStart = depthStart + termLimit
+
+-- the fields of a term at most, a word each
+abbrev pub fieldWords : ℕ
+fieldWords = 4
+
+abbrev pub fieldStart : ℕ
+fieldStart = kindStart + termLimit
+
 abbrev pub newestStart : ℕ
-newestStart = depthStart + termLimit
+newestStart = fieldStart + fieldWords * termLimit
 
 -- serial numbers of devices with the same rest share a bucket
 abbrev pub serialBuckets : ℕ
@@ -43,6 +53,10 @@ ekStart = earlierStart + termLimit
 abbrev pub tableWords : ℕ
 tableWords = ekStart + termLimit
 
+-- tables with nothing in them: every word is 0
+abbrev pub EmptyTables : List ℕ → Type 0
+EmptyTables xs = xs ≡ replicate tableWords 0
+
 -- the words of a region, 0 past its end
 unfoldable pub region : List ℕ → ℕ → ℕ → ℕ → ℕ
 region xs start size i = cond (ltb i size) (getD xs (start + i) 0) 0
@@ -61,36 +75,61 @@ pub record Unlinked (b : Boards) : Type 0 where
   pub newest : (i : ℕ) → b .newest i ≡ 0
   pub earlier : (i : ℕ) → b .earlier i ≡ 0
 
--- How many words there are. Each party's signing key. The private half of each public key, and the place of each certificate's entry in the ledger: one more than the number, 0 where there is none. The depth of each certificate's entry, 0 where there is none.
+-- The kind of each term, and its fields, one term's after the other's: 0 where a term has fewer.
+pub record Terms : Type 0 where
+  pub kind : ℕ → ℕ
+  pub field : ℕ → ℕ
+
+-- a field of a term
+abbrev pub fieldOf : Terms → ℕ → ℕ → ℕ
+fieldOf v t i = v .field (fieldWords * t + i)
+
+-- How many words there are. Each party's signing key. The private half of each public key, and the place of each certificate's entry in the
+-- ledger: one more than the number, 0 where there is none. The depth of each certificate's entry, 0 where there is none. The terms as they
+-- were read.
 pub record Tables : Type 0 where
   pub words : ℕ
   pub signer : ℕ → ℕ
   pub half : ℕ → ℕ
   pub entry : ℕ → ℕ
   pub depth : ℕ → ℕ
+  pub terms : Terms
   pub boards : Boards
 
 abbrev pub boardsIn : List ℕ → Boards
 boardsIn xs = record { newest = region xs newestStart serialBuckets; serial = region xs serialStart termLimit; earlier = region xs earlierStart termLimit; ek = region xs ekStart termLimit }
 
+abbrev pub termsIn : List ℕ → Terms
+termsIn xs = record { kind = region xs kindStart termLimit; field = region xs fieldStart (fieldWords * termLimit) }
+
 abbrev pub tablesIn : List ℕ → Tables
-tablesIn xs = record { words = length xs; signer = region xs signerStart partyLimit; half = region xs halfStart termLimit; entry = region xs entryStart termLimit; depth = region xs depthStart termLimit; boards = boardsIn xs }
+tablesIn xs = record { words = length xs; signer = region xs signerStart partyLimit; half = region xs halfStart termLimit; entry = region xs entryStart termLimit; depth = region xs depthStart termLimit; terms = termsIn xs; boards = boardsIn xs }
 
 -- one column replaced
 abbrev pub withSigner : Tables → (ℕ → ℕ) → Tables
-withSigner v c = record { words = v .words; signer = c; half = v .half; entry = v .entry; depth = v .depth; boards = v .boards }
+withSigner v c = record { words = v .words; signer = c; half = v .half; entry = v .entry; depth = v .depth; terms = v .terms; boards = v .boards }
 
 abbrev pub withHalf : Tables → (ℕ → ℕ) → Tables
-withHalf v c = record { words = v .words; signer = v .signer; half = c; entry = v .entry; depth = v .depth; boards = v .boards }
+withHalf v c = record { words = v .words; signer = v .signer; half = c; entry = v .entry; depth = v .depth; terms = v .terms; boards = v .boards }
 
 abbrev pub withEntry : Tables → (ℕ → ℕ) → Tables
-withEntry v c = record { words = v .words; signer = v .signer; half = v .half; entry = c; depth = v .depth; boards = v .boards }
+withEntry v c = record { words = v .words; signer = v .signer; half = v .half; entry = c; depth = v .depth; terms = v .terms; boards = v .boards }
 
 abbrev pub withDepth : Tables → (ℕ → ℕ) → Tables
-withDepth v c = record { words = v .words; signer = v .signer; half = v .half; entry = v .entry; depth = c; boards = v .boards }
+withDepth v c = record { words = v .words; signer = v .signer; half = v .half; entry = v .entry; depth = c; terms = v .terms; boards = v .boards }
+
+abbrev pub withTerms : Tables → Terms → Tables
+withTerms v c = record { words = v .words; signer = v .signer; half = v .half; entry = v .entry; depth = v .depth; terms = c; boards = v .boards }
 
 abbrev pub withBoards : Tables → Boards → Tables
-withBoards v b = record { words = v .words; signer = v .signer; half = v .half; entry = v .entry; depth = v .depth; boards = b }
+withBoards v b = record { words = v .words; signer = v .signer; half = v .half; entry = v .entry; depth = v .depth; terms = v .terms; boards = b }
+
+-- the kind of a term noted, and one of its fields
+abbrev pub withKind : Terms → ℕ → ℕ → Terms
+withKind v t k = record { kind = put (v .kind) t k; field = v .field }
+
+abbrev pub withField : Terms → ℕ → ℕ → ℕ → Terms
+withField v t i x = record { kind = v .kind; field = put (v .field) (fieldWords * t + i) x }
 
 -- the EK of the entry at a place noted
 abbrev pub withEk : Boards → (ℕ → ℕ) → Boards

@@ -4,7 +4,7 @@ ghost use Prim.Native.Nat.{_<_};
 ghost use lib.ListN.{length};
 ghost use Rattle.rules.specs.Limits.{partyLimit, termLimit};
 ghost use Rattle.rules.specs.State.{put};
-ghost use Rattle.tables.specs.Regions.{serialBuckets, tableWords, tablesIn, withSigner, withHalf, withEntry, withDepth, withBoards, withEk, linked};
+ghost use Rattle.tables.specs.Regions.{serialBuckets, tableWords, fieldWords, tablesIn, fieldOf, withSigner, withHalf, withEntry, withDepth, withTerms, withBoards, withKind, withField, withEk, linked};
 
 // Where each region starts, and how many words there are in all.
 pub const SIGNERS: usize = 0;
@@ -15,7 +15,14 @@ pub const ENTRIES: usize = HALVES + rules::TERM_LIMIT;
 
 pub const DEPTHS: usize = ENTRIES + rules::TERM_LIMIT;
 
-pub const NEWEST: usize = DEPTHS + rules::TERM_LIMIT;
+pub const KINDS: usize = DEPTHS + rules::TERM_LIMIT;
+
+// The fields of a term at most, a word each.
+pub const FIELD_WORDS: usize = 4;
+
+pub const FIELDS: usize = KINDS + rules::TERM_LIMIT;
+
+pub const NEWEST: usize = FIELDS + FIELD_WORDS * rules::TERM_LIMIT;
 
 // Serial numbers with the same low ten bits share a bucket.
 pub const SERIAL_BUCKETS: usize = 1024;
@@ -60,6 +67,23 @@ pub fn depth_of(tables: &[u16; WORDS], t: usize) -> u16
     tables[DEPTHS + t]
 }
 
+// The kind of a term.
+pub fn kind_of(tables: &[u16; WORDS], t: usize) -> u16
+    requires { ⌜ t < termLimit ⌝ }
+    ensures { λ r. ⌜ r ≡ tablesIn (now (tables .entry)) .terms .kind t ⌝ }
+{
+    tables[KINDS + t]
+}
+
+// A field of a term.
+pub fn field_of(tables: &[u16; WORDS], t: usize, i: usize) -> u16
+    requires { ⌜ (t < termLimit) × (i < fieldWords) ⌝ }
+    ensures { λ r. ⌜ r ≡ fieldOf (tablesIn (now (tables .entry)) .terms) t i ⌝ }
+{
+    let at = FIELD_WORDS * t + i;
+    tables[FIELDS + at]
+}
+
 pub fn note_signer(tables: &mut [u16; WORDS], party: usize, key: u16)
     requires { ⌜ (length (now tables) ≡ tableWords) × (party < partyLimit) ⌝ }
     ensures { λ _. ⌜ tablesIn (now (tables .exit)) ≡ withSigner (tablesIn (now (tables .entry))) (put (tablesIn (now (tables .entry)) .signer) party key) ⌝ }
@@ -86,6 +110,21 @@ pub fn note_depth(tables: &mut [u16; WORDS], t: usize, depth: u16)
     ensures { λ _. ⌜ tablesIn (now (tables .exit)) ≡ withDepth (tablesIn (now (tables .entry))) (put (tablesIn (now (tables .entry)) .depth) t depth) ⌝ }
 {
     tables[DEPTHS + t] = depth;
+}
+
+pub fn note_kind(tables: &mut [u16; WORDS], t: usize, kind: u16)
+    requires { ⌜ (length (now tables) ≡ tableWords) × (t < termLimit) ⌝ }
+    ensures { λ _. ⌜ tablesIn (now (tables .exit)) ≡ withTerms (tablesIn (now (tables .entry))) (withKind (tablesIn (now (tables .entry)) .terms) t kind) ⌝ }
+{
+    tables[KINDS + t] = kind;
+}
+
+pub fn note_field(tables: &mut [u16; WORDS], t: usize, i: usize, word: u16)
+    requires { ⌜ (length (now tables) ≡ tableWords) × (t < termLimit) × (i < fieldWords) ⌝ }
+    ensures { λ _. ⌜ tablesIn (now (tables .exit)) ≡ withTerms (tablesIn (now (tables .entry))) (withField (tablesIn (now (tables .entry)) .terms) t i word) ⌝ }
+{
+    let at = FIELD_WORDS * t + i;
+    tables[FIELDS + at] = word;
 }
 
 // One more than the place of the entry that was linked last in a bucket, or 0.

@@ -29,6 +29,7 @@ use Rattle.tables.specs.Regions.{tablesIn}
 use Rattle.loaded.specs.Loaded.{fileIn}
 use Rattle.loaded.specs.Entries.{Enters, Boarded, Ledgered, LeavesOn, DeskLeaves, SameKeys}
 use Rattle.loaded.proofs.Standing.{checked-here, holds-kept}
+use Rattle.loaded.proofs.Noted.{finds-kept}
 use Rattle.loaded.proofs.Ledger.{ledger-length}
 use Rattle.loaded.proofs.Room.{ledger-below}
 use Rattle.requests.specs.Formed.{OpenRequested}
@@ -41,7 +42,7 @@ use Rattle.together.specs.Ready.{deskAt, returningAt, pairAt, togetherAt
 use Rattle.together.proofs.Pairs.{one-empty, one-filled}
 
 same-keys : (tables : List ℕ) → SameKeys (tablesIn tables) (tablesIn tables)
-same-keys tables = record { words = refl; signer = refl; half = refl }
+same-keys tables = record { words = refl; signer = refl; half = refl; terms = refl }
 
 pairs-few : (n : ℕ) (bs : List ℕ) (i : ℕ) → length (pairsAt n bs i) ≤ n
 unfolding pairsAt
@@ -65,7 +66,7 @@ module _ {bs s tables : List ℕ} {n at : ℕ} (w : TogetherDone bs s tables n a
     holds = w .here .holds;
     places = refl;
     keys = same-keys tables;
-    room = w .keys;
+    finds = w .finds;
     whole = none .0;
     few = omega (arith, pairs-few pairCount bs (at + 3), none .1);
     ledgered = subst⁻¹ (λ (m : ℕ). Ledgered bs s tables m (w .ledger ++ took g)) as-many (subst⁻¹ (Ledgered bs s tables n) as-old (w .ledgered));
@@ -108,7 +109,7 @@ module _ {bs s₀ tables₀ s tables : List ℕ} {p q n : ℕ} {all : State} {ol
       wellformed = (w .desk, w .returning, w .formed .0, w .formed .1);
       requested = w .opened (x .credential) (iak-open (fileIn bs) Before p q (x .credential) (x .certificate) (w .accepted .0));
       accepts = record { ledger = old ++ took g; enters = w .ledgered .enters; accepted = w .accepted .0; more = room-left };
-      words = w .room;
+      finds = w .finds;
     }
 
     module _ {s′ tables′ : List ℕ} {e : Entry} {r : Gained} (v : DeskLeaves bs s tables (n + g .count) (issueIak p q (x .credential) (x .certificate)) s′ tables′ (e ∷ [])) (adds : Adds g e r) (len : length s′ ≡ length s) where
@@ -139,8 +140,8 @@ module _ {bs s₀ tables₀ s tables : List ℕ} {p q n : ℕ} {all : State} {ol
       issuing-filled = record {
         holds = holds-kept (w .holds) len (v .places);
         places = v .places ∙ w .places;
-        keys = record { words = v .keys .words ∙ w .keys .words; signer = v .keys .signer ∙ w .keys .signer; half = v .keys .half ∙ w .keys .half };
-        room = v .keys .words ∙ w .room;
+        keys = record { words = v .keys .words ∙ w .keys .words; signer = v .keys .signer ∙ w .keys .signer; half = v .keys .half ∙ w .keys .half; terms = v .keys .terms ∙ w .keys .terms };
+        finds = finds-kept (w .finds) (v .keys);
         whole = adds .whole;
         few = omega (arith, w .few, adds .count);
         ledgered = record {
@@ -165,7 +166,7 @@ issuing-ends {tables′ = tables′} {n = n} {g = g} w₀ all = (
   all w₀ .whole,
   record {
     on = λ old o.
-        let v = all (record { here = w₀ .here; keys = w₀ .keys; ledger = old; ledgered = o .ledgered; accepted = o .accepted }) in
+        let v = all (record { here = w₀ .here; finds = w₀ .finds; ledger = old; ledgered = o .ledgered; accepted = o .accepted }) in
         record { columns = v .left; enters = subst⁻¹ (λ (m : ℕ). Enters tables′ (n + m) (old ++ took g)) (took-length g (v .whole)) (v .ledgered .enters); boards = v .ledgered .boards };
     places = all w₀ .places;
     keys = all w₀ .keys;

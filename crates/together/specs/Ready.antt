@@ -17,7 +17,7 @@ use Rattle.theorems.proofs.Loading.{PairsFormed, Wellformed}
 use Rattle.theorems.proofs.Together.{PairsAccepted}
 use Rattle.state.specs.View.{view}
 use Rattle.state.proofs.Exact.{stateOf}
-use Rattle.tables.specs.Regions.{tableWords, tablesIn}
+use Rattle.tables.specs.Regions.{tablesIn}
 use Rattle.loaded.specs.Loaded.{fileIn, Holds, Finds}
 use Rattle.loaded.specs.Entries.{Ledgered, SameKeys}
 use Rattle.gained.specs.declared.Gained.{Gained}
@@ -70,7 +70,7 @@ pub record Judges (bs s tables : List ℕ) (at n x : ℕ) : Type 0 where
 -- an accepted one
 pub record TogetherDone (bs s tables : List ℕ) (n at : ℕ) : Type 0 where
   pub here : TogetherHere bs s at
-  pub keys : length tables ≡ tableWords
+  pub finds : Finds bs tables
   pub ledger : List Entry
   pub ledgered : Ledgered bs s tables n ledger
   pub accepted : outcome (fileIn bs) (stateOf (view s) ledger) (togetherAt bs at) ≡ 0
@@ -81,7 +81,7 @@ pub record Issuing (bs s₀ tables₀ : List ℕ) (p q : ℕ) (all : State) (xs 
   pub holds : Holds bs s
   pub places : view s .place ≡ view s₀ .place
   pub keys : SameKeys (tablesIn tables₀) (tablesIn tables)
-  pub room : length tables ≡ tableWords
+  pub finds : Finds bs tables
   pub whole : Whole g
   pub few : g .count + length xs ≤ pairCount
   pub ledgered : Ledgered bs s tables (n + g .count) (old ++ took g)

@@ -18,7 +18,7 @@ ghost use Rattle.theorems.specs.Judging.{othersEnd, judged};
 ghost use Rattle.theorems.proofs.Loading.{PairsFormed};
 ghost use Rattle.state.specs.View.{view};
 ghost use Rattle.state.proofs.Exact.{stateOf};
-ghost use Rattle.loaded.specs.Loaded.{fileIn, Holds};
+ghost use Rattle.loaded.specs.Loaded.{fileIn, Holds, Finds};
 ghost use Rattle.loaded.specs.Entries.{Ledgered, DecidesListed, DeskLeaves};
 ghost use Rattle.gained.specs.Took.{took, Whole};
 ghost use Rattle.requests.specs.Formed.{Requested};
@@ -91,19 +91,26 @@ fn pairs_fault(file: &[u8], first: usize) -> u8
 }
 
 // The EK in the request that a credential was opened with.
-fn ek_asked(file: &[u8], state: &[u8], c: usize) -> usize
-    requires { ⌜ Holds (now file) (now state) × (c < length (fileIn (now file) .terms)) × Requested (fileIn (now file)) (view (now state) .request c) ⌝ }
+fn ek_asked(file: &[u8], state: &[u8], tables: &[u16; tables::WORDS], c: usize) -> usize
+    requires { ⌜ Holds (now file) (now state) × Finds (now file) (now tables) × (c < length (fileIn (now file) .terms)) × Requested (fileIn (now file)) (view (now state) .request c) ⌝ }
     ensures { λ x. ⌜ x ≡ ekOf (fileIn (now (file .entry))) (view (now (state .entry)) .request c) ⌝ }
 {
     let q = state::request_of(state, c);
-    let body = loaded::left_of(file, state, q);
-    let certificate = loaded::idevid_certificate_of(file, state, body);
-    loaded::certified_key_of(file, state, certificate)
+    let body = loaded::left_of(file, tables, q);
+    let certificate = loaded::idevid_certificate_of(file, tables, body);
+    loaded::certified_key_of(file, tables, certificate)
 }
 
 // Whether the pair at a place is empty, has another Subject, or has this EK.
-fn pair_ends(file: &[u8], state: &[u8], place: usize, wanted: Subject, ek: usize) -> bool
-    requires { ⌜ Holds (now file) (now state) × (place + 3 < length (now file)) × PairsFormed (fileIn (now file)) (pairsAt 1 (now file) place) × PairsRequested (fileIn (now file)) (view (now state) .request) (pairsAt 1 (now file) place) ⌝ }
+fn pair_ends(
+    file: &[u8],
+    state: &[u8],
+    tables: &[u16; tables::WORDS],
+    place: usize,
+    wanted: Subject,
+    ek: usize,
+) -> bool
+    requires { ⌜ Holds (now file) (now state) × Finds (now file) (now tables) × (place + 3 < length (now file)) × PairsFormed (fileIn (now file)) (pairsAt 1 (now file) place) × PairsRequested (fileIn (now file)) (view (now state) .request) (pairsAt 1 (now file) place) ⌝ }
     ensures { λ x. ⌜ x ≡ othersEnd (fileIn (now (file .entry))) (view (now (state .entry)) .request) wanted ek (pairsAt 1 (now (file .entry)) place) ⌝ }
 {
     if checks::empty_pair(file, place) {
@@ -111,23 +118,31 @@ fn pair_ends(file: &[u8], state: &[u8], place: usize, wanted: Subject, ek: usize
     }
     let c = records::word_at(file, place) as usize;
     let r = records::word_at(file, place + 2) as usize;
-    let certificate = requests::certificate_of(file, state, r);
+    let certificate = requests::certificate_of(file, tables, r);
     let named = certificate.subject;
     if !rules::same_subject(named, wanted) {
         return true;
     }
-    ek_asked(file, state, c) == ek
+    ek_asked(file, state, tables, c) == ek
 }
 
 // The same of n pairs.
-fn others_end(file: &[u8], state: &[u8], first: usize, n: usize, wanted: Subject, ek: usize) -> bool
-    requires { ⌜ Holds (now file) (now state) × (first + pairWidth * n ≤ length (now file)) × PairsFormed (fileIn (now file)) (pairsAt n (now file) first) × PairsRequested (fileIn (now file)) (view (now state) .request) (pairsAt n (now file) first) ⌝ }
+fn others_end(
+    file: &[u8],
+    state: &[u8],
+    tables: &[u16; tables::WORDS],
+    first: usize,
+    n: usize,
+    wanted: Subject,
+    ek: usize,
+) -> bool
+    requires { ⌜ Holds (now file) (now state) × Finds (now file) (now tables) × (first + pairWidth * n ≤ length (now file)) × PairsFormed (fileIn (now file)) (pairsAt n (now file) first) × PairsRequested (fileIn (now file)) (view (now state) .request) (pairsAt n (now file) first) ⌝ }
     ensures { λ x. ⌜ x ≡ othersEnd (fileIn (now (file .entry))) (view (now (state .entry)) .request) wanted ek (pairsAt n (now (file .entry)) first) ⌝ }
 {
     let mut place = first;
     let mut left = n;
     while left != 0 {
-        if !pair_ends(file, state, place, wanted, ek) {
+        if !pair_ends(file, state, tables, place, wanted, ek) {
             return false;
         }
         place += rules::PAIR_WIDTH;
@@ -161,10 +176,10 @@ fn judge(
     if x != 0 {
         return x;
     }
-    let ek = ek_asked(file, state, credential);
-    let issued = requests::certificate_of(file, state, certificate);
+    let ek = ek_asked(file, state, tables, credential);
+    let issued = requests::certificate_of(file, tables, certificate);
     let named = issued.subject;
-    if !others_end(file, state, at + 3, n, named, ek) {
+    if !others_end(file, state, tables, at + 3, n, named, ek) {
         return 31;
     }
     0

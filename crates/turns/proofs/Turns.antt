@@ -1,118 +1,209 @@
--- The loop over commands: what it has done before a turn, as work left.
---     Turn                                             the commands from a place on still give all that the first n from the first place on give
---     turn-start, turn-here, turn-room, turn-next      before the loop; at a turn
---     turn-stop                                        after the loop
---     Going, going-start, going-ready, going-fits, going-less, going-next, going-ends     the same of the lent places, with what stands between commands
+-- The loop over commands: what it has done at a moment, as work left.
+--     leads-refl, leads-trans, leads-next, leads-room                 from a moment to another; by a command
+--     underway-start, underway-here, underway-next                    how far the run is
+--     Onward, onward-start, onward-next, onward-last, onward-ends     the turn's own loop
+--     Going, going-start, going-ready, going-fits, going-next, going-ends     the loop over turns, on the lent places
 -- Assumes nothing.
-use mathlib.Core.Path.{_≡_, refl, sym, ap, subst⁻¹, _∙_}
+use mathlib.Core.Path.{_≡_, refl, sym, ap, subst, subst⁻¹, _∙_}
 use mathlib.Core.Bool.{Bool, true, false, cond}
-use mathlib.Core.List.{List, [], _∷_, _++_}
-use Prim.Native.Nat.{ℕ, suc, _+_, _*_, _-_, _<_, _≤_}
+use mathlib.Core.List.{List, [], _∷_, _++_, append-nil}
+use Prim.Native.Nat.{ℕ, suc, _+_, _-_, _<_, _≤_}
+use native.Mathlib.Nat.{add-assoc, add-zero}
+use native.Mathlib.Numerals.{add-one}
 use native.Mathlib.Omega.{arith}
 use lib.Dec.{eqb, ltb}
-use borrow.Author.Tests.{ltb-true, ltb-false}
-use lib.ListN.{length, set, take, drop, length-set}
-use lib.Seq.{sets, take-at, drop-at}
+use borrow.Author.Tests.{ltb-true}
+use lib.ListN.{length, set, take, drop, length-append}
+use lib.Seq.{take-at, drop-at, length-sets}
 use Rattle.rules.specs.declared.Entry.{Entry}
 use Rattle.rules.specs.Limits.{fileLimit, termLimit, pairCount, commandLimit, stateBytes}
 use Rattle.rules.specs.File.{File, Command}
 use Rattle.rules.specs.State.{State}
 use Rattle.rules.specs.Run.{outcome, after, run, outcomes, zeros, others}
 use Rattle.theorems.proofs.Loading.{Wellformed}
+use Rattle.learning.specs.There.{kindThere}
 use Rattle.reader.specs.Place.{nextPlace}
 use Rattle.lookup.specs.There.{commandThere}
 use Rattle.lookup.specs.Commands.{commandsLeft, CommandAt, Commands}
-use Rattle.lookup.proofs.Left.{command-here, commands-next, command-long, left-start, run-next, run-stop, outcomes-next, outcomes-stop, left-stop, left-all}
+use Rattle.lookup.proofs.Left.{command-here, commands-next, command-long, left-next, left-inside}
 use Rattle.state.specs.View.{view}
 use Rattle.state.proofs.Exact.{Bytes, stateOf}
 use Rattle.loaded.specs.Loaded.{fileIn}
-use Rattle.gained.specs.Took.{took}
-use Rattle.commands.specs.Standing.{Stands, Does}
+use Rattle.gained.specs.declared.Gained.{Gained}
+use Rattle.gained.specs.Took.{took, Whole}
+use Rattle.gained.proofs.Took.{took-none, took-length}
+use Rattle.commands.specs.Standing.{Stands, SomeStands, Does, Decided, DeskAccepted, DeskDoes}
 use Rattle.turns.specs.declared.Progress.{Progress}
 use Rattle.turns.specs.declared.Turned.{Turned}
-use Rattle.turns.specs.Turns.{stepped, TurnReady, Turns, RunReady, starts, onto, Executes}
+use Rattle.turns.specs.Turns.{stepped, StepReady, Underway, Result, results, Moment, result, Leads, TurnReady, Turns, RunReady, starts, onto, Executes}
 
--- the outcomes left
-abbrev rest : File → List ℕ → ℕ → ℕ → State → List ℕ
-rest f bs at n x = outcomes f (commandsLeft bs at n) x
+-- ---- from a moment to another
+abbrev moment : List ℕ → List ℕ → List Entry → Progress → Moment
+moment s out ledger p = record { state = s; outcomes = out; ledger = ledger; progress = p }
 
-pub record Turn (f : File) (bs : List ℕ) (first n : ℕ) (x₀ : State) (out₀ : List ℕ) (x : State) (out : List ℕ) (at i a b : ℕ) : Type 0 where
-  pub stands : Commands (Wellformed f) bs at
-  -- a command has four bytes at least, so there is room for its outcome
-  pub paced : 4 * i ≤ at
-  pub room : length out ≡ length out₀
-  pub counted : a + b ≡ i
-  pub state : run f (commandsLeft bs at (n - i)) x ≡ run f (commandsLeft bs first n) x₀
-  pub bytes : sets out i (rest f bs at (n - i) x) ≡ sets out₀ 0 (rest f bs first n x₀)
-  pub accepted : a + zeros (rest f bs at (n - i) x) ≡ zeros (rest f bs first n x₀)
-  pub refused : b + others (rest f bs at (n - i) x) ≡ others (rest f bs first n x₀)
+leads-refl : (bs : List ℕ) (u : Moment) → Leads bs u u
+leads-refl bs u = record { same = refl; places = refl }
 
+leads-trans : {bs : List ℕ} {u v w : Moment} → Leads bs u v → Leads bs v w → Leads bs u w
+leads-trans a b = record { same = b .same ∙ a .same; places = b .places ∙ a .places }
+
+-- a command more
+results-next : (f : File) (x : State) (c : Command) (cs : List Command) (out : List ℕ) (i a b y : ℕ) → y ≡ outcome f x c
+    → results f cs (after f x c) (set out i y) (i + 1) (a + cond (eqb y 0) 1 0) (b + cond (eqb y 0) 0 1) ≡ results f (c ∷ cs) x out i a b
+unfolding run outcomes zeros others
+results-next f x c cs out i a b y e =
+    rw e (rw (add-one i, add-assoc a (cond (eqb (outcome f x c) 0) 1 0) (zeros (outcomes f cs (after f x c))), add-assoc b (cond (eqb (outcome f x c) 0) 0 1) (others (outcomes f cs (after f x c)))))
+
+leads-next : {bs s out : List ℕ} {p : Progress} {ledger : List Entry} {s′ tables′ : List ℕ} {y m : ℕ} {ledger′ : List Entry} (count : ℕ) → 0 < p .left → p .at < length bs
+    → Does bs s (p .at) ledger s′ tables′ y m ledger′
+    → Leads bs (moment s out ledger p) (moment s′ (set out (p .done) y) ledger′ (stepped (length bs) p y count (nextPlace bs (p .at))))
+leads-next {bs} {s} {out} {p} {ledger} {s′} {tables′} {y} {m} {ledger′} count more inside d = record {
+  same =
+      let f = fileIn bs in
+      let x = stateOf (view s) ledger in
+      let x′ = stateOf (view s′) ledger′ in
+      let c = commandThere bs (p .at) in
+      let next = nextPlace bs (p .at) in
+      let a′ = p .accepted + cond (eqb y 0) 1 0 in
+      let b′ = p .refused + cond (eqb y 0) 0 1 in
+      ap (λ (cs : List Command). results f cs x′ (set out (p .done) y) (p .done + 1) a′ b′) (left-inside bs next (p .left - 1))
+      ∙ ap (λ (v : State). results f (commandsLeft bs next (p .left - 1)) v (set out (p .done) y) (p .done + 1) a′ b′) (d .left)
+      ∙ results-next f x c (commandsLeft bs next (p .left - 1)) out (p .done) (p .accepted) (p .refused) y (d .decided)
+      ∙ ap (λ (cs : List Command). results f cs x out (p .done) (p .accepted) (p .refused)) (sym (left-next bs (p .at) (p .left) more inside));
+  places = d .places;
+}
+
+leads-room : {bs : List ℕ} {u v : Moment} → Leads bs u v → length (v .outcomes) ≡ length (u .outcomes)
+leads-room w = simp length-sets at (ap (λ (r : Result). length (r .outcomes)) (w .same))
+
+-- ---- how far the run is
 one-of : (b : Bool) → cond b 1 0 + cond b 0 1 ≡ 1
 one-of true = refl
 one-of false = refl
 
-module _ (f : File) (bs : List ℕ) (first n : ℕ) (x₀ : State) (out₀ : List ℕ) where
-  pub turn-start : Commands (Wellformed f) bs first → Turn f bs first n x₀ out₀ x₀ out₀ first 0 0 0
-  turn-start w =
-      let e = left-start bs first n in
+-- some are left: the file goes on
+left-some : (at length n : ℕ) → 0 < cond (ltb at length) n 0 → at < length
+left-some at length n h = go (ltb at length) refl h
+  where
+    go : (b : Bool) → ltb at length ≡ b → 0 < cond b n 0 → at < length
+    go true q h = ltb-true at length q
+    go false q h = absurd (omega (arith, h))
+
+underway-start : {bs : List ℕ} {first : ℕ} (n : ℕ) → Commands (Wellformed (fileIn bs)) bs first → Underway bs (starts bs first n)
+underway-start {bs} {first} n w = record { commands = w; inside = left-some first (length bs) n; paced = omega arith; counted = refl }
+
+module _ {bs : List ℕ} {p : Progress} (w : Underway bs p) (more : 0 < p .left) where
+  underway-here : CommandAt (Wellformed (fileIn bs)) bs (p .at)
+  underway-here = command-here (Wellformed (fileIn bs)) bs (p .at) (w .commands) (w .inside more)
+
+  underway-small : length bs ≤ fileLimit → p .done < commandLimit
+  underway-small short = omega (arith, w .paced, w .inside more)
+
+  underway-next : (y count : ℕ) → Underway bs (stepped (length bs) p y count (nextPlace bs (p .at)))
+  underway-next y count = record {
+    commands = commands-next (Wellformed (fileIn bs)) bs (p .at) (w .commands) (w .inside more);
+    inside = left-some (nextPlace bs (p .at)) (length bs) (p .left - 1);
+    paced = omega (arith, w .paced, command-long bs (p .at) (underway-here .isCommand));
+    counted = omega (arith, w .counted, one-of (eqb y 0));
+  }
+
+-- a command more leaves fewer
+left-less : (b : Bool) {n : ℕ} → 0 < n → cond b (n - 1) 0 < n
+left-less true h = omega (arith, h)
+left-less false h = h
+
+pub step-less : (bytes : ℕ) (p : Progress) (y count next : ℕ) {q : Progress} → (p .left ≡ 0 → ⊥) → q ≡ stepped bytes p y count next → q .left < p .left
+step-less bytes p y count next some e = subst⁻¹ (λ (q : Progress). q .left < p .left) e (left-less (ltb next bytes) (omega (arith, some)))
+
+-- ---- the turn's own loop: the ledger stays as it is until a desk command is accepted
+pub record Onward (bs s tables out : List ℕ) (from : Progress) (s′ tables′ out′ : List ℕ) (p : Progress) : Type 0 where
+  pub underway : Underway bs p
+  pub fewer : p .left ≤ from .left
+  pub long : length s′ ≡ length s
+  pub bytes : Bytes s′
+  pub stands : (ledger : List Entry) → Stands bs s tables (from .issued) ledger → Stands bs s′ tables′ (p .issued) ledger
+  pub leads : (ledger : List Entry) → Stands bs s tables (from .issued) ledger → Leads bs (moment s out ledger from) (moment s′ out′ ledger p)
+
+pub onward-start : {bs s tables out : List ℕ} {p : Progress} → Underway bs p → Bytes s → Onward bs s tables out p s tables out p
+onward-start {bs} w b = record { underway = w; fewer = omega arith; long = refl; bytes = b; stands = λ ledger st. st; leads = λ ledger st. leads-refl bs _ }
+
+module _ {bs s tables out : List ℕ} {parties : ℕ} {from : Progress} (ready : TurnReady bs s tables out parties from) {s′ tables′ out′ : List ℕ} {p : Progress} (w : Onward bs s tables out from s′ tables′ out′ p) where
+  pub onward-ends : p .left ≡ 0 → {g : Gained} → Whole g → g .count ≡ 0 → Turns bs s tables out from s′ tables′ out′ (record { gained = g; progress = p })
+  onward-ends z {g} whole none =
+      let same : (ledger : List Entry) → ledger ++ took g ≡ ledger = λ ledger. ap (λ (l : List Entry). ledger ++ l) (took-none g none) ∙ append-nil ledger in
       record {
-        stands = w;
-        paced = omega arith;
-        room = refl;
-        counted = refl;
-        state = ap (λ (cs : List Command). run f cs x₀) e;
-        bytes = ap (λ (cs : List Command). sets out₀ 0 (outcomes f cs x₀)) e;
-        accepted = omega (arith, ap (λ (cs : List Command). zeros (outcomes f cs x₀)) e);
-        refused = omega (arith, ap (λ (cs : List Command). others (outcomes f cs x₀)) e);
+        whole = whole;
+        bytes = w .bytes;
+        underway = w .underway;
+        less = λ h. omega (arith, h, z);
+        stands = λ ledger st. subst⁻¹ (Stands bs s′ tables′ (p .issued)) (same ledger) (w .stands ledger st);
+        leads = λ ledger st. subst⁻¹ (λ (l : List Entry). Leads bs (moment s out ledger from) (moment s′ out′ l p)) (same ledger) (w .leads ledger st);
       }
 
-  module _ (x : State) (out : List ℕ) (at i a b : ℕ) (w : Turn f bs first n x₀ out₀ x out at i a b) where
-    -- there is room for the outcome
-    pub turn-room : at < length bs → length bs ≤ fileLimit → i < commandLimit
-    turn-room h l = omega (arith, w .paced)
+  pub onward-stands : SomeStands bs s′ tables′ (p .issued)
+  onward-stands = (ready .stands .0, w .stands (ready .stands .0) (ready .stands .1))
 
-    module _ (h : at < length bs) (l : i < n) where
-      pub turn-here : CommandAt (Wellformed f) bs at
-      turn-here = command-here (Wellformed f) bs at (w .stands) h
+  pub onward-length : length out′ ≡ length out
+  onward-length = leads-room (w .leads (ready .stands .0) (ready .stands .1))
 
-      abbrev x′ : State
-      x′ = after f x (commandThere bs at)
+  module _ (some : p .left ≡ 0 → ⊥) where
+    abbrev more : 0 < p .left
+    more = omega (arith, some)
 
-      abbrev rest′ : List ℕ
-      rest′ = rest f bs (nextPlace bs at) (n - (i + 1)) x′
+    pub onward-here : CommandAt (Wellformed (fileIn bs)) bs (p .at)
+    onward-here = underway-here (w .underway) more
 
-      exact : (y : ℕ) → y ≡ outcome f x (commandThere bs at) → Turn f bs first n x₀ out₀ x′ (set out i y) (nextPlace bs at) (i + 1) (a + cond (eqb y 0) 1 0) (b + cond (eqb y 0) 0 1)
-      unfolding zeros others
-      exact y e =
-          let d : rest f bs at (n - i) x ≡ y ∷ rest′ = outcomes-next f bs at x n i h l ∙ ap (λ (u : ℕ). u ∷ rest′) (sym e) in
-          let z : zeros (rest f bs at (n - i) x) ≡ cond (eqb y 0) 1 0 + zeros rest′ = ap zeros d in
-          let o : others (rest f bs at (n - i) x) ≡ cond (eqb y 0) 0 1 + others rest′ = ap others d in
-          let q : i + 1 ≡ suc i = omega arith in
-          record {
-            stands = commands-next (Wellformed f) bs at (w .stands) h;
-            paced = omega (arith, w .paced, command-long bs at (turn-here .isCommand));
-            room = length-set out i y ∙ w .room;
-            counted = omega (arith, w .counted, one-of (eqb y 0));
-            state = sym (run-next f bs at x n i h l) ∙ w .state;
-            bytes = ap (λ (k : ℕ). sets (set out i y) k rest′) q ∙ sym (ap (sets out i) d) ∙ w .bytes;
-            accepted = omega (arith, w .accepted, z);
-            refused = omega (arith, w .refused, o);
-          }
+    pub onward-room : p .done < length out′
+    onward-room = omega (arith, underway-small (w .underway) more (ready .short), onward-length, ready .places)
 
-      pub turn-next : (u : State) → u ≡ x′ → (y : ℕ) → y ≡ outcome f x (commandThere bs at) → Turn f bs first n x₀ out₀ u (set out i y) (nextPlace bs at) (i + 1) (a + cond (eqb y 0) 1 0) (b + cond (eqb y 0) 0 1)
-      turn-next u eu y ey = subst⁻¹ (λ (v : State). Turn f bs first n x₀ out₀ v (set out i y) (nextPlace bs at) (i + 1) (a + cond (eqb y 0) 1 0) (b + cond (eqb y 0) 0 1)) eu (exact y ey)
+    pub step-ready : {count : ℕ} → count ≤ pairCount → StepReady p count
+    step-ready h = record { more = more; small = underway-small (w .underway) more (ready .short); counted = w .underway .counted; few = onward-stands .1 .enters .few; gained = h }
 
-    pub turn-stop : commandsLeft bs at (n - i) ≡ []
-        → (x ≡ run f (commandsLeft bs first n) x₀) × ((out ≡ sets out₀ 0 (rest f bs first n x₀))
-        × ((a ≡ zeros (rest f bs first n x₀)) × (b ≡ others (rest f bs first n x₀))))
-    unfolding zeros others
-    turn-stop e =
-        let d : rest f bs at (n - i) x ≡ [] = outcomes-stop f bs at x n i e in
-        let z : zeros (rest f bs at (n - i) x) ≡ 0 = ap zeros d in
-        let o : others (rest f bs at (n - i) x) ≡ 0 = ap others d in (
-          sym (run-stop f bs at x n i e) ∙ w .state,
-          (sym (ap (sets out i) d) ∙ w .bytes, (omega (arith, w .accepted, z), omega (arith, w .refused, o))),
-        )
+    module _ {s″ : List ℕ} {y : ℕ} (d : Decided bs s′ tables′ (p .at) s″ y) where
+      -- a device command, or a refused one
+      pub onward-next : (y ≡ 0 → kindThere bs (p .at) < 0x3E) → length s″ ≡ length s′ → Bytes s″ → {q : Progress} {next : ℕ} → next ≡ nextPlace bs (p .at) → q ≡ stepped (length bs) p y 0 next
+          → Onward bs s tables out from s″ tables′ (set out′ (p .done) y) q
+      onward-next h long bytes {q} {next} n e =
+          subst⁻¹ (Onward bs s tables out from s″ tables′ (set out′ (p .done) y)) (e ∙ ap (stepped (length bs) p y 0) n)
+          (record {
+            underway = underway-next (w .underway) more y 0;
+            fewer = omega (arith, w .fewer, left-less (ltb (nextPlace bs (p .at)) (length bs)) more);
+            long = long ∙ w .long;
+            bytes = bytes;
+            stands = λ ledger st. let z : p .issued + 0 ≡ p .issued = omega arith in subst⁻¹ (λ (m : ℕ). Stands bs s″ tables′ m ledger) z (does ledger st .stands);
+            leads = λ ledger st. leads-trans (w .leads ledger st) (leads-next 0 more (w .underway .inside more) (does ledger st));
+          })
+        where
+          does : (ledger : List Entry) → Stands bs s tables (from .issued) ledger → Does bs s′ (p .at) ledger s″ tables′ y (p .issued) ledger
+          does ledger st = d .done h (p .issued) ledger (w .stands ledger st)
+
+      -- an accepted desk command
+      module _ (z : y ≡ 0) (k : 0x3D < kindThere bs (p .at)) where
+        pub onward-accepted : DeskAccepted bs s″ tables′ (p .issued) (p .at)
+        onward-accepted = subst⁻¹ (λ (u : List ℕ). DeskAccepted bs u tables′ (p .issued) (p .at)) (d .same k) (record {
+          stands = onward-stands;
+          here = onward-here;
+          isDesk = k;
+          accepted = λ ledger st. sym z ∙ d .decided (p .issued) ledger st;
+        })
+
+        pub onward-last : {v tables″ : List ℕ} {g : Gained} → DeskDoes bs s″ tables′ (p .issued) (p .at) v tables″ g → Bytes v → {q : Progress} {next : ℕ} → next ≡ nextPlace bs (p .at) → q ≡ stepped (length bs) p y (g .count) next
+            → Turns bs s tables out from v tables″ (set out′ (p .done) y) (record { gained = g; progress = q })
+        onward-last {v} {tables″} {g} desk bytes {q} {next} n e =
+            subst⁻¹ (λ (q : Progress). Turns bs s tables out from v tables″ (set out′ (p .done) y) (record { gained = g; progress = q })) (e ∙ ap (stepped (length bs) p y (g .count)) n)
+            (record {
+              whole = desk .whole;
+              bytes = bytes;
+              underway = underway-next (w .underway) more y (g .count);
+              less = λ h. omega (arith, w .fewer, left-less (ltb (nextPlace bs (p .at)) (length bs)) more);
+              stands = λ ledger st. does ledger st .stands;
+              leads = λ ledger st. leads-trans (w .leads ledger st) (leads-next (g .count) more (w .underway .inside more) (does ledger st));
+            })
+          where
+            does : (ledger : List Entry) → Stands bs s tables (from .issued) ledger → Does bs s′ (p .at) ledger v tables″ y (p .issued + g .count) (ledger ++ took g)
+            does ledger st =
+                subst⁻¹ (λ (u : ℕ). Does bs s′ (p .at) ledger v tables″ u (p .issued + g .count) (ledger ++ took g)) z
+                (subst (λ (u : List ℕ). DeskDoes bs u tables′ (p .issued) (p .at) v tables″ g) (d .same k) desk .does ledger (w .stands ledger st))
 
 -- ---- the ledger's first places
 length-onto : (es l : List Entry) → length es ≤ length l → length (onto es l) ≡ length l
@@ -132,10 +223,9 @@ pub record Going (bs s₀ out₀ : List ℕ) (first n : ℕ) (old : List Entry) 
   pub entries : List Entry
   pub placed : v .ledger ≡ onto entries old
   pub stands : Stands bs (v .state) (v .tables) (v .progress .issued) entries
-  pub places : view (v .state) .place ≡ view s₀ .place
   pub bytes : Bytes (v .state)
-  pub left : v .progress .left ≡ cond (ltb (v .progress .at) (length bs)) (n - v .progress .done) 0
-  pub turn : Turn (fileIn bs) bs first n (stateOf (view s₀) []) out₀ (stateOf (view (v .state)) entries) (v .outcomes) (v .progress .at) (v .progress .done) (v .progress .accepted) (v .progress .refused)
+  pub underway : Underway bs (v .progress)
+  pub leads : Leads bs (moment s₀ out₀ [] (starts bs first n)) (moment (v .state) (v .outcomes) entries (v .progress))
 
 pub going-start : (bs s tables out : List ℕ) (parties first n : ℕ) (l : List Entry) → RunReady bs s tables out parties first
     → Going bs s out first n l (record { state = s; tables = tables; outcomes = out; ledger = l; progress = starts bs first n })
@@ -143,92 +233,68 @@ going-start bs s tables out parties first n l w = record {
   entries = [];
   placed = refl;
   stands = w .stands;
-  places = refl;
   bytes = w .bytes;
-  left = let e : n - 0 ≡ n = omega arith in ap (λ (m : ℕ). cond (ltb first (length bs)) m 0) (sym e);
-  turn = turn-start (fileIn bs) bs first n (stateOf (view s) []) out (w .commands);
+  underway = underway-start n (w .commands);
+  leads = leads-refl bs _;
 }
 
--- some are left: the file goes on, and more were asked for
-left-some : (at length n i left : ℕ) → left ≡ cond (ltb at length) (n - i) 0 → 0 < left → (at < length) × (i < n)
-left-some at length n i left e h = go (ltb at length) refl e
-  where
-    go : (b : Bool) → ltb at length ≡ b → left ≡ cond b (n - i) 0 → (at < length) × (i < n)
-    go true q e = (ltb-true at length q, omega (arith, e, h))
-    go false q e = absurd (omega (arith, e, h))
-
-left-none : (bs : List ℕ) (at n i left : ℕ) → left ≡ cond (ltb at (length bs)) (n - i) 0 → left ≡ 0 → commandsLeft bs at (n - i) ≡ []
-left-none bs at n i left e z = go (ltb at (length bs)) refl e
-  where
-    go : (b : Bool) → ltb at (length bs) ≡ b → left ≡ cond b (n - i) 0 → commandsLeft bs at (n - i) ≡ []
-    go true q e = left-all bs at n i (omega (arith, e, z))
-    go false q e = left-stop bs at n i (ltb-false at (length bs) q)
+-- none are left: what the run comes to is what is there
+result-ends : (bs : List ℕ) (v : Moment) → v .progress .left ≡ 0
+    → result bs v ≡ record { state = stateOf (view (v .state)) (v .ledger); outcomes = v .outcomes; accepted = v .progress .accepted; refused = v .progress .refused }
+unfolding commandsLeft run outcomes zeros others
+result-ends bs v z =
+    let p = v .progress in
+    ap (λ (m : ℕ). results (fileIn bs) (commandsLeft bs (p .at) m) (stateOf (view (v .state)) (v .ledger)) (v .outcomes) (p .done) (p .accepted) (p .refused)) z ∙ rw (add-zero (p .accepted), add-zero (p .refused))
 
 module _ {bs s₀ out₀ : List ℕ} {first n : ℕ} {old : List Entry} {v : Values} (w : Going bs s₀ out₀ first n old v) where
   pub going-ends : v .progress .left ≡ 0 → Executes bs s₀ out₀ first n old (v .state) (v .tables) (v .outcomes) (v .ledger) (v .progress)
   going-ends z =
-      let r = turn-stop _ _ _ _ _ _ _ _ _ _ _ _ (w .turn) (left-none bs (v .progress .at) n (v .progress .done) (v .progress .left) (w .left) z) in
-      record { entries = w .entries; ledger = w .placed; state = r .0; outcomes = r .1 .0; accepted = r .1 .1 .0; refused = r .1 .1 .1; stands = w .stands; bytes = w .bytes; places = w .places }
+      let r = sym (result-ends bs (moment (v .state) (v .outcomes) (w .entries) (v .progress)) z) ∙ w .leads .same
+      ∙ ap (λ (cs : List Command). results (fileIn bs) cs (stateOf (view s₀) []) out₀ 0 0 0) (left-inside bs first n) in
+      record {
+        entries = w .entries;
+        ledger = w .placed;
+        state = ap (λ (y : Result). y .state) r;
+        outcomes = ap (λ (y : Result). y .outcomes) r;
+        accepted = omega (arith, ap (λ (y : Result). y .accepted) r);
+        refused = omega (arith, ap (λ (y : Result). y .refused) r);
+        stands = w .stands;
+        bytes = w .bytes;
+        places = w .leads .places;
+      }
 
   pub going-whole : termLimit ≤ length old → length (v .ledger) ≡ length old
   going-whole room = ap length (w .placed) ∙ length-onto (w .entries) old (omega (arith, w .stands .enters .few, w .stands .enters .count, room))
 
-  module _ (more : 0 < v .progress .left) where
-    abbrev on : (v .progress .at < length bs) × (v .progress .done < n)
-    on = left-some (v .progress .at) (length bs) n (v .progress .done) (v .progress .left) (w .left) more
+  pub going-ready : length bs ≤ fileLimit → (parties : ℕ) → parties ≡ length (fileIn bs .roles) → commandLimit ≤ length out₀ → TurnReady bs (v .state) (v .tables) (v .outcomes) parties (v .progress)
+  going-ready short parties are places = record {
+    stands = (w .entries, w .stands);
+    underway = w .underway;
+    short = short;
+    places = omega (arith, leads-room (w .leads), places);
+    partiesAre = are;
+  }
 
-    pub going-ready : length bs ≤ fileLimit → (parties : ℕ) → parties ≡ length (fileIn bs .roles) → commandLimit ≤ length out₀ → TurnReady bs (v .state) (v .tables) (v .outcomes) parties (v .progress)
-    going-ready short parties are places =
-        let small = turn-room _ _ _ _ _ _ _ _ _ _ _ _ (w .turn) (on .0) short in
-        record {
-          stands = (w .entries, w .stands);
-          here = turn-here _ _ _ _ _ _ _ _ _ _ _ _ (w .turn) (on .0) (on .1);
-          partiesAre = are;
-          more = more;
-          small = small;
-          room = omega (arith, small, places, w .turn .room);
-          counted = w .turn .counted;
-        }
+  module _ {s tables out : List ℕ} {r : Turned} (told : Turns bs (v .state) (v .tables) (v .outcomes) (v .progress) s tables out r) where
+    after-stands : Stands bs s tables (r .progress .issued) (w .entries ++ took (r .gained))
+    after-stands = told .stands (w .entries) (w .stands)
 
-    module _ {s tables out : List ℕ} {r : Turned} (told : Turns bs (v .state) (v .tables) (v .outcomes) (v .progress) s tables out r) where
-      does : Does bs (v .state) (v .progress .issued) (v .progress .at) (w .entries) s tables (record { outcome = told .outcome; gained = r .gained })
-      does = told .does (w .entries) (w .stands)
+    -- the entries gained have their places
+    pub going-few : v .progress .issued + r .gained .count ≤ termLimit
+    going-few = omega (arith, after-stands .enters .few, after-stands .enters .count, w .stands .enters .count, length-append (w .entries) (took (r .gained)), took-length (r .gained) (told .whole))
 
-      -- the entries gained have their places
-      pub going-fits : termLimit ≤ length old → (v .progress .issued + r .gained .count ≤ length (v .ledger)) × (r .gained .count ≤ pairCount)
-      going-fits room = (omega (arith, does .stands .enters .few, going-whole room, room), told .whole .few)
+    pub going-fits : termLimit ≤ length old → (v .progress .issued + r .gained .count ≤ length (v .ledger)) × (r .gained .count ≤ pairCount)
+    going-fits room = (omega (arith, going-few, going-whole room, room), told .whole .few)
 
-      pub going-less : r .progress .left < v .progress .left
-      going-less = subst⁻¹ (λ (p : Progress). p .left < v .progress .left) (told .next) (go (ltb (nextPlace bs (v .progress .at)) (length bs)))
-        where
-          go : (b : Bool) → cond b (v .progress .left - 1) 0 < v .progress .left
-          go true = omega (arith, more)
-          go false = more
-
-      next-left : (b : Bool) → cond b (v .progress .left - 1) 0 ≡ cond b (n - (v .progress .done + 1)) 0
-      next-left true = let e : v .progress .left ≡ n - v .progress .done = whole (ltb (v .progress .at) (length bs)) (w .left) in omega (arith, e)
-        where
-          whole : (b : Bool) → v .progress .left ≡ cond b (n - v .progress .done) 0 → v .progress .left ≡ n - v .progress .done
-          whole true q = q
-          whole false q = absurd (omega (arith, q, more))
-      next-left false = refl
-
-      pub going-next : (z : List Entry) → z ≡ onto (w .entries ++ took (r .gained)) old → Going bs s₀ out₀ first n old (record { state = s; tables = tables; outcomes = out; ledger = z; progress = r .progress })
-      going-next z put =
-          let q = told .next in
-          let es = w .entries ++ took (r .gained) in
-          record {
-            entries = es;
-            placed = put;
-            stands = subst⁻¹ (λ (p : Progress). Stands bs s tables (p .issued) es) q (does .stands);
-            places = does .places ∙ w .places;
-            bytes = told .bytes;
-            left = subst⁻¹ (λ (p : Progress). p .left ≡ cond (ltb (p .at) (length bs)) (n - p .done) 0) q (next-left (ltb (nextPlace bs (v .progress .at)) (length bs)));
-            turn =
-                subst⁻¹ (λ (o : List ℕ). Turn (fileIn bs) bs first n (stateOf (view s₀) []) out₀ (stateOf (view s) es) o (r .progress .at) (r .progress .done) (r .progress .accepted) (r .progress .refused)) (told .written)
-                (subst⁻¹ (λ (p : Progress). Turn (fileIn bs) bs first n (stateOf (view s₀) []) out₀ (stateOf (view s) es) (set (v .outcomes) (v .progress .done) (told .outcome)) (p .at) (p .done) (p .accepted) (p .refused)) q
-                (turn-next _ _ _ _ _ _ _ _ _ _ _ _ (w .turn) (on .0) (on .1) (stateOf (view s) es) (does .left) (told .outcome) (does .decided)));
-          }
+    pub going-next : (z : List Entry) → z ≡ onto (w .entries ++ took (r .gained)) old → Going bs s₀ out₀ first n old (record { state = s; tables = tables; outcomes = out; ledger = z; progress = r .progress })
+    going-next z put = record {
+      entries = w .entries ++ took (r .gained);
+      placed = put;
+      stands = after-stands;
+      bytes = told .bytes;
+      underway = told .underway;
+      leads = leads-trans (w .leads) (told .leads (w .entries) (w .stands));
+    }
 
 -- a turn in the first part of a longer state
 pub turned-within : {bs s tables out : List ℕ} {p : Progress} {s′ tables′ out′ : List ℕ} {r : Turned} (rest : List ℕ) → length s′ ≡ stateBytes → Turns bs s tables out p s′ tables′ out′ r

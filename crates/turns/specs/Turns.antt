@@ -2,22 +2,22 @@
 use mathlib.Core.Path.{_≡_}
 use mathlib.Core.Bool.{cond}
 use mathlib.Core.List.{List, [], _++_}
-use Prim.Native.Nat.{ℕ, _+_, _-_, _<_, _≤_}
+use Prim.Native.Nat.{ℕ, _+_, _*_, _-_, _<_, _≤_}
 use lib.Dec.{eqb, ltb}
-use lib.ListN.{length, set, drop}
+use lib.ListN.{length, drop}
 use lib.Seq.{sets}
 use Rattle.rules.specs.declared.Entry.{Entry}
 use Rattle.rules.specs.Limits.{fileLimit, termLimit, pairCount, commandLimit}
+use Rattle.rules.specs.File.{File, Command}
 use Rattle.rules.specs.State.{State}
 use Rattle.rules.specs.Run.{run, outcomes, zeros, others}
 use Rattle.theorems.proofs.Loading.{Wellformed}
 use Rattle.state.specs.View.{view}
 use Rattle.state.proofs.Exact.{Bytes, stateOf}
-use Rattle.reader.specs.Place.{nextPlace}
-use Rattle.lookup.specs.Commands.{commandsLeft, CommandAt, Commands}
+use Rattle.lookup.specs.Commands.{commandsLeft, Commands}
 use Rattle.loaded.specs.Loaded.{fileIn}
-use Rattle.gained.specs.Took.{Whole}
-use Rattle.commands.specs.Standing.{Stands, SomeStands, Does}
+use Rattle.gained.specs.Took.{took, Whole}
+use Rattle.commands.specs.Standing.{Stands, SomeStands}
 use Rattle.turns.specs.declared.Progress.{Progress}
 use Rattle.turns.specs.declared.Turned.{Turned}
 
@@ -39,24 +39,59 @@ pub record StepReady (p : Progress) (count : ℕ) : Type 0 where
   pub few : p .issued ≤ termLimit
   pub gained : count ≤ pairCount
 
--- a command stands at the next place, with room for its outcome
-pub record TurnReady (bs s tables out : List ℕ) (parties : ℕ) (p : Progress) : Type 0 where
-  pub stands : SomeStands bs s tables (p .issued)
-  pub here : CommandAt (Wellformed (fileIn bs)) bs (p .at)
-  pub partiesAre : parties ≡ length (fileIn bs .roles)
-  pub more : 0 < p .left
-  pub small : p .done < commandLimit
-  pub room : p .done < length out
+-- how far a run is between commands: commands alone stand from the next one's place on, and at the end of the file none
+-- is left
+pub record Underway (bs : List ℕ) (p : Progress) : Type 0 where
+  pub commands : Commands (Wellformed (fileIn bs)) bs (p .at)
+  pub inside : 0 < p .left → p .at < length bs
+  -- a command has four bytes at least, so there is room for its outcome
+  pub paced : 4 * p .done ≤ p .at
   pub counted : p .accepted + p .refused ≡ p .done
 
--- what a turn leaves, whatever the ledger
+-- what a run comes to: the state, the outcomes and the totals
+pub record Result : Type 0 where
+  pub state : State
+  pub outcomes : List ℕ
+  pub accepted : ℕ
+  pub refused : ℕ
+
+-- by some commands from a state on, after i of which a were accepted and b refused
+abbrev pub results : File → List Command → State → List ℕ → ℕ → ℕ → ℕ → Result
+results f cs x out i a b = record { state = run f cs x; outcomes = sets out i (outcomes f cs x); accepted = a + zeros (outcomes f cs x); refused = b + others (outcomes f cs x) }
+
+-- a moment between commands: what is held, the ledger, and how far the run is
+pub record Moment : Type 0 where
+  pub state : List ℕ
+  pub outcomes : List ℕ
+  pub ledger : List Entry
+  pub progress : Progress
+
+-- what the run comes to from a moment on, by the commands left
+abbrev pub result : List ℕ → Moment → Result
+result bs v = results (fileIn bs) (commandsLeft bs (v .progress .at) (v .progress .left)) (stateOf (view (v .state)) (v .ledger)) (v .outcomes) (v .progress .done) (v .progress .accepted) (v .progress .refused)
+
+-- one moment leads to another: from there on the run comes to the same
+pub record Leads (bs : List ℕ) (u v : Moment) : Type 0 where
+  pub same : result bs v ≡ result bs u
+  pub places : view (v .state) .place ≡ view (u .state) .place
+
+-- before a turn: room for an outcome of each command
+pub record TurnReady (bs s tables out : List ℕ) (parties : ℕ) (p : Progress) : Type 0 where
+  pub stands : SomeStands bs s tables (p .issued)
+  pub underway : Underway bs p
+  pub short : length bs ≤ fileLimit
+  pub places : commandLimit ≤ length out
+  pub partiesAre : parties ≡ length (fileIn bs .roles)
+
+-- what a turn leaves, whatever the ledger, which gains some entries: a later moment, and fewer commands are left
 pub record Turns (bs s tables out : List ℕ) (p : Progress) (s′ tables′ out′ : List ℕ) (r : Turned) : Type 0 where
-  pub outcome : ℕ
   pub whole : Whole (r .gained)
   pub bytes : Bytes s′
-  pub written : out′ ≡ set out (p .done) outcome
-  pub next : r .progress ≡ stepped (length bs) p outcome (r .gained .count) (nextPlace bs (p .at))
-  pub does : (ledger : List Entry) → Stands bs s tables (p .issued) ledger → Does bs s (p .issued) (p .at) ledger s′ tables′ (record { outcome = outcome; gained = r .gained })
+  pub underway : Underway bs (r .progress)
+  pub less : 0 < p .left → r .progress .left < p .left
+  pub stands : (ledger : List Entry) → Stands bs s tables (p .issued) ledger → Stands bs s′ tables′ (r .progress .issued) (ledger ++ took (r .gained))
+  pub leads : (ledger : List Entry) → Stands bs s tables (p .issued) ledger
+      → Leads bs (record { state = s; outcomes = out; ledger = ledger; progress = p }) (record { state = s′; outcomes = out′; ledger = ledger ++ took (r .gained); progress = r .progress })
 
 -- before the loop: no entry yet, room for an outcome of each command, and commands alone from the first one's place on
 pub record RunReady (bs s tables out : List ℕ) (parties first : ℕ) : Type 0 where
@@ -79,8 +114,8 @@ given bs first n x = outcomes (fileIn bs) (commandsLeft bs first n) x
 abbrev pub onto : List Entry → List Entry → List Entry
 onto es l = es ++ drop (length es) l
 
--- after the loop: the rules' state after these commands, with a ledger of some entries, which stand at the first places of the lent one; their
--- outcomes and the totals; what stands between commands
+-- after the loop: the rules' state after these commands, with a ledger of some entries, which stand at the first places
+-- of the lent one; their outcomes and the totals; what stands between commands
 pub record Executes (bs s out : List ℕ) (first n : ℕ) (old : List Entry) (s′ tables′ out′ : List ℕ) (new : List Entry) (p : Progress) : Type 0 where
   pub entries : List Entry
   pub ledger : new ≡ onto entries old

@@ -8,7 +8,8 @@ ghost use lib.ListN.{length, take, drop};
 ghost use Rattle.rules.specs.Limits.{stateBytes};
 ghost use Rattle.turns.specs.Turns.{starts, stepped, StepReady, TurnReady, Turns};
 
-// How far a run is: how many commands are left at most, the place of the next, how many are done, accepted and refused, and the entries.
+// How far a run is: how many commands are left at most, the place of the next, how many are done, accepted and refused,
+// and the entries.
 pub struct Progress {
     pub left: usize,
     pub at: usize,
@@ -24,8 +25,8 @@ pub struct Turned {
     pub progress: Progress,
 }
 
-// What is found before the first command: a refusal's number and place, or 0; how many places of the ledger are to be cleared, 0 or 1,024; how many
-// parties and terms the file declares, and the place of the first command.
+// What is found before the first command: a refusal's number and place, or 0; how many places of the ledger are to be
+// cleared, 0 or 1,024; how many parties and terms the file declares, and the place of the first command.
 pub struct Begun {
     pub number: u32,
     pub place: usize,
@@ -107,29 +108,44 @@ fn step(bytes: usize, p: Progress, outcome: u8, count: usize, next: usize) -> Pr
     }
 }
 
-// Executes the next command.
+// Executes the next commands, up to and with the first desk command that is accepted, or all that are left. Answers the
+// entries that the ledger gains by that one.
 pub fn turn(
     file: &[u8],
     state: &mut [u8],
     tables: &mut [u16; tables::WORDS],
     outcomes: &mut [u8],
     parties: usize,
-    p: Progress,
+    from: Progress,
 ) -> Turned
-    requires { ⌜ TurnReady (now file) (now state) (now tables) (now outcomes) parties p ⌝ }
-    ensures { λ r. ⌜ Turns (now (file .entry)) (now (state .entry)) (now (tables .entry)) (now (outcomes .entry)) p (now (state .exit)) (now (tables .exit)) (now (outcomes .exit)) r ⌝ }
+    requires { ⌜ TurnReady (now file) (now state) (now tables) (now outcomes) parties from ⌝ }
+    ensures { λ r. ⌜ Turns (now (file .entry)) (now (state .entry)) (now (tables .entry)) (now (outcomes .entry)) from (now (state .exit)) (now (tables .exit)) (now (outcomes .exit)) r ⌝ }
 {
-    let at = p.at;
-    let next = reader::next_place(file, at);
-    let executed = commands::execute(file, state, tables, parties, p.issued, at);
-    let outcome = executed.outcome;
-    let i = p.done;
-    outcomes[i] = outcome;
-    let gained = executed.gained;
-    let progress = step(file.len(), p, outcome, gained.count, next);
+    let mut p = from;
+    while p.left != 0 {
+        let at = p.at;
+        let next = reader::next_place(file, at);
+        let outcome = commands::decide(file, state, tables, parties, at);
+        let i = p.done;
+        outcomes[i] = outcome;
+        if outcome == 0 {
+            let kind = file[at];
+            if kind >= 0x3E {
+                let gained = commands::effect(file, state, tables, p.issued, at);
+                let last = step(file.len(), p, outcome, gained.count, next);
+                return Turned {
+                    gained: gained,
+                    progress: last,
+                };
+            }
+        }
+        let then = step(file.len(), p, outcome, 0, next);
+        p = then;
+    }
+    let none = gained::none();
     Turned {
-        gained: gained,
-        progress: progress,
+        gained: none,
+        progress: p,
     }
 }
 

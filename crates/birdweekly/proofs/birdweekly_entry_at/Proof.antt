@@ -1,4 +1,4 @@
--- `birdweekly::birdweekly_entry_at` meets its contract: a walk of its MIR, by hand, with no branch and no loop. Both parameters go on to `running::entry`.
+-- `birdweekly::birdweekly_entry_at` meets its contract: a walk of its MIR, by hand, with no branch and no loop. Both parameters go on to `calls::entry`.
 -- Assumes nothing.
 use mathlib.Core.Path.{_≡_, refl}
 use Prim.Native.Nat.{ℕ, _<_, _^_}
@@ -39,10 +39,10 @@ use Rattle.rules.specs.declared.Entry.{Entry}
 use Rattle.rules.specs.Lent.{noEntry}
 use Rattle.rules.proofs.Entry as E
 use Rattle.rules.proofs.Entry.Laws as E′
-use Rattle.running.proofs.entry as inner
-use Rattle.running.proofs.entry.Symbol as inner-def
-use Rattle.running.proofs.entry.Symbol.{name as #inner}
-use Rattle.running.proofs.entry.Met as inner-thm
+use Rattle.calls.proofs.entry as inner
+use Rattle.calls.proofs.entry.Symbol as inner-def
+use Rattle.calls.proofs.entry.Symbol.{name as #inner}
+use Rattle.calls.proofs.entry.Met as inner-thm
 use Rattle.birdweekly.proofs.birdweekly_entry_at.Key.{name as #outer}
 use Rattle.birdweekly.proofs.birdweekly_entry_at as outer
 use Rattle.birdweekly.proofs.birdweekly_entry_at.Statement as stated
@@ -153,4 +153,4 @@ birdweekly-entry-at-spec 𝓤 H 𝓜 𝓖 𝓡 =
     entered 𝓤 H (tripleOf 𝓤 H (𝓖 .A) outer.signature (outer.spec 𝓤 H (𝓖 .A) (𝓜 .mem) (𝓡 .run)))
     (tables 𝓤 H 𝓜 𝓡 code.env .C) (tables 𝓤 H 𝓜 𝓡 code.env .Λ) #outer code.function (code.unfolded 𝓤 H 𝓜 𝓡)
     (meets 𝓤 H (𝓖 .A) (givenOf 𝓤 H 𝓜 𝓖) (𝓜 .mem) (𝓡 .run) (tablesOf 𝓤 H 𝓜 (tables 𝓤 H 𝓜 𝓡 code.env))
-    (cited 𝓤 H (Inner 𝓤 H (𝓖 .A) (𝓜 .mem) (𝓡 .run)) 𝓜 𝓡 code.env #inner inner-def.routine code.calls-running·entry (inner-thm.met 𝓤 H 𝓜 𝓖 𝓡)))
+    (cited 𝓤 H (Inner 𝓤 H (𝓖 .A) (𝓜 .mem) (𝓡 .run)) 𝓜 𝓡 code.env #inner inner-def.routine code.calls-calls·entry (inner-thm.met 𝓤 H 𝓜 𝓖 𝓡)))

@@ -1,4 +1,4 @@
--- `birdweekly::birdweekly_path` meets its contract: a walk of its MIR, by hand, with no branch and no loop. Every parameter goes on to `running::path`, and its answer to `path_numbers`.
+-- `birdweekly::birdweekly_path` meets its contract: a walk of its MIR, by hand, with no branch and no loop. Every parameter goes on to `calls::path`, and its answer to `path_numbers`.
 -- Assumes nothing.
 use mathlib.Core.Path.{_≡_, refl, _∙_, ap}
 use Prim.Native.Nat.{ℕ, _<_, _^_}
@@ -40,7 +40,7 @@ use denote.Exit.{yes}
 use Rattle.rules.specs.declared.Entry.{Entry}
 use Rattle.rules.specs.declared.PathAnswer.{PathAnswer as Answer}
 use Rattle.rules.specs.Lent.{Lent, pathInNumbers, pathAnswer, pathBuffers, pathLeaves}
-use Rattle.engine.specs.Runs.{lentWith}
+use Rattle.beginning.specs.Runs.{lentWith}
 use Rattle.birdweekly.specs.Numbers.{pathNumbers}
 use Rattle.birdweekly.specs.declared.PathNumbers.{PathNumbers as Struct}
 use Rattle.rules.proofs.Entry as E
@@ -48,10 +48,10 @@ use Rattle.rules.proofs.PathAnswer as N
 use Rattle.rules.proofs.PathAnswer.Laws as N′
 use Rattle.birdweekly.proofs.PathNumbers as S
 use Rattle.birdweekly.proofs.PathNumbers.Laws as S′
-use Rattle.running.proofs.path as inner
-use Rattle.running.proofs.path.Symbol as inner-def
-use Rattle.running.proofs.path.Symbol.{name as #inner}
-use Rattle.running.proofs.path.Met as inner-thm
+use Rattle.calls.proofs.path as inner
+use Rattle.calls.proofs.path.Symbol as inner-def
+use Rattle.calls.proofs.path.Symbol.{name as #inner}
+use Rattle.calls.proofs.path.Met as inner-thm
 use Rattle.birdweekly.proofs.path_numbers as numbers
 use Rattle.birdweekly.proofs.path_numbers.Symbol as numbers-def
 use Rattle.birdweekly.proofs.path_numbers.Symbol.{name as #numbers}
@@ -113,7 +113,7 @@ module _ {M : Type 1} (𝓤 : URA M) (H : Heap 𝓤) (A : Atoms 𝓤) (W : Given
   abbrev Post : Val → SProp 𝓤
   Post = walkOf 𝓤 H A outer.ended stayed (outer.clauses 𝓤 H A mem run) .post y
 
-  -- what `running::path` ensures, of its result and of the last lists
+  -- what `calls::path` ensures, of its result and of the last lists
   abbrev Done : Answer → List ℕ → List Entry → List ℕ → List ℕ → Type 0
   Done r zs zl zo zp = (pathInNumbers r ≡ pathAnswer (xf .now) nn lent nt (xp .now)) × (zs ≡ pathBuffers (xf .now) nn lent nt (xp .now) .state) × (zl ≡ pathBuffers (xf .now) nn lent nt (xp .now) .ledger) × (zo ≡ pathBuffers (xf .now) nn lent nt (xp .now) .outcomes) × (zp ≡ pathLeaves (xf .now) nn lent nt (xp .now))
 
@@ -141,7 +141,7 @@ module _ {M : Type 1} (𝓤 : URA M) (H : Heap 𝓤) (A : Atoms 𝓤) (W : Given
       fjoin ! $
       done !
 
-  -- ---- `running::path`: what its triple binds outside, and that the caller has what it asks
+  -- ---- `calls::path`: what its triple binds outside, and that the caller has what it asks
   abbrev to-inner : Inner 𝓤 H A mem run .Ghost
   to-inner = (((κf, (κs, (κl, (κo, (κp, tt))))), (qf, (qs, (ql, (qo, (qp, tt))))), tt, a, vals), tt)
 
@@ -302,5 +302,5 @@ birdweekly-path-spec 𝓤 H 𝓜 𝓖 𝓡 =
     entered 𝓤 H (tripleOf 𝓤 H (𝓖 .A) outer.signature (outer.spec 𝓤 H (𝓖 .A) (𝓜 .mem) (𝓡 .run)))
     (tables 𝓤 H 𝓜 𝓡 code.env .C) (tables 𝓤 H 𝓜 𝓡 code.env .Λ) #outer code.function (code.unfolded 𝓤 H 𝓜 𝓡)
     (meets 𝓤 H (𝓖 .A) (givenOf 𝓤 H 𝓜 𝓖) (𝓜 .mem) (𝓡 .run) (tablesOf 𝓤 H 𝓜 (tables 𝓤 H 𝓜 𝓡 code.env))
-    (cited 𝓤 H (Inner 𝓤 H (𝓖 .A) (𝓜 .mem) (𝓡 .run)) 𝓜 𝓡 code.env #inner inner-def.routine code.calls-running·path (inner-thm.met 𝓤 H 𝓜 𝓖 𝓡))
+    (cited 𝓤 H (Inner 𝓤 H (𝓖 .A) (𝓜 .mem) (𝓡 .run)) 𝓜 𝓡 code.env #inner inner-def.routine code.calls-calls·path (inner-thm.met 𝓤 H 𝓜 𝓖 𝓡))
     (cited 𝓤 H (Numbers 𝓤 H (𝓖 .A) (𝓜 .mem) (𝓡 .run)) 𝓜 𝓡 code.env #numbers numbers-def.routine code.calls-birdweekly·path-numbers (numbers-thm.met 𝓤 H 𝓜 𝓖 𝓡)))

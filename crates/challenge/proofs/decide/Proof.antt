@@ -7,7 +7,10 @@ use Rattle.state.specs.View.{view}
 use Rattle.state.proofs.Exact.{stateOf}
 use Rattle.loaded.specs.Loaded.{fileIn}
 use Rattle.theorems.proofs.Chain.{chain-passes, chain-fails, stops}
-use Rattle.loaded.proofs.Standing.{party-here, checked-here, term-here, kind-declared, left-declared, idevid-key-declared, idevid-certificate-declared, certified-key-declared, signer-declared, credential-term-declared, credential-number-declared}
+use Rattle.loaded.proofs.Standing.{party-here, checked-here, term-here, kind-declared}
+use Rattle.loaded.proofs.Declared.{left-declared, idevid-key-declared, idevid-certificate-declared, certified-key-declared, signer-declared, credential-term-declared, credential-number-declared}
+use Rattle.loaded.proofs.Noted.{term-noted}
+use Rattle.requests.proofs.Read.{searched}
 use Rattle.requests.proofs.Passing.{form-goes, proof-goes, has-form}
 use Rattle.challenge.proofs.Outcome.{endorsement-goes, number-goes, challenge-chain}
 use Rattle.challenge.proofs.decide.Statement.{statement}
@@ -49,7 +52,7 @@ form-requires c κs =
     let o = c .before .before .before .before .before .before in
     let h = o .pre .0 in
     let w = o .pre .1 in
-    (h, w .2)
+    (checked-here h, o .pre .2, w .2)
 
 returns-3 : tie.Need-returns-3
 returns-3 c ledger =
@@ -67,8 +70,8 @@ idevid-request-of-requires c κs =
     let h = o .pre .0 in
     let w = o .pre .1 in
     let m = has-form _ _ _ (c .before .before .form .ensures .0) (c .if3 .left) in
-    let l = left-declared h (w .2) (m .0 .pair) in
-    rw (c .before .before .form .ensures .1 (c .if3 .left) .named) (term-here h l, m .1)
+    let l = left-declared (checked-here h) (w .2) (m .0 .pair) in
+    rw (c .before .before .form .ensures .1 (c .if3 .left) .named) (term-noted (o .pre .2) l, m .1)
 
 is-device-requires : tie.Need-is-device-requires
 is-device-requires c κs = search needs
@@ -90,9 +93,9 @@ proof-of-key-requires c κs =
     let h = o .pre .0 in
     let w = o .pre .1 in
     let m = has-form _ _ _ (c .before .before .before .before .before .form .ensures .0) (c .before .before .before .if3 .left) in
-    let l = left-declared h (w .2) (m .0 .pair) in
+    let l = left-declared (checked-here h) (w .2) (m .0 .pair) in
     let few = checked-here h .fewTerms in
-    (rw (c .before .before .idevid-request-of .ensures .2, c .before .before .before .before .before .form .ensures .1 (c .before .before .before .if3 .left) .named) (omega (arith, few, idevid-key-declared h l (m .1))), omega (arith, few, c .before .before .before .before .before .form .ensures .1 (c .before .before .before .if3 .left) .known))
+    (rw (c .before .before .idevid-request-of .ensures .2, c .before .before .before .before .before .form .ensures .1 (c .before .before .before .if3 .left) .named) (omega (arith, few, idevid-key-declared (checked-here h) l (m .1))), omega (arith, few, c .before .before .before .before .before .form .ensures .1 (c .before .before .before .if3 .left) .known))
 
 returns-5 : tie.Need-returns-5
 returns-5 c ledger =
@@ -100,13 +103,13 @@ returns-5 c ledger =
     let h = o .pre .0 in
     let w = o .pre .1 in
     let m = has-form _ _ _ (c .before .before .before .before .before .before .before .form .ensures .0) (c .before .before .before .before .before .if3 .left) in
-    let l = left-declared h (w .2) (m .0 .pair) in
+    let l = left-declared (checked-here h) (w .2) (m .0 .pair) in
     sym (challenge-chain (fileIn (now (o .args .file))) (stateOf (view (now (o .args .state))) ledger) (o .args .party) (o .args .q) (o .args .r) (c .before .before .before .before .before .before .before .form .ensures .1 (c .before .before .before .before .before .if3 .left) .named) (c .before .before .before .before .idevid-request-of .ensures .0) (c .before .before .before .before .idevid-request-of .ensures .1) (c .before .before .before .before .idevid-request-of .ensures .2) refl refl refl refl refl refl
     ∙ chain-passes 13 _ _ (sym (c .before .before .before .before .before .before .before .before .before .before .before .is-role .ensures) ∙ not-false _ (c .before .before .before .before .before .before .before .before .before .before .if1 .left))
     ∙ chain-passes 14 _ _ (sym (c .before .before .before .before .before .before .before .before .before .knows .ensures) ∙ not-false _ (c .before .before .before .before .before .before .before .before .if2 .left))
     ∙ form-goes _ _ (c .before .before .before .before .before .if3 .left) _ _ (c .before .before .before .before .before .before .before .form .ensures .0)
     ∙ chain-passes 19 _ _ (sym (c .before .before .before .is-device .ensures) ∙ not-false _ (c .before .before .if4 .left))
-    ∙ stops _ _ _ (c .before .proof-of-key .ensures (now (o .args .file)) (o .args .q) (o .pre .2) (rw (c .before .before .before .before .idevid-request-of .ensures .2, c .before .before .before .before .before .before .before .form .ensures .1 (c .before .before .before .before .before .if3 .left) .named) (idevid-key-declared h l (m .1))) (c .before .before .before .before .before .before .before .form .ensures .1 (c .before .before .before .before .before .if3 .left))) (c .if5 .taken))
+    ∙ stops _ _ _ (c .before .proof-of-key .ensures (now (o .args .file)) (o .args .q) (o .pre .2) (rw (c .before .before .before .before .idevid-request-of .ensures .2, c .before .before .before .before .before .before .before .form .ensures .1 (c .before .before .before .before .before .if3 .left) .named) (idevid-key-declared (checked-here h) l (m .1))) (c .before .before .before .before .before .before .before .form .ensures .1 (c .before .before .before .before .before .if3 .left))) (c .if5 .taken))
 
 certificate-of-requires : tie.Need-certificate-of-requires
 certificate-of-requires c κs =
@@ -114,10 +117,10 @@ certificate-of-requires c κs =
     let h = o .pre .0 in
     let w = o .pre .1 in
     let m = has-form _ _ _ (c .before .before .before .before .before .before .before .form .ensures .0) (c .before .before .before .before .before .if3 .left) in
-    let l = left-declared h (w .2) (m .0 .pair) in
+    let l = left-declared (checked-here h) (w .2) (m .0 .pair) in
     let ck = checked-here h .idevidCertificateKind _ (m .1) in
-    let cl = idevid-certificate-declared h l (m .1) in
-    rw (c .before .before .before .before .idevid-request-of .ensures .1, c .before .before .before .before .before .before .before .form .ensures .1 (c .before .before .before .before .before .if3 .left) .named) (term-here h cl, ck)
+    let cl = idevid-certificate-declared (checked-here h) l (m .1) in
+    rw (c .before .before .before .before .idevid-request-of .ensures .1, c .before .before .before .before .before .before .before .form .ensures .1 (c .before .before .before .before .before .if3 .left) .named) (term-noted (o .pre .2) cl, ck)
 
 endorsement-requires : tie.Need-endorsement-requires
 endorsement-requires c κs =
@@ -125,10 +128,10 @@ endorsement-requires c κs =
     let h = o .pre .0 in
     let w = o .pre .1 in
     let m = has-form _ _ _ (c .before .before .before .before .before .before .before .before .form .ensures .0) (c .before .before .before .before .before .before .if3 .left) in
-    let l = left-declared h (w .2) (m .0 .pair) in
+    let l = left-declared (checked-here h) (w .2) (m .0 .pair) in
     let ck = checked-here h .idevidCertificateKind _ (m .1) in
-    let cl = idevid-certificate-declared h l (m .1) in
-    rw (c .certificate-of .ensures .0, c .certificate-of .ensures .2, c .before .before .before .before .before .idevid-request-of .ensures .1, c .before .before .before .before .before .idevid-request-of .ensures .2, c .before .before .before .before .before .before .before .before .form .ensures .1 (c .before .before .before .before .before .before .if3 .left) .named) (h, o .pre .2, o .pre .3, certified-key-declared h cl ck, signer-declared h cl ck, idevid-key-declared h l (m .1))
+    let cl = idevid-certificate-declared (checked-here h) l (m .1) in
+    rw (c .certificate-of .ensures .0, c .certificate-of .ensures .2, c .before .before .before .before .before .idevid-request-of .ensures .1, c .before .before .before .before .before .idevid-request-of .ensures .2, c .before .before .before .before .before .before .before .before .form .ensures .1 (c .before .before .before .before .before .before .if3 .left) .named) (searched h (o .pre .2) (o .pre .3) (signer-declared (checked-here h) cl ck), certified-key-declared (checked-here h) cl ck, idevid-key-declared (checked-here h) l (m .1))
 
 returns-6 : tie.Need-returns-6
 returns-6 c ledger =
@@ -136,13 +139,13 @@ returns-6 c ledger =
     let h = o .pre .0 in
     let w = o .pre .1 in
     let m = has-form _ _ _ (c .before .before .before .before .before .before .before .before .before .before .form .ensures .0) (c .before .before .before .before .before .before .before .before .if3 .left) in
-    let l = left-declared h (w .2) (m .0 .pair) in
+    let l = left-declared (checked-here h) (w .2) (m .0 .pair) in
     sym (challenge-chain (fileIn (now (o .args .file))) (stateOf (view (now (o .args .state))) ledger) (o .args .party) (o .args .q) (o .args .r) (c .before .before .before .before .before .before .before .before .before .before .form .ensures .1 (c .before .before .before .before .before .before .before .before .if3 .left) .named) (c .before .before .before .before .before .before .before .idevid-request-of .ensures .0) (c .before .before .before .before .before .before .before .idevid-request-of .ensures .1) (c .before .before .before .before .before .before .before .idevid-request-of .ensures .2) (c .before .before .certificate-of .ensures .0) (c .before .before .certificate-of .ensures .1) (c .before .before .certificate-of .ensures .2) refl refl refl
     ∙ chain-passes 13 _ _ (sym (c .before .before .before .before .before .before .before .before .before .before .before .before .before .before .is-role .ensures) ∙ not-false _ (c .before .before .before .before .before .before .before .before .before .before .before .before .before .if1 .left))
     ∙ chain-passes 14 _ _ (sym (c .before .before .before .before .before .before .before .before .before .before .before .before .knows .ensures) ∙ not-false _ (c .before .before .before .before .before .before .before .before .before .before .before .if2 .left))
     ∙ form-goes _ _ (c .before .before .before .before .before .before .before .before .if3 .left) _ _ (c .before .before .before .before .before .before .before .before .before .before .form .ensures .0)
     ∙ chain-passes 19 _ _ (sym (c .before .before .before .before .before .before .is-device .ensures) ∙ not-false _ (c .before .before .before .before .before .if4 .left))
-    ∙ proof-goes _ _ (c .before .before .before .if5 .left) _ _ (c .before .before .before .before .proof-of-key .ensures (now (o .args .file)) (o .args .q) (o .pre .2) (rw (c .before .before .before .before .before .before .before .idevid-request-of .ensures .2, c .before .before .before .before .before .before .before .before .before .before .form .ensures .1 (c .before .before .before .before .before .before .before .before .if3 .left) .named) (idevid-key-declared h l (m .1))) (c .before .before .before .before .before .before .before .before .before .before .form .ensures .1 (c .before .before .before .before .before .before .before .before .if3 .left)))
+    ∙ proof-goes _ _ (c .before .before .before .if5 .left) _ _ (c .before .before .before .before .proof-of-key .ensures (now (o .args .file)) (o .args .q) (o .pre .2) (rw (c .before .before .before .before .before .before .before .idevid-request-of .ensures .2, c .before .before .before .before .before .before .before .before .before .before .form .ensures .1 (c .before .before .before .before .before .before .before .before .if3 .left) .named) (idevid-key-declared (checked-here h) l (m .1))) (c .before .before .before .before .before .before .before .before .before .before .form .ensures .1 (c .before .before .before .before .before .before .before .before .if3 .left)))
     ∙ stops _ _ _ (c .before .endorsement .ensures) (c .if6 .taken))
 
 credential-of-requires : tie.Need-credential-of-requires
@@ -150,14 +153,14 @@ credential-of-requires c κs =
     let o = c .before .before .before .before .before .before .before .before .before .before .before .before .before .before .before .before .before in
     let h = o .pre .0 in
     let w = o .pre .1 in
-    (term-here h (kind-declared _ (w .1) (λ q. omega arith)), w .1)
+    term-noted (o .pre .2) (kind-declared _ (w .1) (λ q. omega arith))
 
 fresh-number-requires : tie.Need-fresh-number-requires
 fresh-number-requires c κs =
     let o = c .before .before .before .before .before .before .before .before .before .before .before .before .before .before .before .before .before .before in
     let h = o .pre .0 in
     let w = o .pre .1 in
-    (omega (arith, h .parties, w .0), rw (c .credential-of .ensures .1) (term-here h (credential-number-declared h (kind-declared _ (w .1) (λ q. omega arith)) (w .1)) .row))
+    (omega (arith, h .parties, w .0), rw (c .credential-of .ensures .1) (term-here h (credential-number-declared (checked-here h) (kind-declared _ (w .1) (λ q. omega arith)) (w .1)) .row))
 
 returns-7 : tie.Need-returns-7
 returns-7 c ledger =
@@ -165,13 +168,13 @@ returns-7 c ledger =
     let h = o .pre .0 in
     let w = o .pre .1 in
     let m = has-form _ _ _ (c .before .before .before .before .before .before .before .before .before .before .before .before .before .form .ensures .0) (c .before .before .before .before .before .before .before .before .before .before .before .if3 .left) in
-    let l = left-declared h (w .2) (m .0 .pair) in
+    let l = left-declared (checked-here h) (w .2) (m .0 .pair) in
     sym (challenge-chain (fileIn (now (o .args .file))) (stateOf (view (now (o .args .state))) ledger) (o .args .party) (o .args .q) (o .args .r) (c .before .before .before .before .before .before .before .before .before .before .before .before .before .form .ensures .1 (c .before .before .before .before .before .before .before .before .before .before .before .if3 .left) .named) (c .before .before .before .before .before .before .before .before .before .before .idevid-request-of .ensures .0) (c .before .before .before .before .before .before .before .before .before .before .idevid-request-of .ensures .1) (c .before .before .before .before .before .before .before .before .before .before .idevid-request-of .ensures .2) (c .before .before .before .before .before .certificate-of .ensures .0) (c .before .before .before .before .before .certificate-of .ensures .1) (c .before .before .before .before .before .certificate-of .ensures .2) (c .before .before .credential-of .ensures .0) (c .before .before .credential-of .ensures .1) (c .before .before .credential-of .ensures .2)
     ∙ chain-passes 13 _ _ (sym (c .before .before .before .before .before .before .before .before .before .before .before .before .before .before .before .before .before .is-role .ensures) ∙ not-false _ (c .before .before .before .before .before .before .before .before .before .before .before .before .before .before .before .before .if1 .left))
     ∙ chain-passes 14 _ _ (sym (c .before .before .before .before .before .before .before .before .before .before .before .before .before .before .before .knows .ensures) ∙ not-false _ (c .before .before .before .before .before .before .before .before .before .before .before .before .before .before .if2 .left))
     ∙ form-goes _ _ (c .before .before .before .before .before .before .before .before .before .before .before .if3 .left) _ _ (c .before .before .before .before .before .before .before .before .before .before .before .before .before .form .ensures .0)
     ∙ chain-passes 19 _ _ (sym (c .before .before .before .before .before .before .before .before .before .is-device .ensures) ∙ not-false _ (c .before .before .before .before .before .before .before .before .if4 .left))
-    ∙ proof-goes _ _ (c .before .before .before .before .before .before .if5 .left) _ _ (c .before .before .before .before .before .before .before .proof-of-key .ensures (now (o .args .file)) (o .args .q) (o .pre .2) (rw (c .before .before .before .before .before .before .before .before .before .before .idevid-request-of .ensures .2, c .before .before .before .before .before .before .before .before .before .before .before .before .before .form .ensures .1 (c .before .before .before .before .before .before .before .before .before .before .before .if3 .left) .named) (idevid-key-declared h l (m .1))) (c .before .before .before .before .before .before .before .before .before .before .before .before .before .form .ensures .1 (c .before .before .before .before .before .before .before .before .before .before .before .if3 .left)))
+    ∙ proof-goes _ _ (c .before .before .before .before .before .before .if5 .left) _ _ (c .before .before .before .before .before .before .before .proof-of-key .ensures (now (o .args .file)) (o .args .q) (o .pre .2) (rw (c .before .before .before .before .before .before .before .before .before .before .idevid-request-of .ensures .2, c .before .before .before .before .before .before .before .before .before .before .before .before .before .form .ensures .1 (c .before .before .before .before .before .before .before .before .before .before .before .if3 .left) .named) (idevid-key-declared (checked-here h) l (m .1))) (c .before .before .before .before .before .before .before .before .before .before .before .before .before .form .ensures .1 (c .before .before .before .before .before .before .before .before .before .before .before .if3 .left)))
     ∙ endorsement-goes _ _ (c .before .before .before .if6 .left) _ _ _ _ (c .before .before .before .before .endorsement .ensures)
     ∙ stops _ _ _ (c .before .fresh-number .ensures ledger) (c .if7 .taken))
 
@@ -180,7 +183,7 @@ credential-names-requires c κs =
     let o = c .before .before .before .before .before .before .before .before .before .before .before .before .before .before .before .before .before .before .before .before in
     let h = o .pre .0 in
     let w = o .pre .1 in
-    (h, rw (c .before .before .credential-of .ensures .0) (credential-term-declared h (kind-declared _ (w .1) (λ q. omega arith)) (w .1)))
+    (o .pre .2, rw (c .before .before .credential-of .ensures .0) (credential-term-declared (checked-here h) (kind-declared _ (w .1) (λ q. omega arith)) (w .1)))
 
 returns-8 : tie.Need-returns-8
 returns-8 c ledger =
@@ -188,13 +191,13 @@ returns-8 c ledger =
     let h = o .pre .0 in
     let w = o .pre .1 in
     let m = has-form _ _ _ (c .before .before .before .before .before .before .before .before .before .before .before .before .before .before .form .ensures .0) (c .before .before .before .before .before .before .before .before .before .before .before .before .if3 .left) in
-    let l = left-declared h (w .2) (m .0 .pair) in
+    let l = left-declared (checked-here h) (w .2) (m .0 .pair) in
     sym (challenge-chain (fileIn (now (o .args .file))) (stateOf (view (now (o .args .state))) ledger) (o .args .party) (o .args .q) (o .args .r) (c .before .before .before .before .before .before .before .before .before .before .before .before .before .before .form .ensures .1 (c .before .before .before .before .before .before .before .before .before .before .before .before .if3 .left) .named) (c .before .before .before .before .before .before .before .before .before .before .before .idevid-request-of .ensures .0) (c .before .before .before .before .before .before .before .before .before .before .before .idevid-request-of .ensures .1) (c .before .before .before .before .before .before .before .before .before .before .before .idevid-request-of .ensures .2) (c .before .before .before .before .before .before .certificate-of .ensures .0) (c .before .before .before .before .before .before .certificate-of .ensures .1) (c .before .before .before .before .before .before .certificate-of .ensures .2) (c .before .before .before .credential-of .ensures .0) (c .before .before .before .credential-of .ensures .1) (c .before .before .before .credential-of .ensures .2)
     ∙ chain-passes 13 _ _ (sym (c .before .before .before .before .before .before .before .before .before .before .before .before .before .before .before .before .before .before .is-role .ensures) ∙ not-false _ (c .before .before .before .before .before .before .before .before .before .before .before .before .before .before .before .before .before .if1 .left))
     ∙ chain-passes 14 _ _ (sym (c .before .before .before .before .before .before .before .before .before .before .before .before .before .before .before .before .knows .ensures) ∙ not-false _ (c .before .before .before .before .before .before .before .before .before .before .before .before .before .before .before .if2 .left))
     ∙ form-goes _ _ (c .before .before .before .before .before .before .before .before .before .before .before .before .if3 .left) _ _ (c .before .before .before .before .before .before .before .before .before .before .before .before .before .before .form .ensures .0)
     ∙ chain-passes 19 _ _ (sym (c .before .before .before .before .before .before .before .before .before .before .is-device .ensures) ∙ not-false _ (c .before .before .before .before .before .before .before .before .before .if4 .left))
-    ∙ proof-goes _ _ (c .before .before .before .before .before .before .before .if5 .left) _ _ (c .before .before .before .before .before .before .before .before .proof-of-key .ensures (now (o .args .file)) (o .args .q) (o .pre .2) (rw (c .before .before .before .before .before .before .before .before .before .before .before .idevid-request-of .ensures .2, c .before .before .before .before .before .before .before .before .before .before .before .before .before .before .form .ensures .1 (c .before .before .before .before .before .before .before .before .before .before .before .before .if3 .left) .named) (idevid-key-declared h l (m .1))) (c .before .before .before .before .before .before .before .before .before .before .before .before .before .before .form .ensures .1 (c .before .before .before .before .before .before .before .before .before .before .before .before .if3 .left)))
+    ∙ proof-goes _ _ (c .before .before .before .before .before .before .before .if5 .left) _ _ (c .before .before .before .before .before .before .before .before .proof-of-key .ensures (now (o .args .file)) (o .args .q) (o .pre .2) (rw (c .before .before .before .before .before .before .before .before .before .before .before .idevid-request-of .ensures .2, c .before .before .before .before .before .before .before .before .before .before .before .before .before .before .form .ensures .1 (c .before .before .before .before .before .before .before .before .before .before .before .before .if3 .left) .named) (idevid-key-declared (checked-here h) l (m .1))) (c .before .before .before .before .before .before .before .before .before .before .before .before .before .before .form .ensures .1 (c .before .before .before .before .before .before .before .before .before .before .before .before .if3 .left)))
     ∙ endorsement-goes _ _ (c .before .before .before .before .if6 .left) _ _ _ _ (c .before .before .before .before .before .endorsement .ensures)
     ∙ number-goes (fileIn (now (o .args .file))) _ (c .before .if7 .left) _ _ _ (c .before .before .fresh-number .ensures ledger)
     ∙ sym (c .credential-names .ensures))

@@ -1,31 +1,33 @@
 use native.Mathlib.Omega.{arith}
 use borrow.Author.Needs.{needs}
-use Rattle.loaded.proofs.Standing.{checked-here, kind-declared, term-here, credential-number-declared}
+use Rattle.loaded.proofs.Standing.{checked-here, kind-declared, term-here}
+use Rattle.loaded.proofs.Declared.{credential-number-declared}
+use Rattle.loaded.proofs.Noted.{term-noted}
 use Rattle.challenge.proofs.Outcome.{challenge-left}
 use Rattle.challenge.proofs.effect.Statement.{statement}
 use Rattle.challenge.proofs.effect.Tie as tie
 
 credential-of-requires : tie.Need-credential-of-requires
 credential-of-requires c κs =
-    let p = c .before .before .before .pre in
+    let p = c .before .before .pre in
     let l = kind-declared _ (p .1 .1) (λ x. omega arith) in
-    (term-here (p .0) l, p .1 .1)
+    term-noted (p .2) l
 
 learn-requires : tie.Need-learn-requires
 learn-requires c κs =
-    let p = c .before .before .before .before .before .pre in
+    let p = c .before .before .before .before .pre in
     let l = kind-declared _ (p .1 .1) (λ x. omega arith) in
     (p .0, p .1 .0, l)
 
 note-mark-requires : tie.Need-note-mark-requires
 note-mark-requires c κs =
-    let p = c .before .before .before .before .before .before .before .before .before .pre in
+    let p = c .before .before .before .before .before .before .before .before .pre in
     let l = kind-declared _ (p .1 .1) (λ x. omega arith) in
-    rw (c .before .before .before .before .before .credential-of .ensures .1) (omega (arith, term-here (p .0) (credential-number-declared (p .0) l (p .1 .1)) .row))
+    rw (c .before .before .before .before .before .credential-of .ensures .1) (omega (arith, term-here (p .0) (credential-number-declared (checked-here (p .0)) l (p .1 .1)) .row))
 
 note-mark-requires-2 : tie.Need-note-mark-requires-2
 note-mark-requires-2 c κs =
-    let p = c .before .before .before .before .before .before .before .before .before .before .before .before .before .pre in
+    let p = c .before .before .before .before .before .before .before .before .before .before .before .before .pre in
     let l = kind-declared _ (p .1 .1) (λ x. omega arith) in
     omega (arith, term-here (p .0) l .row)
 
@@ -34,13 +36,13 @@ cast-note-desk c = search needs
 
 note-desk-requires : tie.Need-note-desk-requires
 note-desk-requires c κs =
-    let p = c .before .before .before .before .before .before .before .before .before .before .before .before .before .before .before .before .before .pre in
+    let p = c .before .before .before .before .before .before .before .before .before .before .before .before .before .before .before .before .pre in
     let l = kind-declared _ (p .1 .1) (λ x. omega arith) in
     omega (arith, term-here (p .0) l .row)
 
 note-request-requires : tie.Need-note-request-requires
 note-request-requires c κs =
-    let p = c .before .before .before .before .before .before .before .before .before .before .before .before .before .before .before .before .before .before .before .before .before .pre in
+    let p = c .before .before .before .before .before .before .before .before .before .before .before .before .before .before .before .before .before .before .before .before .pre in
     let l = kind-declared _ (p .1 .1) (λ x. omega arith) in
     (omega (arith, checked-here (p .0) .fewTerms, p .1 .2), omega (arith, term-here (p .0) l .row))
 

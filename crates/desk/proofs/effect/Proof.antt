@@ -45,7 +45,7 @@ effect-issue-iak-requires c κs =
     let p = c .before .before .before .before .before .before .before .before .before .pre in
     let e = issue-read (issue-iak-there _ _ (c .before .before .before .before .if1 .taken)) (c .before .before .before .word-at .ensures) (c .before .before .word-at2 .ensures) in
     let a = accepts-as _ _ e (p .accepts) in
-    (p .holds, record { other = _; wellformed = known-as (p .command) e; requested = p .opened _ (iak-open _ _ _ _ _ _ (a .accepted)); accepts = a; words = p .keys })
+    (p .holds, record { other = _; wellformed = known-as (p .command) e; requested = p .opened _ (iak-open _ _ _ _ _ _ (a .accepted)); accepts = a; finds = p .finds })
 
 one-requires : tie.Need-one-requires
 one-requires c κs = search needs
@@ -65,7 +65,7 @@ effect-requires c κs =
     let e = issue-iaks-there _ _ k in
     record {
       here = record { holds = p .holds; whole = pairs-bytes (p .command) k; wellformed = known-as (p .command) e; opened = p .opened };
-      keys = p .keys;
+      finds = p .finds;
       ledger = p .accepts .ledger;
       ledgered = p .ledgered;
       accepted = accepted-as _ _ e (p .accepts);
@@ -97,9 +97,9 @@ cast-r-2 c = search needs
 
 effect-requires-2 : tie.Need-effect-requires-2
 effect-requires-2 c κs =
-    let p = c .before .before .before .before .before .before .before .before .before .before .pre in
-    let e = two-read challenge (challenge-there _ _ (c .before .if3 .taken)) (c .before .before .before .word-at3 .ensures) (c .before .before .word-at4 .ensures) in
-    (p .holds, known-as (p .command) e)
+    let p = c .before .before .before .before .before .before .before .before .before .before .before .pre in
+    let e = two-read challenge (challenge-there _ _ (c .before .before .if3 .taken)) (c .before .before .before .before .word-at3 .ensures) (c .before .before .before .word-at4 .ensures) in
+    (p .holds, known-as (p .command) e, p .finds)
 
 none-requires : tie.Need-none-requires
 none-requires c κs = search needs
@@ -109,14 +109,14 @@ same-length-3 c = search needs
 
 returns-3 : tie.Need-returns-3
 returns-3 c =
-    let e = two-read challenge (challenge-there _ _ (c .before .before .before .before .before .if3 .taken)) (c .before .before .before .before .before .before .before .word-at3 .ensures) (c .before .before .before .before .before .before .word-at4 .ensures) in
+    let e = two-read challenge (challenge-there _ _ (c .before .before .before .before .before .before .if3 .taken)) (c .before .before .before .before .before .before .before .before .word-at3 .ensures) (c .before .before .before .before .before .before .before .word-at4 .ensures) in
     (c .none .ensures .0, challenge-as _ _ e (took-none _ (c .none .ensures .1)) (c .before .before .before .effect2 .ensures))
 
 effect-issue-requires : tie.Need-effect-issue-requires
 effect-issue-requires c κs =
     let p = c .before .before .before .before .before .before .before .before .before .before .before .pre in
     let e = issue-as (p .command) (p .isDesk) (c .before .before .before .before .before .before .if1 .left) (c .before .before .before .before .before .if2 .left) (c .before .before .if3 .left) refl (c .before .before .before .before .word-at3 .ensures) (c .before .before .before .word-at4 .ensures) in
-    (p .holds, record { family = _; wellformed = known-as (p .command) e; accepts = accepts-as _ _ e (p .accepts); words = p .keys; parents = p .parents })
+    (p .holds, record { family = _; wellformed = known-as (p .command) e; accepts = accepts-as _ _ e (p .accepts); finds = p .finds; parents = p .parents })
 
 one-requires-2 : tie.Need-one-requires-2
 one-requires-2 c κs = search needs

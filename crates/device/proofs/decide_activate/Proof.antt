@@ -14,7 +14,9 @@ use Rattle.state.specs.View.{view}
 use Rattle.state.proofs.Exact.{stateOf}
 use Rattle.loaded.specs.Loaded.{fileIn}
 use Rattle.theorems.proofs.Chain.{chain-none, chain-passes, chain-fails}
-use Rattle.loaded.proofs.Standing.{party-here, term-here, kind-declared, hashed-declared, credential-term-declared, credential-key-declared}
+use Rattle.loaded.proofs.Standing.{checked-here, party-here, term-here, kind-declared}
+use Rattle.loaded.proofs.Declared.{hashed-declared, credential-term-declared, credential-key-declared}
+use Rattle.loaded.proofs.Noted.{term-noted}
 use Rattle.loaded.proofs.Tested.{of-read}
 use Rattle.loaded.proofs.Halves.{half-asked, half-read}
 use Rattle.device.proofs.Outcomes.{activate-chain}
@@ -55,12 +57,12 @@ passes-2 c =
 credential-key-of-requires : tie.Need-credential-key-of-requires
 credential-key-of-requires c κs =
     let p = c .before .before .before .before .before .before .pre in
-    (term-here (p .0) (kind-declared _ (p .1 .1) (λ q. omega arith)), p .1 .1)
+    term-noted (p .2) (kind-declared _ (p .1 .1) (λ q. omega arith))
 
 holds-half-requires : tie.Need-holds-half-requires
 holds-half-requires c κs =
     let p = c .before .before .before .before .before .before .before .pre in
-    rw (c .credential-key-of .ensures) (half-asked (p .0) (p .2) (credential-key-declared (p .0) (kind-declared _ (p .1 .1) (λ q. omega arith)) (p .1 .1)) (p .1 .0))
+    rw (c .credential-key-of .ensures) (half-asked (p .0) (p .2) (credential-key-declared (checked-here (p .0)) (kind-declared _ (p .1 .1) (λ q. omega arith)) (p .1 .1)) (p .1 .0))
 
 returns-3 : tie.Need-returns-3
 returns-3 c ledger =
@@ -69,23 +71,23 @@ returns-3 c ledger =
     sym (activate-chain (fileIn (now (a .file))) (stateOf (view (now (a .state))) ledger) (a .party) (a .r)
     ∙ chain-passes 13 _ _ (passes-1 (c .before .before .before .before .before))
     ∙ chain-passes 14 _ _ (passes-2 (c .before .before .before))
-    ∙ chain-fails 15 _ _ (half-read (p .0) (p .2) (credential-key-declared (p .0) (kind-declared _ (p .1 .1) (λ q. omega arith)) (p .1 .1)) (view (now (a .state)) .table (a .party)) (c .before .before .credential-key-of .ensures) (c .before .holds-half .ensures) (not-true _ (c .if3 .taken))))
+    ∙ chain-fails 15 _ _ (half-read (p .0) (p .2) (credential-key-declared (checked-here (p .0)) (kind-declared _ (p .1 .1) (λ q. omega arith)) (p .1 .1)) (view (now (a .state)) .table (a .party)) (c .before .before .credential-key-of .ensures) (c .before .holds-half .ensures) (not-true _ (c .if3 .taken))))
 
 passes-3 : (c : tie.Else3) → let a = c .before .before .before .before .before .before .before .before .before .args in halfIn (fileIn (now (a .file))) (view (now (a .state)) .table (a .party)) (credentialKey (fileIn (now (a .file))) (a .r)) ≡ true
 passes-3 c =
     let a = c .before .before .before .before .before .before .before .before .before .args in
     let p = c .before .before .before .before .before .before .before .before .before .pre in
-    half-read (p .0) (p .2) (credential-key-declared (p .0) (kind-declared _ (p .1 .1) (λ q. omega arith)) (p .1 .1)) (view (now (a .state)) .table (a .party)) (c .before .before .credential-key-of .ensures) (c .before .holds-half .ensures) (not-false _ (c .if3 .left))
+    half-read (p .0) (p .2) (credential-key-declared (checked-here (p .0)) (kind-declared _ (p .1 .1) (λ q. omega arith)) (p .1 .1)) (view (now (a .state)) .table (a .party)) (c .before .before .credential-key-of .ensures) (c .before .holds-half .ensures) (not-false _ (c .if3 .left))
 
 credential-term-of-requires : tie.Need-credential-term-of-requires
 credential-term-of-requires c κs =
     let p = c .before .before .before .before .before .before .before .before .before .pre in
-    (term-here (p .0) (kind-declared _ (p .1 .1) (λ q. omega arith)), p .1 .1)
+    term-noted (p .2) (kind-declared _ (p .1 .1) (λ q. omega arith))
 
 is-kind-requires : tie.Need-is-kind-requires
 is-kind-requires c κs =
     let p = c .before .before .before .before .before .before .before .before .before .before .pre in
-    rw (c .credential-term-of .ensures) (term-here (p .0) (credential-term-declared (p .0) (kind-declared _ (p .1 .1) (λ q. omega arith)) (p .1 .1)))
+    rw (c .credential-term-of .ensures) (term-noted (p .2) (credential-term-declared (checked-here (p .0)) (kind-declared _ (p .1 .1) (λ q. omega arith)) (p .1 .1)))
 
 returns-4 : tie.Need-returns-4
 returns-4 c ledger =
@@ -104,12 +106,12 @@ passes-4 c =
 hashed-term-requires : tie.Need-hashed-term-requires
 hashed-term-requires c κs =
     let p = c .before .before .before .before .before .before .before .before .before .before .before .before .pre in
-    rw (c .before .before .credential-term-of .ensures) (term-here (p .0) (credential-term-declared (p .0) (kind-declared _ (p .1 .1) (λ q. omega arith)) (p .1 .1)), isKind-kind _ _ _ (passes-4 c))
+    rw (c .before .before .credential-term-of .ensures) (term-noted (p .2) (credential-term-declared (checked-here (p .0)) (kind-declared _ (p .1 .1) (λ q. omega arith)) (p .1 .1)))
 
 is-kind-requires-2 : tie.Need-is-kind-requires-2
 is-kind-requires-2 c κs =
     let p = c .before .before .before .before .before .before .before .before .before .before .before .before .before .pre in
-    rw (c .hashed-term .ensures, c .before .before .before .credential-term-of .ensures) (term-here (p .0) (hashed-declared (p .0) (credential-term-declared (p .0) (kind-declared _ (p .1 .1) (λ q. omega arith)) (p .1 .1)) (isKind-kind _ _ _ (passes-4 (c .before)))))
+    rw (c .hashed-term .ensures, c .before .before .before .credential-term-of .ensures) (term-noted (p .2) (hashed-declared (checked-here (p .0)) (credential-term-declared (checked-here (p .0)) (kind-declared _ (p .1 .1) (λ q. omega arith)) (p .1 .1)) (isKind-kind _ _ _ (passes-4 (c .before)))))
 
 returns-5 : tie.Need-returns-5
 returns-5 c ledger =
@@ -129,7 +131,7 @@ passes-5 c =
 holds-half-requires-2 : tie.Need-holds-half-requires-2
 holds-half-requires-2 c κs =
     let p = c .before .before .before .before .before .before .before .before .before .before .before .before .before .before .before .pre in
-    rw (c .before .before .hashed-term .ensures, c .before .before .before .before .before .credential-term-of .ensures) (half-asked (p .0) (p .2) (hashed-declared (p .0) (credential-term-declared (p .0) (kind-declared _ (p .1 .1) (λ q. omega arith)) (p .1 .1)) (isKind-kind _ _ _ (passes-4 (c .before .before .before)))) (p .1 .0))
+    rw (c .before .before .hashed-term .ensures, c .before .before .before .before .before .credential-term-of .ensures) (half-asked (p .0) (p .2) (hashed-declared (checked-here (p .0)) (credential-term-declared (checked-here (p .0)) (kind-declared _ (p .1 .1) (λ q. omega arith)) (p .1 .1)) (isKind-kind _ _ _ (passes-4 (c .before .before .before)))) (p .1 .0))
 
 returns-6 : tie.Need-returns-6
 returns-6 c ledger =
@@ -141,18 +143,18 @@ returns-6 c ledger =
     ∙ chain-passes 15 _ _ (passes-3 (c .before .before .before .before .before .before .before .before))
     ∙ chain-passes 15 _ _ (passes-4 (c .before .before .before .before .before))
     ∙ chain-passes 15 _ _ (passes-5 (c .before .before))
-    ∙ chain-fails 15 _ _ (half-read (p .0) (p .2) (hashed-declared (p .0) (credential-term-declared (p .0) (kind-declared _ (p .1 .1) (λ q. omega arith)) (p .1 .1)) (isKind-kind _ _ _ (passes-4 (c .before .before .before .before .before)))) (view (now (a .state)) .table (a .party)) (c .before .before .before .before .hashed-term .ensures ∙ ap (hashedTerm (fileIn (now (a .file)))) (c .before .before .before .before .before .before .before .credential-term-of .ensures)) (c .before .holds-half2 .ensures) (not-true _ (c .if6 .taken))))
+    ∙ chain-fails 15 _ _ (half-read (p .0) (p .2) (hashed-declared (checked-here (p .0)) (credential-term-declared (checked-here (p .0)) (kind-declared _ (p .1 .1) (λ q. omega arith)) (p .1 .1)) (isKind-kind _ _ _ (passes-4 (c .before .before .before .before .before)))) (view (now (a .state)) .table (a .party)) (c .before .before .before .before .hashed-term .ensures ∙ ap (hashedTerm (fileIn (now (a .file)))) (c .before .before .before .before .before .before .before .credential-term-of .ensures)) (c .before .holds-half2 .ensures) (not-true _ (c .if6 .taken))))
 
 passes-6 : (c : tie.Else6) → let a = c .before .before .before .before .before .before .before .before .before .before .before .before .before .before .before .before .before .args in halfIn (fileIn (now (a .file))) (view (now (a .state)) .table (a .party)) (hashedTerm (fileIn (now (a .file))) (credentialTerm (fileIn (now (a .file))) (a .r))) ≡ true
 passes-6 c =
     let a = c .before .before .before .before .before .before .before .before .before .before .before .before .before .before .before .before .before .args in
     let p = c .before .before .before .before .before .before .before .before .before .before .before .before .before .before .before .before .before .pre in
-    half-read (p .0) (p .2) (hashed-declared (p .0) (credential-term-declared (p .0) (kind-declared _ (p .1 .1) (λ q. omega arith)) (p .1 .1)) (isKind-kind _ _ _ (passes-4 (c .before .before .before .before .before)))) (view (now (a .state)) .table (a .party)) (c .before .before .before .before .hashed-term .ensures ∙ ap (hashedTerm (fileIn (now (a .file)))) (c .before .before .before .before .before .before .before .credential-term-of .ensures)) (c .before .holds-half2 .ensures) (not-false _ (c .if6 .left))
+    half-read (p .0) (p .2) (hashed-declared (checked-here (p .0)) (credential-term-declared (checked-here (p .0)) (kind-declared _ (p .1 .1) (λ q. omega arith)) (p .1 .1)) (isKind-kind _ _ _ (passes-4 (c .before .before .before .before .before)))) (view (now (a .state)) .table (a .party)) (c .before .before .before .before .hashed-term .ensures ∙ ap (hashedTerm (fileIn (now (a .file)))) (c .before .before .before .before .before .before .before .credential-term-of .ensures)) (c .before .holds-half2 .ensures) (not-false _ (c .if6 .left))
 
 key-has-requires : tie.Need-key-has-requires
 key-has-requires c κs =
     let p = c .before .before .before .before .before .before .before .before .before .before .before .before .before .before .before .before .before .pre in
-    (rw (c .before .before .before .before .before .before .before .before .before .before .credential-key-of .ensures) (term-here (p .0) (credential-key-declared (p .0) (kind-declared _ (p .1 .1) (λ q. omega arith)) (p .1 .1))), omega arith)
+    (rw (c .before .before .before .before .before .before .before .before .before .before .credential-key-of .ensures) (term-noted (p .2) (credential-key-declared (checked-here (p .0)) (kind-declared _ (p .1 .1) (λ q. omega arith)) (p .1 .1))), omega arith)
 
 returns-7 : tie.Need-returns-7
 returns-7 c ledger =
@@ -174,7 +176,7 @@ passes-7 c =
 key-has-requires-2 : tie.Need-key-has-requires-2
 key-has-requires-2 c κs =
     let p = c .before .before .before .before .before .before .before .before .before .before .before .before .before .before .before .before .before .before .before .pre in
-    (rw (c .before .before .before .before .before .before .before .before .before .before .before .before .credential-key-of .ensures) (term-here (p .0) (credential-key-declared (p .0) (kind-declared _ (p .1 .1) (λ q. omega arith)) (p .1 .1))), omega arith)
+    (rw (c .before .before .before .before .before .before .before .before .before .before .before .before .credential-key-of .ensures) (term-noted (p .2) (credential-key-declared (checked-here (p .0)) (kind-declared _ (p .1 .1) (λ q. omega arith)) (p .1 .1))), omega arith)
 
 returns-8 : tie.Need-returns-8
 returns-8 c ledger =

@@ -12,7 +12,9 @@ use Rattle.state.specs.View.{view}
 use Rattle.state.proofs.Exact.{stateOf}
 use Rattle.loaded.specs.Loaded.{fileIn}
 use Rattle.theorems.proofs.Chain.{chain-none, chain-passes, chain-fails}
-use Rattle.loaded.proofs.Standing.{party-here, term-here, kind-declared, message-declared, signing-key-declared, attested-key-declared}
+use Rattle.loaded.proofs.Standing.{checked-here, party-here, term-here, kind-declared}
+use Rattle.loaded.proofs.Declared.{message-declared, signing-key-declared, attested-key-declared}
+use Rattle.loaded.proofs.Noted.{term-noted}
 use Rattle.loaded.proofs.Tested.{of-read}
 use Rattle.loaded.proofs.Halves.{half-asked, half-read}
 use Rattle.device.proofs.Outcomes.{certify-chain}
@@ -37,12 +39,12 @@ passes-1 c =
 signing-key-of-requires : tie.Need-signing-key-of-requires
 signing-key-of-requires c κs =
     let p = c .before .before .before .before .pre in
-    (term-here (p .0) (kind-declared _ (p .1 .1) (λ q. omega arith)), p .1 .1)
+    term-noted (p .2) (kind-declared _ (p .1 .1) (λ q. omega arith))
 
 in-table-requires : tie.Need-in-table-requires
 in-table-requires c κs =
     let p = c .before .before .before .before .before .pre in
-    (omega (arith, p .0 .parties, p .1 .0), rw (c .signing-key-of .ensures) (term-here (p .0) (signing-key-declared (p .0) (kind-declared _ (p .1 .1) (λ q. omega arith)) (p .1 .1)) .row))
+    (omega (arith, p .0 .parties, p .1 .0), rw (c .signing-key-of .ensures) (term-here (p .0) (signing-key-declared (checked-here (p .0)) (kind-declared _ (p .1 .1) (λ q. omega arith)) (p .1 .1)) .row))
 
 returns-2 : tie.Need-returns-2
 returns-2 c ledger =
@@ -59,17 +61,17 @@ passes-2 c =
 message-of-requires : tie.Need-message-of-requires
 message-of-requires c κs =
     let p = c .before .before .before .before .before .before .before .pre in
-    (term-here (p .0) (kind-declared _ (p .1 .1) (λ q. omega arith)), p .1 .1)
+    term-noted (p .2) (kind-declared _ (p .1 .1) (λ q. omega arith))
 
 attested-key-of-requires : tie.Need-attested-key-of-requires
 attested-key-of-requires c κs =
     let p = c .before .before .before .before .before .before .before .before .pre in
-    rw (c .message-of .ensures) (term-here (p .0) (message-declared (p .0) (kind-declared _ (p .1 .1) (λ q. omega arith)) (p .1 .1)), p .1 .2)
+    rw (c .message-of .ensures) (term-noted (p .2) (message-declared (checked-here (p .0)) (kind-declared _ (p .1 .1) (λ q. omega arith)) (p .1 .1)))
 
 holds-half-requires : tie.Need-holds-half-requires
 holds-half-requires c κs =
     let p = c .before .before .before .before .before .before .before .before .before .pre in
-    rw (c .attested-key-of .ensures, c .before .message-of .ensures) (half-asked (p .0) (p .2) (attested-key-declared (p .0) (message-declared (p .0) (kind-declared _ (p .1 .1) (λ q. omega arith)) (p .1 .1)) (p .1 .2)) (p .1 .0))
+    rw (c .attested-key-of .ensures, c .before .message-of .ensures) (half-asked (p .0) (p .2) (attested-key-declared (checked-here (p .0)) (message-declared (checked-here (p .0)) (kind-declared _ (p .1 .1) (λ q. omega arith)) (p .1 .1)) (p .1 .2)) (p .1 .0))
 
 returns-3 : tie.Need-returns-3
 returns-3 c ledger =
@@ -78,18 +80,18 @@ returns-3 c ledger =
     sym (certify-chain (fileIn (now (a .file))) (stateOf (view (now (a .state))) ledger) (a .party) (a .r)
     ∙ chain-passes 13 _ _ (passes-1 (c .before .before .before .before .before .before .before))
     ∙ chain-passes 15 _ _ (passes-2 (c .before .before .before .before))
-    ∙ chain-fails 15 _ _ (half-read (p .0) (p .2) (attested-key-declared (p .0) (message-declared (p .0) (kind-declared _ (p .1 .1) (λ q. omega arith)) (p .1 .1)) (p .1 .2)) (view (now (a .state)) .table (a .party)) (c .before .before .attested-key-of .ensures ∙ ap (attestedKey (fileIn (now (a .file)))) (c .before .before .before .message-of .ensures)) (c .before .holds-half .ensures) (not-true _ (c .if3 .taken))))
+    ∙ chain-fails 15 _ _ (half-read (p .0) (p .2) (attested-key-declared (checked-here (p .0)) (message-declared (checked-here (p .0)) (kind-declared _ (p .1 .1) (λ q. omega arith)) (p .1 .1)) (p .1 .2)) (view (now (a .state)) .table (a .party)) (c .before .before .attested-key-of .ensures ∙ ap (attestedKey (fileIn (now (a .file)))) (c .before .before .before .message-of .ensures)) (c .before .holds-half .ensures) (not-true _ (c .if3 .taken))))
 
 passes-3 : (c : tie.Else3) → let a = c .before .before .before .before .before .before .before .before .before .before .before .args in halfIn (fileIn (now (a .file))) (view (now (a .state)) .table (a .party)) (attestedKey (fileIn (now (a .file))) (message (fileIn (now (a .file))) (a .r))) ≡ true
 passes-3 c =
     let a = c .before .before .before .before .before .before .before .before .before .before .before .args in
     let p = c .before .before .before .before .before .before .before .before .before .before .before .pre in
-    half-read (p .0) (p .2) (attested-key-declared (p .0) (message-declared (p .0) (kind-declared _ (p .1 .1) (λ q. omega arith)) (p .1 .1)) (p .1 .2)) (view (now (a .state)) .table (a .party)) (c .before .before .attested-key-of .ensures ∙ ap (attestedKey (fileIn (now (a .file)))) (c .before .before .before .message-of .ensures)) (c .before .holds-half .ensures) (not-false _ (c .if3 .left))
+    half-read (p .0) (p .2) (attested-key-declared (checked-here (p .0)) (message-declared (checked-here (p .0)) (kind-declared _ (p .1 .1) (λ q. omega arith)) (p .1 .1)) (p .1 .2)) (view (now (a .state)) .table (a .party)) (c .before .before .attested-key-of .ensures ∙ ap (attestedKey (fileIn (now (a .file)))) (c .before .before .before .message-of .ensures)) (c .before .holds-half .ensures) (not-false _ (c .if3 .left))
 
 key-has-requires : tie.Need-key-has-requires
 key-has-requires c κs =
     let p = c .before .before .before .before .before .before .before .before .before .before .before .pre in
-    (rw (c .before .before .before .before .before .before .signing-key-of .ensures) (term-here (p .0) (signing-key-declared (p .0) (kind-declared _ (p .1 .1) (λ q. omega arith)) (p .1 .1))), omega arith)
+    (rw (c .before .before .before .before .before .before .signing-key-of .ensures) (term-noted (p .2) (signing-key-declared (checked-here (p .0)) (kind-declared _ (p .1 .1) (λ q. omega arith)) (p .1 .1))), omega arith)
 
 returns-4 : tie.Need-returns-4
 returns-4 c ledger =

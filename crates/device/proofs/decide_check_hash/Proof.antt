@@ -5,14 +5,14 @@ use denote.Ref.{now}
 use Rattle.state.specs.View.{view}
 use Rattle.state.proofs.Exact.{stateOf}
 use Rattle.loaded.specs.Loaded.{fileIn}
-use Rattle.loaded.proofs.Standing.{term-here}
+use Rattle.loaded.proofs.Noted.{term-noted}
 use Rattle.loaded.proofs.Tested.{right-read}
 use Rattle.device.proofs.Outcomes.{check-hash-chain}
 use Rattle.device.proofs.decide_check_hash.Statement.{statement}
 use Rattle.device.proofs.decide_check_hash.Tie as tie
 
 hashed-term-requires : tie.Need-hashed-term-requires
-hashed-term-requires c κs = let p = c .before .before .pre in (term-here (p .0) (p .1 .2), p .1 .1)
+hashed-term-requires c κs = let p = c .before .before .pre in term-noted (p .2) (p .1 .2)
 
 checked-requires : tie.Need-checked-requires
 checked-requires c κs = let p = c .before .before .before .pre in (p .0, p .1 .0, p .1 .2, p .1 .3)

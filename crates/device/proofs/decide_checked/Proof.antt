@@ -34,7 +34,7 @@ shared-slice-read-decide-check-attributes : tie.Need-shared-slice-read-decide-ch
 shared-slice-read-decide-check-attributes c = let p = c .before .before .before .before .before .before .pre in five-bytes (p .2) (omega arith) (omega arith)
 
 decide-check-attributes-requires : tie.Need-decide-check-attributes-requires
-decide-check-attributes-requires c κs = let p = c .before .before .before .before .before .before .pre in (p .0, known-as (p .2) (two-read checkAttributes (check-attributes-there _ _ (p .3 ∙ c .before .if1 .taken)) (c .before .before .word-at .ensures) refl))
+decide-check-attributes-requires c κs = let p = c .before .before .before .before .before .before .pre in (p .0, known-as (p .2) (two-read checkAttributes (check-attributes-there _ _ (p .3 ∙ c .before .if1 .taken)) (c .before .before .word-at .ensures) refl), p .1)
 
 returns : tie.Need-returns
 returns c = let p = c .before .before .before .before .before .before .before .pre in decided-as (p .2) (p .0) (two-read checkAttributes (check-attributes-there _ _ (p .3 ∙ c .before .before .if1 .taken)) (c .before .before .before .word-at .ensures) refl) (c .decide-check-attributes .ensures)
@@ -49,7 +49,7 @@ cast-u : tie.Need-cast-u
 cast-u c = search needs
 
 decide-check-hash-requires : tie.Need-decide-check-hash-requires
-decide-check-hash-requires c κs = let p = c .before .before .before .before .before .before .before .pre in (p .0, known-as (p .2) (two-read checkHash (check-hash-there _ _ (p .3 ∙ c .match .keys1)) (c .before .before .before .word-at .ensures) (c .before .word-at2 .ensures)))
+decide-check-hash-requires c κs = let p = c .before .before .before .before .before .before .before .pre in (p .0, known-as (p .2) (two-read checkHash (check-hash-there _ _ (p .3 ∙ c .match .keys1)) (c .before .before .before .word-at .ensures) (c .before .word-at2 .ensures)), p .1)
 
 decide-check-signature-requires : tie.Need-decide-check-signature-requires
 decide-check-signature-requires c κs = let p = c .before .before .before .before .before .before .before .pre in (p .0, known-as (p .2) (two-read checkSignature (check-signature-there _ _ (p .3 ∙ c .match .keys2)) (c .before .before .before .word-at .ensures) (c .before .word-at2 .ensures)), p .1)

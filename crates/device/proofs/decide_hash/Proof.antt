@@ -1,4 +1,4 @@
-use mathlib.Core.Path.{_≡_, sym, ap, _∙_}
+use mathlib.Core.Path.{sym, ap, _∙_}
 use Prim.Native.Nat.{ℕ}
 use native.Mathlib.Omega.{arith}
 use borrow.Author.Tests.{not-true, not-false}
@@ -7,7 +7,9 @@ use Rattle.state.specs.View.{view}
 use Rattle.state.proofs.Exact.{stateOf}
 use Rattle.loaded.specs.Loaded.{fileIn}
 use Rattle.theorems.proofs.Chain.{chain-none, chain-passes, chain-fails}
-use Rattle.loaded.proofs.Standing.{party-here, term-here, hashed-declared}
+use Rattle.loaded.proofs.Standing.{checked-here, party-here, term-here}
+use Rattle.loaded.proofs.Declared.{hashed-declared}
+use Rattle.loaded.proofs.Noted.{term-noted}
 use Rattle.device.proofs.Outcomes.{hash-chain}
 use Rattle.device.proofs.decide_hash.Statement.{statement}
 use Rattle.device.proofs.decide_hash.Tie as tie
@@ -23,12 +25,12 @@ returns c ledger =
     ∙ chain-fails 13 _ _ (sym (c .before .is-role .ensures) ∙ not-true _ (c .if1 .taken)))
 
 hashed-term-requires : tie.Need-hashed-term-requires
-hashed-term-requires c κs = let p = c .before .before .before .before .pre in (term-here (p .0) (p .1 .2), p .1 .1)
+hashed-term-requires c κs = let p = c .before .before .before .before .pre in term-noted (p .2) (p .1 .2)
 
 knows-requires : tie.Need-knows-requires
 knows-requires c κs =
     let p = c .before .before .before .before .before .pre in
-    (omega (arith, p .0 .parties, p .1 .0), rw (c .hashed-term .ensures) (term-here (p .0) (hashed-declared (p .0) (p .1 .2) (p .1 .1)) .row))
+    (omega (arith, p .0 .parties, p .1 .0), rw (c .hashed-term .ensures) (term-here (p .0) (hashed-declared (checked-here (p .0)) (p .1 .2) (p .1 .1)) .row))
 
 returns-2 : tie.Need-returns-2
 returns-2 c ledger =

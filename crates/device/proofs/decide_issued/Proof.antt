@@ -26,7 +26,7 @@ cast-r : tie.Need-cast-r
 cast-r c = search needs
 
 decide-self-issue-requires : tie.Need-decide-self-issue-requires
-decide-self-issue-requires c κs = let p = c .before .before .before .before .pre in (p .0, known-as (p .1) (one-read selfIssue (self-issue-there _ _ (p .2)) (c .word-at .ensures)))
+decide-self-issue-requires c κs = let p = c .before .before .before .before .pre in (p .0, known-as (p .1) (one-read selfIssue (self-issue-there _ _ (p .2)) (c .word-at .ensures)), p .3)
 
 returns : tie.Need-returns
 returns c = let p = c .before .before .before .before .before .pre in decided-as (p .1) (p .0) (one-read selfIssue (self-issue-there _ _ (p .2)) (c .before .word-at .ensures)) (c .decide-self-issue .ensures)

@@ -28,28 +28,28 @@ cast-r : tie.Need-cast-r
 cast-r c = search needs
 
 decide-hash-requires : tie.Need-decide-hash-requires
-decide-hash-requires c κs = let p = c .before .before .before .before .before .pre in (p .0, known-as (p .2) (one-read hash (hash-there _ _ (p .3 ∙ c .match .keys1)) (c .before .word-at .ensures)))
+decide-hash-requires c κs = let p = c .before .before .before .before .before .pre in (p .0, known-as (p .2) (one-read hash (hash-there _ _ (p .3 ∙ c .match .keys1)) (c .before .word-at .ensures)), p .1)
 
 decide-sign-requires : tie.Need-decide-sign-requires
-decide-sign-requires c κs = let p = c .before .before .before .before .before .pre in (p .0, known-as (p .2) (one-read sign (sign-there _ _ (p .3 ∙ c .match .keys2)) (c .before .word-at .ensures)))
+decide-sign-requires c κs = let p = c .before .before .before .before .before .pre in (p .0, known-as (p .2) (one-read sign (sign-there _ _ (p .3 ∙ c .match .keys2)) (c .before .word-at .ensures)), p .1)
 
 decide-certify-requires : tie.Need-decide-certify-requires
 decide-certify-requires c κs = let p = c .before .before .before .before .before .pre in (p .0, known-as (p .2) (one-read certify (certify-there _ _ (p .3 ∙ c .match .keys3)) (c .before .word-at .ensures)), p .1)
 
 decide-make-credential-requires : tie.Need-decide-make-credential-requires
-decide-make-credential-requires c κs = let p = c .before .before .before .before .before .pre in (p .0, known-as (p .2) (one-read makeCredential (make-credential-there _ _ (p .3 ∙ c .match .keys4)) (c .before .word-at .ensures)))
+decide-make-credential-requires c κs = let p = c .before .before .before .before .before .pre in (p .0, known-as (p .2) (one-read makeCredential (make-credential-there _ _ (p .3 ∙ c .match .keys4)) (c .before .word-at .ensures)), p .1)
 
 decide-activate-requires : tie.Need-decide-activate-requires
 decide-activate-requires c κs = let p = c .before .before .before .before .before .pre in (p .0, known-as (p .2) (one-read activateCredential (activate-there _ _ (p .3 ∙ c .match .keys5)) (c .before .word-at .ensures)), p .1)
 
 decide-idevid-request-requires : tie.Need-decide-idevid-request-requires
-decide-idevid-request-requires c κs = let p = c .before .before .before .before .before .pre in (p .0, known-as (p .2) (one-read makeIdevidRequest (idevid-request-there _ _ (p .3 ∙ c .match .keys6)) (c .before .word-at .ensures)))
+decide-idevid-request-requires c κs = let p = c .before .before .before .before .before .pre in (p .0, known-as (p .2) (one-read makeIdevidRequest (idevid-request-there _ _ (p .3 ∙ c .match .keys6)) (c .before .word-at .ensures)), p .1)
 
 decide-ldevid-request-requires : tie.Need-decide-ldevid-request-requires
-decide-ldevid-request-requires c κs = let p = c .before .before .before .before .before .pre in (p .0, known-as (p .2) (one-read makeLdevidRequest (ldevid-request-there _ _ (p .3 ∙ c .match .keys7)) (c .before .word-at .ensures)))
+decide-ldevid-request-requires c κs = let p = c .before .before .before .before .before .pre in (p .0, known-as (p .2) (one-read makeLdevidRequest (ldevid-request-there _ _ (p .3 ∙ c .match .keys7)) (c .before .word-at .ensures)), p .1)
 
 decide-pair-requires : tie.Need-decide-pair-requires
-decide-pair-requires c κs = let p = c .before .before .before .before .before .pre in (p .0, known-as (p .2) (one-read makePair (pair-there _ _ (p .3 ∙ last-arm _ 0x30 7 (c .match .rest) (p .4) (p .5))) (c .before .word-at .ensures)))
+decide-pair-requires c κs = let p = c .before .before .before .before .before .pre in (p .0, known-as (p .2) (one-read makePair (pair-there _ _ (p .3 ∙ last-arm _ 0x30 7 (c .match .rest) (p .4) (p .5))) (c .before .word-at .ensures)), p .1)
 
 returns : tie.Need-returns
 returns c = let p = c .before .before .before .before .before .before .pre in decided-as (p .2) (p .0) (one-read hash (hash-there _ _ (p .3 ∙ c .before .match .keys1)) (c .before .before .word-at .ensures)) (c .decide-hash .ensures)

@@ -9,7 +9,9 @@ use Rattle.state.specs.View.{view}
 use Rattle.state.proofs.Exact.{stateOf}
 use Rattle.loaded.specs.Loaded.{fileIn}
 use Rattle.theorems.proofs.Chain.{chain-none, chain-passes, chain-fails}
-use Rattle.loaded.proofs.Standing.{party-here, term-here, kind-declared, credential-term-declared, credential-number-declared, credential-key-declared}
+use Rattle.loaded.proofs.Standing.{checked-here, party-here, term-here, kind-declared}
+use Rattle.loaded.proofs.Declared.{credential-term-declared, credential-number-declared, credential-key-declared}
+use Rattle.loaded.proofs.Noted.{term-noted}
 use Rattle.loaded.proofs.Tested.{of-read}
 use Rattle.device.proofs.Outcomes.{make-credential-chain}
 use Rattle.device.proofs.decide_make_credential.Statement.{statement}
@@ -33,12 +35,12 @@ passes-1 c =
 credential-term-of-requires : tie.Need-credential-term-of-requires
 credential-term-of-requires c κs =
     let p = c .before .before .before .before .pre in
-    (term-here (p .0) (kind-declared _ (p .1 .1) (λ q. omega arith)), p .1 .1)
+    term-noted (p .2) (kind-declared _ (p .1 .1) (λ q. omega arith))
 
 knows-requires : tie.Need-knows-requires
 knows-requires c κs =
     let p = c .before .before .before .before .before .pre in
-    (omega (arith, p .0 .parties, p .1 .0), rw (c .credential-term-of .ensures) (term-here (p .0) (credential-term-declared (p .0) (kind-declared _ (p .1 .1) (λ q. omega arith)) (p .1 .1)) .row))
+    (omega (arith, p .0 .parties, p .1 .0), rw (c .credential-term-of .ensures) (term-here (p .0) (credential-term-declared (checked-here (p .0)) (kind-declared _ (p .1 .1) (λ q. omega arith)) (p .1 .1)) .row))
 
 returns-2 : tie.Need-returns-2
 returns-2 c ledger =
@@ -55,12 +57,12 @@ passes-2 c =
 credential-number-of-requires : tie.Need-credential-number-of-requires
 credential-number-of-requires c κs =
     let p = c .before .before .before .before .before .before .before .pre in
-    (term-here (p .0) (kind-declared _ (p .1 .1) (λ q. omega arith)), p .1 .1)
+    term-noted (p .2) (kind-declared _ (p .1 .1) (λ q. omega arith))
 
 knows-requires-2 : tie.Need-knows-requires-2
 knows-requires-2 c κs =
     let p = c .before .before .before .before .before .before .before .before .pre in
-    (omega (arith, p .0 .parties, p .1 .0), rw (c .credential-number-of .ensures) (term-here (p .0) (credential-number-declared (p .0) (kind-declared _ (p .1 .1) (λ q. omega arith)) (p .1 .1)) .row))
+    (omega (arith, p .0 .parties, p .1 .0), rw (c .credential-number-of .ensures) (term-here (p .0) (credential-number-declared (checked-here (p .0)) (kind-declared _ (p .1 .1) (λ q. omega arith)) (p .1 .1)) .row))
 
 returns-3 : tie.Need-returns-3
 returns-3 c ledger =
@@ -78,12 +80,12 @@ passes-3 c =
 credential-key-of-requires : tie.Need-credential-key-of-requires
 credential-key-of-requires c κs =
     let p = c .before .before .before .before .before .before .before .before .before .before .pre in
-    (term-here (p .0) (kind-declared _ (p .1 .1) (λ q. omega arith)), p .1 .1)
+    term-noted (p .2) (kind-declared _ (p .1 .1) (λ q. omega arith))
 
 knows-requires-3 : tie.Need-knows-requires-3
 knows-requires-3 c κs =
     let p = c .before .before .before .before .before .before .before .before .before .before .before .pre in
-    (omega (arith, p .0 .parties, p .1 .0), rw (c .credential-key-of .ensures) (term-here (p .0) (credential-key-declared (p .0) (kind-declared _ (p .1 .1) (λ q. omega arith)) (p .1 .1)) .row))
+    (omega (arith, p .0 .parties, p .1 .0), rw (c .credential-key-of .ensures) (term-here (p .0) (credential-key-declared (checked-here (p .0)) (kind-declared _ (p .1 .1) (λ q. omega arith)) (p .1 .1)) .row))
 
 returns-4 : tie.Need-returns-4
 returns-4 c ledger =

@@ -12,7 +12,9 @@ use Rattle.state.specs.View.{view}
 use Rattle.state.proofs.Exact.{stateOf}
 use Rattle.loaded.specs.Loaded.{fileIn}
 use Rattle.theorems.proofs.Chain.{chain-none, chain-passes, chain-fails}
-use Rattle.loaded.proofs.Standing.{party-here, term-here, kind-declared, certified-key-declared, signer-declared}
+use Rattle.loaded.proofs.Standing.{checked-here, party-here, term-here, kind-declared}
+use Rattle.loaded.proofs.Declared.{certified-key-declared, signer-declared}
+use Rattle.loaded.proofs.Noted.{term-noted}
 use Rattle.loaded.proofs.Tested.{of-read}
 use Rattle.device.proofs.Outcomes.{self-issue-chain}
 use Rattle.device.proofs.decide_self_issue.Statement.{statement}
@@ -36,12 +38,12 @@ passes-1 c =
 certified-key-of-requires : tie.Need-certified-key-of-requires
 certified-key-of-requires c κs =
     let p = c .before .before .before .before .pre in
-    (term-here (p .0) (kind-declared _ (p .1 .1) (λ q. omega arith)), p .1 .1)
+    term-noted (p .2) (kind-declared _ (p .1 .1) (λ q. omega arith))
 
 knows-requires : tie.Need-knows-requires
 knows-requires c κs =
     let p = c .before .before .before .before .before .pre in
-    (omega (arith, p .0 .parties, p .1 .0), rw (c .certified-key-of .ensures) (term-here (p .0) (certified-key-declared (p .0) (kind-declared _ (p .1 .1) (λ q. omega arith)) (p .1 .1)) .row))
+    (omega (arith, p .0 .parties, p .1 .0), rw (c .certified-key-of .ensures) (term-here (p .0) (certified-key-declared (checked-here (p .0)) (kind-declared _ (p .1 .1) (λ q. omega arith)) (p .1 .1)) .row))
 
 returns-2 : tie.Need-returns-2
 returns-2 c ledger =
@@ -58,12 +60,12 @@ passes-2 c =
 signer-of-requires : tie.Need-signer-of-requires
 signer-of-requires c κs =
     let p = c .before .before .before .before .before .before .before .pre in
-    (term-here (p .0) (kind-declared _ (p .1 .1) (λ q. omega arith)), p .1 .1)
+    term-noted (p .2) (kind-declared _ (p .1 .1) (λ q. omega arith))
 
 in-table-requires : tie.Need-in-table-requires
 in-table-requires c κs =
     let p = c .before .before .before .before .before .before .before .before .pre in
-    (omega (arith, p .0 .parties, p .1 .0), rw (c .signer-of .ensures) (term-here (p .0) (signer-declared (p .0) (kind-declared _ (p .1 .1) (λ q. omega arith)) (p .1 .1)) .row))
+    (omega (arith, p .0 .parties, p .1 .0), rw (c .signer-of .ensures) (term-here (p .0) (signer-declared (checked-here (p .0)) (kind-declared _ (p .1 .1) (λ q. omega arith)) (p .1 .1)) .row))
 
 returns-3 : tie.Need-returns-3
 returns-3 c ledger =
@@ -81,7 +83,7 @@ passes-3 c =
 key-has-requires : tie.Need-key-has-requires
 key-has-requires c κs =
     let p = c .before .before .before .before .before .before .before .before .before .before .pre in
-    (rw (c .before .before .signer-of .ensures) (term-here (p .0) (signer-declared (p .0) (kind-declared _ (p .1 .1) (λ q. omega arith)) (p .1 .1))), omega arith)
+    (rw (c .before .before .signer-of .ensures) (term-noted (p .2) (signer-declared (checked-here (p .0)) (kind-declared _ (p .1 .1) (λ q. omega arith)) (p .1 .1))), omega arith)
 
 returns-4 : tie.Need-returns-4
 returns-4 c ledger =
@@ -100,7 +102,7 @@ passes-4 c =
 key-has-requires-2 : tie.Need-key-has-requires-2
 key-has-requires-2 c κs =
     let p = c .before .before .before .before .before .before .before .before .before .before .before .before .pre in
-    (rw (c .before .before .before .before .signer-of .ensures) (term-here (p .0) (signer-declared (p .0) (kind-declared _ (p .1 .1) (λ q. omega arith)) (p .1 .1))), omega arith)
+    (rw (c .before .before .before .before .signer-of .ensures) (term-noted (p .2) (signer-declared (checked-here (p .0)) (kind-declared _ (p .1 .1) (λ q. omega arith)) (p .1 .1))), omega arith)
 
 returns-5 : tie.Need-returns-5
 returns-5 c ledger =

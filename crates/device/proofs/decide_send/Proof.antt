@@ -7,6 +7,7 @@ use Rattle.state.proofs.Exact.{stateOf}
 use Rattle.loaded.specs.Loaded.{fileIn}
 use Rattle.theorems.proofs.Chain.{chain-none, chain-passes, chain-fails}
 use Rattle.loaded.proofs.Standing.{party-here, term-here}
+use Rattle.loaded.proofs.Noted.{term-noted}
 use Rattle.device.proofs.Outcomes.{send-chain}
 use Rattle.device.proofs.decide_send.Statement.{statement}
 use Rattle.device.proofs.decide_send.Tie as tie
@@ -14,7 +15,7 @@ use Rattle.device.proofs.decide_send.Tie as tie
 may-send-requires : tie.Need-may-send-requires
 may-send-requires c κs =
     let p = c .before .before .pre in
-    (party-here (p .0) (p .1 .0), term-here (p .0) (p .1 .2))
+    (party-here (p .0) (p .1 .0), term-noted (p .2) (p .1 .2))
 
 returns : tie.Need-returns
 returns c ledger =

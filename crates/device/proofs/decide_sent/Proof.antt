@@ -36,7 +36,7 @@ cast-t : tie.Need-cast-t
 cast-t c = search needs
 
 decide-send-requires : tie.Need-decide-send-requires
-decide-send-requires c κs = let p = c .before .before .before .before .before .pre in (p .0, known-as (p .1) (two-read send (send-there _ _ (p .2)) refl (c .word-at .ensures)))
+decide-send-requires c κs = let p = c .before .before .before .before .before .pre in (p .0, known-as (p .1) (two-read send (send-there _ _ (p .2)) refl (c .word-at .ensures)), p .3)
 
 returns : tie.Need-returns
 returns c = let p = c .before .before .before .before .before .before .pre in decided-as (p .1) (p .0) (two-read send (send-there _ _ (p .2)) refl (c .before .word-at .ensures)) (c .decide-send .ensures)

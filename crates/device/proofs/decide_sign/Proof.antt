@@ -13,7 +13,9 @@ use Rattle.state.specs.View.{view}
 use Rattle.state.proofs.Exact.{stateOf}
 use Rattle.loaded.specs.Loaded.{fileIn}
 use Rattle.theorems.proofs.Chain.{chain-none, chain-passes, chain-fails}
-use Rattle.loaded.proofs.Standing.{party-here, term-here, kind-declared, message-declared, signing-key-declared}
+use Rattle.loaded.proofs.Standing.{checked-here, party-here, term-here, kind-declared}
+use Rattle.loaded.proofs.Declared.{message-declared, signing-key-declared}
+use Rattle.loaded.proofs.Noted.{term-noted}
 use Rattle.loaded.proofs.Tested.{of-read, either-read, unless, free}
 use Rattle.device.proofs.Outcomes.{sign-chain}
 use Rattle.device.proofs.decide_sign.Statement.{statement}
@@ -37,22 +39,22 @@ passes-1 c =
 signing-key-of-requires : tie.Need-signing-key-of-requires
 signing-key-of-requires c κs =
     let p = c .before .before .before .before .pre in
-    (term-here (p .0) (kind-declared _ (p .1 .1) (λ q. omega arith)), p .1 .1)
+    term-noted (p .2) (kind-declared _ (p .1 .1) (λ q. omega arith))
 
 message-of-requires : tie.Need-message-of-requires
 message-of-requires c κs =
     let p = c .before .before .before .before .before .pre in
-    (term-here (p .0) (kind-declared _ (p .1 .1) (λ q. omega arith)), p .1 .1)
+    term-noted (p .2) (kind-declared _ (p .1 .1) (λ q. omega arith))
 
 key-has-requires : tie.Need-key-has-requires
 key-has-requires c κs =
     let p = c .before .before .before .before .before .before .pre in
-    (rw (c .before .signing-key-of .ensures) (term-here (p .0) (signing-key-declared (p .0) (kind-declared _ (p .1 .1) (λ q. omega arith)) (p .1 .1))), omega arith)
+    (rw (c .before .signing-key-of .ensures) (term-noted (p .2) (signing-key-declared (checked-here (p .0)) (kind-declared _ (p .1 .1) (λ q. omega arith)) (p .1 .1))), omega arith)
 
 known-unless-requires : tie.Need-known-unless-requires
 known-unless-requires c κs =
     let p = c .before .before .before .before .before .before .before .pre in
-    (omega (arith, p .0 .parties, p .1 .0), rw (c .before .message-of .ensures) (term-here (p .0) (message-declared (p .0) (kind-declared _ (p .1 .1) (λ q. omega arith)) (p .1 .1)) .row))
+    (omega (arith, p .0 .parties, p .1 .0), rw (c .before .message-of .ensures) (term-here (p .0) (message-declared (checked-here (p .0)) (kind-declared _ (p .1 .1) (λ q. omega arith)) (p .1 .1)) .row))
 
 returns-2 : tie.Need-returns-2
 returns-2 c ledger =
@@ -69,7 +71,7 @@ passes-2 c =
 in-table-requires : tie.Need-in-table-requires
 in-table-requires c κs =
     let p = c .before .before .before .before .before .before .before .before .before .pre in
-    (omega (arith, p .0 .parties, p .1 .0), rw (c .before .before .before .before .signing-key-of .ensures) (term-here (p .0) (signing-key-declared (p .0) (kind-declared _ (p .1 .1) (λ q. omega arith)) (p .1 .1)) .row))
+    (omega (arith, p .0 .parties, p .1 .0), rw (c .before .before .before .before .signing-key-of .ensures) (term-here (p .0) (signing-key-declared (checked-here (p .0)) (kind-declared _ (p .1 .1) (λ q. omega arith)) (p .1 .1)) .row))
 
 returns-3 : tie.Need-returns-3
 returns-3 c ledger =
@@ -87,7 +89,7 @@ passes-3 c =
 key-has-requires-2 : tie.Need-key-has-requires-2
 key-has-requires-2 c κs =
     let p = c .before .before .before .before .before .before .before .before .before .before .before .pre in
-    (rw (c .before .before .before .before .before .before .signing-key-of .ensures) (term-here (p .0) (signing-key-declared (p .0) (kind-declared _ (p .1 .1) (λ q. omega arith)) (p .1 .1))), omega arith)
+    (rw (c .before .before .before .before .before .before .signing-key-of .ensures) (term-noted (p .2) (signing-key-declared (checked-here (p .0)) (kind-declared _ (p .1 .1) (λ q. omega arith)) (p .1 .1))), omega arith)
 
 returns-4 : tie.Need-returns-4
 returns-4 c ledger =
@@ -118,7 +120,7 @@ returns-5 c ledger =
 is-kind-requires : tie.Need-is-kind-requires
 is-kind-requires c κs =
     let p = c .before .before .before .before .before .before .before .before .before .before .before .before .before .before .pre in
-    rw (c .before .before .before .before .before .before .before .before .message-of .ensures) (term-here (p .0) (message-declared (p .0) (kind-declared _ (p .1 .1) (λ q. omega arith)) (p .1 .1)))
+    rw (c .before .before .before .before .before .before .before .before .message-of .ensures) (term-noted (p .2) (message-declared (checked-here (p .0)) (kind-declared _ (p .1 .1) (λ q. omega arith)) (p .1 .1)))
 
 returns-6 : tie.Need-returns-6
 returns-6 c ledger =
@@ -138,7 +140,7 @@ passes-6 c =
 in-table-requires-2 : tie.Need-in-table-requires-2
 in-table-requires-2 c κs =
     let p = c .before .before .before .before .before .before .before .before .before .before .before .before .before .before .before .before .pre in
-    (omega (arith, p .0 .parties, p .1 .0), rw (c .before .before .before .before .before .before .before .before .before .before .message-of .ensures) (term-here (p .0) (message-declared (p .0) (kind-declared _ (p .1 .1) (λ q. omega arith)) (p .1 .1)) .row))
+    (omega (arith, p .0 .parties, p .1 .0), rw (c .before .before .before .before .before .before .before .before .before .before .message-of .ensures) (term-here (p .0) (message-declared (checked-here (p .0)) (kind-declared _ (p .1 .1) (λ q. omega arith)) (p .1 .1)) .row))
 
 returns-7 : tie.Need-returns-7
 returns-7 c ledger =

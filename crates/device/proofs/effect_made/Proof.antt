@@ -28,10 +28,10 @@ cast-r : tie.Need-cast-r
 cast-r c = search needs
 
 effect-hash-requires : tie.Need-effect-hash-requires
-effect-hash-requires c κs = let p = c .before .before .before .before .before .before .pre in (p .0, known-as (p .1) (one-read hash (hash-there _ _ (p .2 ∙ c .before .match .keys1)) (c .before .before .word-at .ensures)))
+effect-hash-requires c κs = let p = c .before .before .before .before .before .before .pre in (p .0, known-as (p .1) (one-read hash (hash-there _ _ (p .2 ∙ c .before .match .keys1)) (c .before .before .word-at .ensures)), p .5)
 
 effect-activate-requires : tie.Need-effect-activate-requires
-effect-activate-requires c κs = let p = c .before .before .before .before .before .before .pre in (p .0, known-as (p .1) (one-read activateCredential (activate-there _ _ (p .2 ∙ c .before .match .keys2)) (c .before .before .word-at .ensures)))
+effect-activate-requires c κs = let p = c .before .before .before .before .before .before .pre in (p .0, known-as (p .1) (one-read activateCredential (activate-there _ _ (p .2 ∙ c .before .match .keys2)) (c .before .before .word-at .ensures)), p .5)
 
 learn-requires : tie.Need-learn-requires
 learn-requires c κs = let p = c .before .before .before .before .before .before .pre in let g = made-known (p .1) (omega arith) (omega arith) in (p .0, g .0, rw (c .before .before .word-at .ensures) (g .1))

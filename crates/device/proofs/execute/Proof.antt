@@ -19,7 +19,7 @@ returns : tie.Need-returns
 returns c = (c .before .decide-made .ensures, ((λ z. absurd (c .if2 .taken z)), (λ n. refl)))
 
 effect-made-requires : tie.Need-effect-made-requires
-effect-made-requires c κs = let p = c .before .before .before .before .before .before .before .before .pre in (p .0, p .2, refl, command-range _ (p .2 .isCommand) .0, omega arith)
+effect-made-requires c κs = let p = c .before .before .before .before .before .before .before .before .pre in (p .0, p .2, refl, command-range _ (p .2 .isCommand) .0, omega arith, p .1)
 
 same-length-2 : tie.Need-same-length-2
 same-length-2 c = search needs

@@ -5,21 +5,21 @@ use Rattle.device.proofs.sent_by_desks.Statement.{statement}
 use Rattle.device.proofs.sent_by_desks.Tie as tie
 
 is-kind-requires : tie.Need-is-kind-requires
-is-kind-requires c κs = c .before .before .pre
+is-kind-requires c κs = c .before .pre
 
 returns : tie.Need-returns
 unfolding mayBeSentByDesk
 returns c = or-first _ (sym (or-first _ (sym (c .before .is-kind .ensures) ∙ c .if1 .taken)))
 
 is-kind-requires-2 : tie.Need-is-kind-requires-2
-is-kind-requires-2 c κs = c .before .before .before .before .pre
+is-kind-requires-2 c κs = c .before .before .before .pre
 
 returns-2 : tie.Need-returns-2
 unfolding mayBeSentByDesk
 returns-2 c = or-first _ (sym (or-second (sym (c .before .before .before .is-kind .ensures) ∙ c .before .before .if1 .left) (sym (c .if2 .taken) ∙ c .before .is-kind2 .ensures)))
 
 is-kind-requires-3 : tie.Need-is-kind-requires-3
-is-kind-requires-3 c κs = c .before .before .before .before .before .before .pre
+is-kind-requires-3 c κs = c .before .before .before .before .before .pre
 
 returns-3 : tie.Need-returns-3
 unfolding mayBeSentByDesk

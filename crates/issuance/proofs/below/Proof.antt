@@ -4,21 +4,23 @@ use denote.Ref.{now}
 use Rattle.theorems.specs.Chain.{chain}
 use Rattle.loaded.specs.Loaded.{fileIn}
 use Rattle.theorems.proofs.Chain.{stops}
-use Rattle.loaded.proofs.Standing.{checked-here, kind-declared, certified-key-declared, signer-declared}
+use Rattle.loaded.proofs.Standing.{checked-here, kind-declared}
+use Rattle.loaded.proofs.Declared.{certified-key-declared, signer-declared}
+use Rattle.requests.proofs.Read.{searched}
 use Rattle.issuance.specs.Tests.{parentTests}
 use Rattle.issuance.proofs.Called.{called-goes}
-use Rattle.issuance.proofs.IssueOnRequest.{here, parentage-goes, parentage-read, called-read}
+use Rattle.issuance.proofs.IssueOnRequest.{noted, parentage-goes, parentage-read, called-read}
 use Rattle.issuance.proofs.below.Statement.{statement}
 use Rattle.issuance.proofs.below.Tie as tie
 
 certificate-of-requires : tie.Need-certificate-of-requires
-certificate-of-requires c κs = let p = c .before .before .pre in here (p .0) (p .6) (λ e. omega arith)
+certificate-of-requires c κs = let p = c .before .before .pre in (noted (p .1) (p .6) (λ e. omega arith), p .6)
 
 parentage-requires : tie.Need-parentage-requires
 parentage-requires c κs =
     let p = c .before .before .before .pre in
     let known = kind-declared _ (p .6) (λ e. omega arith) in
-    (p .0, p .1, p .2, p .4, p .5, rw (c .certificate-of .ensures .0) (certified-key-declared (p .0) known (p .6)), rw (c .certificate-of .ensures .2) (signer-declared (p .0) known (p .6)))
+    (rw (c .certificate-of .ensures .2) (searched (p .0) (p .1) (p .2) (signer-declared (checked-here (p .0)) known (p .6))), p .4, p .5, rw (c .certificate-of .ensures .0) (certified-key-declared (checked-here (p .0)) known (p .6)))
 
 returns : tie.Need-returns
 returns c n ledger k₀ =
@@ -31,7 +33,7 @@ passes-1 c =
     sym (parentage-read (fileIn (now (a .file))) (a .parent) (a .family) (a .half) (a .new) (c .before .before .certificate-of .ensures .0) (c .before .before .certificate-of .ensures .2) (c .before .parentage .ensures)) ∙ c .if1 .left
 
 called-for-requires : tie.Need-called-for-requires
-called-for-requires c κs = let p = c .before .before .before .before .before .pre in (p .0, p .1, p .3, p .7)
+called-for-requires c κs = let p = c .before .before .before .before .before .pre in (checked-here (p .0), p .1, p .3, p .7)
 
 returns-2 : tie.Need-returns-2
 returns-2 c n ledger k₀ =

@@ -11,10 +11,11 @@ use Rattle.state.proofs.Exact.{stateOf}
 use Rattle.theorems.specs.Chain.{chain}
 use Rattle.loaded.specs.Loaded.{fileIn}
 use Rattle.theorems.proofs.Chain.{chain-passes, chain-fails, stops}
-use Rattle.loaded.proofs.Standing.{party-here, checked-here, term-here, kind-declared, ldevid-message-declared}
+use Rattle.loaded.proofs.Standing.{party-here, checked-here, term-here, kind-declared}
+use Rattle.loaded.proofs.Declared.{ldevid-message-declared}
 use Rattle.requests.specs.Tests.{attestTests}
 use Rattle.requests.proofs.Passing.{form-goes, proof-goes, has-form}
-use Rattle.issuance.proofs.IssueOnRequest.{signatureAt, newAt, Asked, asked, here, half-declared, new-declared, parent-is, attest-goes, attest-read, proof-read, below-read, issue-chain}
+use Rattle.issuance.proofs.IssueOnRequest.{signatureAt, newAt, Asked, asked, noted, half-declared, new-declared, parent-is, attest-goes, attest-read, proof-read, below-read, issue-chain}
 use Rattle.issuance.proofs.decide_issue.Statement.{statement}
 use Rattle.issuance.proofs.decide_issue.Tie as tie
 
@@ -52,7 +53,7 @@ passes-2 c =
 form-requires : tie.Need-form-requires
 form-requires c κs =
     let p = c .before .before .before .before .before .before .pre in
-    (p .0, p .3 .2)
+    (checked-here (p .0), p .1, p .3 .2)
 
 returns-3 : tie.Need-returns-3
 returns-3 c n ledger k₀ =
@@ -70,13 +71,13 @@ ldevid-request-of-requires : tie.Need-ldevid-request-of-requires
 ldevid-request-of-requires c κs =
     let p = c .before .before .before .before .before .before .before .before .before .pre in
     let m = has-form _ _ _ refl (passes-3 (c)) in
-    rw (c .before .before .form .ensures .1 (c .if3 .left) .named) (here (p .0) (m .1) (λ e. omega arith))
+    rw (c .before .before .form .ensures .1 (c .if3 .left) .named) (noted (p .1) (m .1) (λ e. omega arith))
 
 attested-by-requires : tie.Need-attested-by-requires
 attested-by-requires c κs =
     let p = c .before .before .before .before .before .before .before .before .before .before .pre in
     let m = has-form _ _ _ refl (passes-3 (c .before)) in
-    (p .0, rw (c .ldevid-request-of .ensures .0, c .before .before .before .form .ensures .1 (c .before .if3 .left) .named) (ldevid-message-declared (p .0) (kind-declared _ (m .1) (λ e. omega arith)) (m .1)))
+    (checked-here (p .0), p .1, rw (c .ldevid-request-of .ensures .0, c .before .before .before .form .ensures .1 (c .before .if3 .left) .named) (ldevid-message-declared (checked-here (p .0)) (kind-declared _ (m .1) (λ e. omega arith)) (m .1)))
 
 returns-4 : tie.Need-returns-4
 returns-4 c n ledger k₀ =

@@ -9,10 +9,12 @@ use Rattle.state.proofs.Exact.{stateOf}
 use Rattle.loaded.specs.Loaded.{fileIn}
 use Rattle.theorems.specs.Chain.{chain}
 use Rattle.theorems.proofs.Chain.{chain-passes, chain-fails, stops}
-use Rattle.loaded.proofs.Standing.{party-here, checked-here, term-here, kind-declared, left-declared, credential-number-declared}
+use Rattle.loaded.proofs.Standing.{party-here, checked-here, term-here, kind-declared}
+use Rattle.loaded.proofs.Declared.{left-declared, credential-number-declared}
+use Rattle.loaded.proofs.Noted.{term-noted}
 use Rattle.issuance.specs.Tests.{iakEntryTests}
 use Rattle.issuance.proofs.Called.{called-goes, called-subject}
-use Rattle.issuance.proofs.Endorsement.{endorsement-here}
+use Rattle.issuance.proofs.Endorsement.{endorsement-noted}
 use Rattle.issuance.proofs.IssueIak.{issue-iak-chain}
 use Rattle.issuance.proofs.decide_issue_iak.Statement.{statement}
 use Rattle.issuance.proofs.decide_issue_iak.Tie as tie
@@ -86,7 +88,7 @@ credential-of-requires c κs =
     let h = o .pre .0 in
     let w = o .pre .2 in
     let d = kind-declared _ (w .2) (λ q. omega arith) in
-    (term-here h d, w .2)
+    term-noted (o .pre .1) d
 
 knows-requires : tie.Need-knows-requires
 knows-requires c κs =
@@ -94,7 +96,7 @@ knows-requires c κs =
     let h = o .pre .0 in
     let w = o .pre .2 in
     let d = kind-declared _ (w .2) (λ q. omega arith) in
-    (omega (arith, h .parties, w .1), rw (c .credential-of .ensures .1) (term-here h (credential-number-declared h d (w .2)) .row))
+    (omega (arith, h .parties, w .1), rw (c .credential-of .ensures .1) (term-here h (credential-number-declared (checked-here h) d (w .2)) .row))
 
 returns-5 : tie.Need-returns-5
 returns-5 c n ledger k₀ =
@@ -120,7 +122,7 @@ pair-of-requires c κs =
     let h = o .pre .0 in
     let w = o .pre .2 in
     let m = o .pre .3 (sym (c .before .before .before .before .before .before .before .before .before .mark-of .ensures) ∙ c .before .before .before .before .before .before .before .before .if2 .left) in
-    rw (c .request-of .ensures) (term-here h (m .declared), m .formed .pair)
+    rw (c .request-of .ensures) (term-noted (o .pre .1) (m .declared))
 
 idevid-request-of-requires : tie.Need-idevid-request-of-requires
 idevid-request-of-requires c κs =
@@ -128,15 +130,15 @@ idevid-request-of-requires c κs =
     let h = o .pre .0 in
     let w = o .pre .2 in
     let m = o .pre .3 (sym (c .before .before .before .before .before .before .before .before .before .before .mark-of .ensures) ∙ c .before .before .before .before .before .before .before .before .before .if2 .left) in
-    let l = left-declared h (m .declared) (m .formed .pair) in
-    rw (c .pair-of .ensures .0, c .before .request-of .ensures) (term-here h l, m .body)
+    let l = left-declared (checked-here h) (m .declared) (m .formed .pair) in
+    rw (c .pair-of .ensures .0, c .before .request-of .ensures) (term-noted (o .pre .1) l, m .body)
 
 called-for-requires : tie.Need-called-for-requires
 called-for-requires c κs =
     let o = c .before .before .before .before .before .before .before .before .before .before .before .before .before .before .before .before in
     let h = o .pre .0 in
     let w = o .pre .2 in
-    (h, o .pre .1, omega (arith, h .parties, w .0), w .3)
+    (checked-here h, o .pre .1, omega (arith, h .parties, w .0), w .3)
 
 returns-6 : tie.Need-returns-6
 returns-6 c n ledger k₀ =
@@ -153,7 +155,7 @@ certified-key-of-requires : tie.Need-certified-key-of-requires
 certified-key-of-requires c κs =
     let o = c .before .before .before .before .before .before .before .before .before .before .before .before .before .before .before .before .before .before in
     let m = o .pre .3 (sym (c .before .before .before .before .before .before .before .before .before .before .before .before .before .mark-of .ensures) ∙ c .before .before .before .before .before .before .before .before .before .before .before .before .if2 .left) in
-    rw (c .before .before .idevid-request-of .ensures .1, c .before .before .before .pair-of .ensures .0, c .before .before .before .before .request-of .ensures) (endorsement-here (o .pre .0) m)
+    rw (c .before .before .idevid-request-of .ensures .1, c .before .before .before .pair-of .ensures .0, c .before .before .before .before .request-of .ensures) (endorsement-noted (o .pre .0) m (o .pre .1))
 
 iak-allowed-requires : tie.Need-iak-allowed-requires
 iak-allowed-requires c κs =

@@ -1,7 +1,9 @@
 use mathlib.Core.Path.{_∙_}
 use native.Mathlib.Omega.{arith}
 use borrow.Author.Needs.{needs}
-use Rattle.loaded.proofs.Standing.{checked-here, kind-declared, term-here, left-declared, ldevid-certificate-declared}
+use Rattle.loaded.proofs.Standing.{checked-here, kind-declared}
+use Rattle.loaded.proofs.Declared.{left-declared, ldevid-certificate-declared}
+use Rattle.loaded.proofs.Noted.{term-noted}
 use Rattle.issuance.proofs.Issued.{request-accepted, parent-place, request-issued}
 use Rattle.issuance.proofs.effect_issue.Statement.{statement}
 use Rattle.issuance.proofs.effect_issue.Tie as tie
@@ -9,21 +11,20 @@ use Rattle.issuance.proofs.effect_issue.Tie as tie
 pair-of-requires : tie.Need-pair-of-requires
 pair-of-requires c κs =
     let p = c .before .before .before .pre in
-    let t = request-accepted (p .1) in
-    (term-here (p .0) (p .1 .wellformed .2), t .parent .pair)
+    term-noted (p .1 .finds) (p .1 .wellformed .2)
 
 ldevid-request-of-requires : tie.Need-ldevid-request-of-requires
 ldevid-request-of-requires c κs =
     let p = c .before .before .before .before .before .pre in
     let t = request-accepted (p .1) in
-    rw (c .before .pair-of .ensures .0) (term-here (p .0) (left-declared (p .0) (p .1 .wellformed .2) (t .parent .pair)), t .parent .body)
+    rw (c .before .pair-of .ensures .0) (term-noted (p .1 .finds) (left-declared (checked-here (p .0)) (p .1 .wellformed .2) (t .parent .pair)))
 
 depth-of-requires : tie.Need-depth-of-requires
 depth-of-requires c κs =
     let p = c .before .before .before .before .before .before .before .pre in
     let t = request-accepted (p .1) in
     let few = checked-here (p .0) .fewTerms in
-    let m = ldevid-certificate-declared (p .0) (left-declared (p .0) (p .1 .wellformed .2) (t .parent .pair)) (t .parent .body) in
+    let m = ldevid-certificate-declared (checked-here (p .0)) (left-declared (checked-here (p .0)) (p .1 .wellformed .2) (t .parent .pair)) (t .parent .body) in
     rw (c .before .ldevid-request-of .ensures .1, c .before .before .before .pair-of .ensures .0) (omega (arith, few, m))
 
 ek-of-requires : tie.Need-ek-of-requires
@@ -31,7 +32,7 @@ ek-of-requires c κs =
     let p = c .before .before .before .before .before .before .before .before .before .pre in
     let t = request-accepted (p .1) in
     let few = checked-here (p .0) .fewTerms in
-    let m = ldevid-certificate-declared (p .0) (left-declared (p .0) (p .1 .wellformed .2) (t .parent .pair)) (t .parent .body) in
+    let m = ldevid-certificate-declared (checked-here (p .0)) (left-declared (checked-here (p .0)) (p .1 .wellformed .2) (t .parent .pair)) (t .parent .body) in
     rw (c .before .before .before .ldevid-request-of .ensures .1, c .before .before .before .before .before .pair-of .ensures .0) (omega (arith, few, m), parent-place (p .1) .0, parent-place (p .1) .1)
 
 learn-requires : tie.Need-learn-requires
@@ -53,26 +54,26 @@ append-requires c κs =
     let t = request-accepted (p .1) in
     let few = checked-here (p .0) .fewTerms in
     let l = kind-declared _ (p .1 .wellformed .1) (λ x. omega arith) in
-    let m = ldevid-certificate-declared (p .0) (left-declared (p .0) (p .1 .wellformed .2) (t .parent .pair)) (t .parent .body) in
-    (p .1 .words, p .1 .accepts .more, omega (arith, few, l))
+    let m = ldevid-certificate-declared (checked-here (p .0)) (left-declared (checked-here (p .0)) (p .1 .wellformed .2) (t .parent .pair)) (t .parent .body) in
+    (p .1 .finds .words, p .1 .accepts .more, omega (arith, few, l))
 
-cast-t23 : tie.Need-cast-t23
-cast-t23 c =
+cast-t21 : tie.Need-cast-t21
+cast-t21 c =
     let p = c .before .before .before .before .before .before .before .before .before .before .before .before .before .before .before .before .pre in
     let few = checked-here (p .0) .fewTerms in
     let l = kind-declared _ (p .1 .wellformed .1) (λ x. omega arith) in
     omega (arith, few, l)
 
-cast-t24 : tie.Need-cast-t24
-cast-t24 c =
+cast-t22 : tie.Need-cast-t22
+cast-t22 c =
     let p = c .before .before .before .before .before .before .before .before .before .before .before .before .before .before .before .before .pre in
     let t = request-accepted (p .1) in
     let few = checked-here (p .0) .fewTerms in
-    let m = ldevid-certificate-declared (p .0) (left-declared (p .0) (p .1 .wellformed .2) (t .parent .pair)) (t .parent .body) in
+    let m = ldevid-certificate-declared (checked-here (p .0)) (left-declared (checked-here (p .0)) (p .1 .wellformed .2) (t .parent .pair)) (t .parent .body) in
     rw (c .before .before .before .before .before .before .before .before .before .before .ldevid-request-of .ensures .1, c .before .before .before .before .before .before .before .before .before .before .before .before .pair-of .ensures .0) (omega (arith, few, m))
 
-add-t25 : tie.Need-add-t25
-add-t25 c =
+add-t23 : tie.Need-add-t23
+add-t23 c =
     let p = c .before .before .before .before .before .before .before .before .before .before .before .before .before .before .before .before .pre in
     let t = request-accepted (p .1) in
     let d = c .before .before .before .before .before .before .before .before .depth-of .ensures ∙ p .1 .accepts .enters .depth _ in
@@ -86,4 +87,4 @@ returns : tie.Need-returns
 returns c = request-issued (c .before .before .before .before .before .before .before .before .before .before .before .before .before .before .before .before .pre .1) (c .before .before .before .before .before .before .before .before .before .before .before .before .pair-of .ensures .0) (c .before .before .before .before .before .before .before .before .before .before .ldevid-request-of .ensures .1) (c .before .before .before .before .before .before .before .before .depth-of .ensures) (c .before .before .before .before .before .before .ek-of .ensures) (c .before .before .before .before .learn .ensures) (c .append .ensures)
 
 pub effect-issue-spec : {M : Type 1} → statement M
-effect-issue-spec = tie.close (tie.spec pair-of-requires ldevid-request-of-requires depth-of-requires ek-of-requires learn-requires add-append append-requires cast-t23 cast-t24 add-t25 same-length returns)
+effect-issue-spec = tie.close (tie.spec pair-of-requires ldevid-request-of-requires depth-of-requires ek-of-requires learn-requires add-append append-requires cast-t21 cast-t22 add-t23 same-length returns)

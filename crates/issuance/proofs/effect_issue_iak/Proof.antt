@@ -5,8 +5,10 @@ use Rattle.rules.specs.Limits.{termLimit}
 use Rattle.tables.specs.Regions.{Boards}
 use Rattle.boards.specs.Linked.{Falls}
 use Rattle.loaded.proofs.Boards.{falls-ek, entered-falls}
-use Rattle.loaded.proofs.Standing.{checked-here, kind-declared, term-here, left-declared, idevid-certificate-declared}
-use Rattle.issuance.proofs.Endorsement.{endorsement-here, ek-few}
+use Rattle.loaded.proofs.Standing.{checked-here, kind-declared, term-here}
+use Rattle.loaded.proofs.Declared.{left-declared, idevid-certificate-declared}
+use Rattle.loaded.proofs.Noted.{term-noted}
+use Rattle.issuance.proofs.Endorsement.{endorsement-noted, ek-few}
 use Rattle.issuance.proofs.Issued.{iak-issued}
 use Rattle.issuance.proofs.effect_issue_iak.Statement.{statement}
 use Rattle.issuance.proofs.effect_issue_iak.Tie as tie
@@ -21,19 +23,19 @@ pair-of-requires : tie.Need-pair-of-requires
 pair-of-requires c κs =
     let p = c .before .before .before .before .before .pre in
     let i = p .1 in
-    rw (c .before .request-of .ensures) (term-here (p .0) (i .requested .declared), i .requested .formed .pair)
+    rw (c .before .request-of .ensures) (term-noted (i .finds) (i .requested .declared))
 
 idevid-request-of-requires : tie.Need-idevid-request-of-requires
 idevid-request-of-requires c κs =
     let p = c .before .before .before .before .before .before .before .pre in
     let i = p .1 in
-    rw (c .before .pair-of .ensures .0, c .before .before .before .request-of .ensures) (term-here (p .0) (left-declared (p .0) (i .requested .declared) (i .requested .formed .pair)), i .requested .body)
+    rw (c .before .pair-of .ensures .0, c .before .before .before .request-of .ensures) (term-noted (i .finds) (left-declared (checked-here (p .0)) (i .requested .declared) (i .requested .formed .pair)), i .requested .body)
 
 certified-key-of-requires : tie.Need-certified-key-of-requires
 certified-key-of-requires c κs =
     let p = c .before .before .before .before .before .before .before .before .before .pre in
     let i = p .1 in
-    rw (c .before .idevid-request-of .ensures .1, c .before .before .before .pair-of .ensures .0, c .before .before .before .before .before .request-of .ensures) (endorsement-here (p .0) (i .requested))
+    rw (c .before .idevid-request-of .ensures .1, c .before .before .before .pair-of .ensures .0, c .before .before .before .before .before .request-of .ensures) (endorsement-noted (p .0) (i .requested) (i .finds))
 
 learn-requires : tie.Need-learn-requires
 learn-requires c κs =
@@ -60,28 +62,28 @@ append-requires c κs =
     let i = p .1 in
     let few = checked-here (p .0) .fewTerms in
     let l = kind-declared _ (i .wellformed .3) (λ x. omega arith) in
-    let m = idevid-certificate-declared (p .0) (left-declared (p .0) (i .requested .declared) (i .requested .formed .pair)) (i .requested .body) in
-    (i .words, i .accepts .more, omega (arith, few, l))
+    let m = idevid-certificate-declared (checked-here (p .0)) (left-declared (checked-here (p .0)) (i .requested .declared) (i .requested .formed .pair)) (i .requested .body) in
+    (i .finds .words, i .accepts .more, omega (arith, few, l))
 
 link-requires : tie.Need-link-requires
 link-requires c κs =
     let i = c .before .before .before .before .before .before .before .before .before .before .before .before .before .before .before .before .before .before .before .before .before .pre .1 in
     let a = c .before .append .ensures in
-    (a .keys .words ∙ i .words, i .accepts .more, subst⁻¹ (λ (b : Boards). Falls b termLimit) (a .boards) (falls-ek _ _ termLimit (entered-falls (_, _, i .accepts .enters))))
+    (a .keys .words ∙ i .finds .words, i .accepts .more, subst⁻¹ (λ (b : Boards). Falls b termLimit) (a .boards) (falls-ek _ _ termLimit (entered-falls (_, _, i .accepts .enters))))
 
-cast-t27 : tie.Need-cast-t27
-cast-t27 c =
+cast-t24 : tie.Need-cast-t24
+cast-t24 c =
     let p = c .before .before .before .before .before .before .before .before .before .before .before .before .before .before .before .before .before .before .before .before .before .before .pre in
     let few = checked-here (p .0) .fewTerms in
     let l = kind-declared _ (p .1 .wellformed .3) (λ x. omega arith) in
     omega (arith, few, l)
 
-cast-t29 : tie.Need-cast-t29
-cast-t29 c =
+cast-t26 : tie.Need-cast-t26
+cast-t26 c =
     let p = c .before .before .before .before .before .before .before .before .before .before .before .before .before .before .before .before .before .before .before .before .before .before .before .pre in
     let i = p .1 in
     let few = checked-here (p .0) .fewTerms in
-    let m = idevid-certificate-declared (p .0) (left-declared (p .0) (i .requested .declared) (i .requested .formed .pair)) (i .requested .body) in
+    let m = idevid-certificate-declared (checked-here (p .0)) (left-declared (checked-here (p .0)) (i .requested .declared) (i .requested .formed .pair)) (i .requested .body) in
     rw (c .before .before .before .before .before .before .before .before .before .before .before .before .before .before .before .idevid-request-of .ensures .1, c .before .before .before .before .before .before .before .before .before .before .before .before .before .before .before .before .before .pair-of .ensures .0, c .before .before .before .before .before .before .before .before .before .before .before .before .before .before .before .before .before .before .before .request-of .ensures) (omega (arith, few, m))
 
 same-length : tie.Need-same-length
@@ -91,4 +93,4 @@ returns : tie.Need-returns
 returns c = iak-issued (c .before .before .before .before .before .before .before .before .before .before .before .before .before .before .before .before .before .before .before .before .before .before .before .pre .1) (c .before .before .before .before .before .before .before .before .before .before .before .before .before .before .before .before .before .before .before .request-of .ensures) (c .before .before .before .before .before .before .before .before .before .before .before .before .before .before .before .before .before .pair-of .ensures .0) (c .before .before .before .before .before .before .before .before .before .before .before .before .before .before .before .idevid-request-of .ensures .1) (c .before .before .before .before .before .before .before .before .before .before .before .before .before .before .before .idevid-request-of .ensures .0) (c .before .before .before .before .before .before .before .before .before .before .before .before .before .certified-key-of .ensures) (c .before .before .before .before .before .before .before .before .before .before .before .learn .ensures) (c .before .before .before .before .before .before .before .note-mark .ensures) (c .before .before .before .append .ensures) (c .before .link .ensures)
 
 pub effect-issue-iak-spec : {M : Type 1} → statement M
-effect-issue-iak-spec = tie.close (tie.spec request-of-requires pair-of-requires idevid-request-of-requires certified-key-of-requires learn-requires note-mark-requires cast-append append-requires link-requires cast-t27 cast-t29 same-length returns)
+effect-issue-iak-spec = tie.close (tie.spec request-of-requires pair-of-requires idevid-request-of-requires certified-key-of-requires learn-requires note-mark-requires cast-append append-requires link-requires cast-t24 cast-t26 same-length returns)

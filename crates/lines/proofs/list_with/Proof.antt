@@ -52,6 +52,7 @@ use denote.Triple.Walked.{says, needs, Stays, stay-none, stay-none-slice, stay-n
 use denote.Exit.{yes}
 use Rattle.ledger.proofs.Again.{LentAgain, lends-again, comes-back}
 use lib.ListN.{take, length-replicate}
+use Rattle.tables.specs.Regions.{EmptyTables}
 use types.Share.{arr-parts}
 use denote.Memory.{shares}
 use denote.Lend.{Held}
@@ -61,23 +62,23 @@ use Rattle.rules.specs.Lent.{noEntry}
 use Rattle.rules.specs.Listing.{entryLines, listing}
 use Rattle.decimal.specs.Text.{Written}
 use Rattle.lister.specs.Text.{entryBytes, Listed}
-use Rattle.runs.specs.Raw.{Runs}
+use Rattle.engine.specs.Raw.{Runs}
 use Rattle.lines.specs.Lines.{HeadReady, Headed, entriesOf, LastReady, Ended, ListReady}
 use Rattle.lines.proofs.Lines.{ledger-long, ledger-fits, head-ready, entries-fit, entries-room, last-ready, listed-whole}
 use Rattle.rules.specs.declared.Entry.{Entry}
 use Rattle.rules.proofs.Entry as Entry-s
 use Rattle.rules.proofs.Entry.Laws as Entry-l
-use Rattle.runs.specs.declared.Finished.{Finished}
-use Rattle.runs.proofs.Finished as Finished-s
-use Rattle.runs.proofs.Finished.Laws as Finished-l
+use Rattle.engine.specs.declared.Finished.{Finished}
+use Rattle.engine.proofs.Finished as Finished-s
+use Rattle.engine.proofs.Finished.Laws as Finished-l
 use Rattle.lines.proofs.no_entry as no-entry
 use Rattle.lines.proofs.no_entry.Symbol as no-entry-def
 use Rattle.lines.proofs.no_entry.Symbol.{name as #no-entry}
 use Rattle.lines.proofs.no_entry.Met as no-entry-thm
-use Rattle.runs.proofs.run as run′
-use Rattle.runs.proofs.run.Symbol as run′-def
-use Rattle.runs.proofs.run.Symbol.{name as #run′}
-use Rattle.runs.proofs.run.Met as run′-thm
+use Rattle.engine.proofs.run as run′
+use Rattle.engine.proofs.run.Symbol as run′-def
+use Rattle.engine.proofs.run.Symbol.{name as #run′}
+use Rattle.engine.proofs.run.Met as run′-thm
 use Rattle.lines.proofs.head as head′
 use Rattle.lines.proofs.head.Symbol as head′-def
 use Rattle.lines.proofs.head.Symbol.{name as #head′}
@@ -100,7 +101,7 @@ use Rattle.lines.proofs.list_with.Statement as stated
 use Rattle.lines.proofs.list_with.Code as code
 
 abbrev stayed : Stays (list-with′.ended .signature .params) (list-with′.ended .kept)
-stayed = (stay-none-slice (0 ∷ []) tt (plain (λ _. u8)) yes, (stay-slice (1 ∷ []) tt (plain (λ _. u8)), (stay-slice (2 ∷ []) tt (plain (λ _. u8)), (stay-ref (3 ∷ []) tt (arrayOf (plain (λ _. u16)) 7176), (stay-slice (4 ∷ []) tt (plain (λ _. u8)), tt)))))
+stayed = (stay-none-slice (0 ∷ []) tt (plain (λ _. u8)) yes, (stay-slice (1 ∷ []) tt (plain (λ _. u8)), (stay-slice (2 ∷ []) tt (plain (λ _. u8)), (stay-ref (3 ∷ []) tt (arrayOf (plain (λ _. u16)) 12296), (stay-slice (4 ∷ []) tt (plain (λ _. u8)), tt)))))
 
 -- ---- the contracts that the proof cites
 module _ {M : Type 1} (𝓤 : URA M) (H : Heap 𝓤) (A : Atoms 𝓤) (mem : Memory → SProp 𝓤) (run : Routine → Fun 𝓤) where
@@ -123,7 +124,7 @@ module _ {M : Type 1} (𝓤 : URA M) (H : Heap 𝓤) (A : Atoms 𝓤) (mem : Mem
   Last = tripleOf 𝓤 H A last′.signature (last′.spec 𝓤 H A mem run)
 
 module _ {M : Type 1} (𝓤 : URA M) (H : Heap 𝓤) (A : Atoms 𝓤) (W : Given 𝓤 H A) (mem : Memory → SProp 𝓤) (run : Routine → Fun 𝓤) (κf κs κo κt κx : Lft) (qf qs qo qt qx : Share) (bf of : ℕ) (γf : GName) (if : List ℕ) (bs os : ℕ) (γs : GName) (is : List ℕ) (bo oo : ℕ) (γo : GName) (io : List ℕ) (bt ot : ℕ) (γt : GName) (it : List ℕ) (bx ox : ℕ) (γx : GName) (ix : List ℕ)
-    (room-f : Room u8 (length (if))) (room-s : Room u8 (length (is))) (room-o : Room u8 (length (io))) (room-x : Room u8 (length (ix))) (given : ListReady (is) (io) (ix)) where
+    (room-f : Room u8 (length (if))) (room-s : Room u8 (length (is))) (room-o : Room u8 (length (io))) (room-x : Room u8 (length (ix))) (given : ListReady (is) (io) (it) (ix)) where
   abbrev xf : RefT (List ℕ)
   xf = record { ptr = (bf, of); name = γf; now = if }
 
@@ -158,7 +159,7 @@ module _ {M : Type 1} (𝓤 : URA M) (H : Heap 𝓤) (A : Atoms 𝓤) (W : Given
   st = vptr (xt .ptr .0) (xt .ptr .1)
 
   abbrev Mt : List ℕ → Fml
-  Mt c = MutRef (named 3) κt (Array u16 7176) .own (record { ptr = xt .ptr; name = xt .name; now = c }) (st ∷ [])
+  Mt c = MutRef (named 3) κt (Array u16 12296) .own (record { ptr = xt .ptr; name = xt .name; now = c }) (st ∷ [])
 
   abbrev xx : RefT (List ℕ)
   xx = record { ptr = (bx, ox); name = γx; now = ix }
@@ -243,8 +244,8 @@ module _ {M : Type 1} (𝓤 : URA M) (H : Heap 𝓤) (A : Atoms 𝓤) (W : Given
   abbrev to-run′ : ℕ → ℕ → ℕ → GName → List ℕ → ℕ → GName → ℕ → List Entry → ℕ → GName → List ℕ → ℕ → GName → List ℕ → Run 𝓤 H A mem run .Ghost
   to-run′ n1 n2 νs δs cs νL8 δL8 l8 cL8 νo δo co νt δt ct = ((κ-run′ n1 n2 νs δs cs νL8 δL8 l8 cL8 νo δo co νt δt ct, (qf, (fullShare, (fullShare, (fullShare, (fullShare, tt))))), tt, a-run′ n1 n2 νs δs cs νL8 δL8 l8 cL8 νo δo co νt δt ct, vals-run′ n1 n2 νs δs cs νL8 δL8 l8 cL8 νo δo co νt δt ct), tt)
 
-  asks-run′ : (n1 : ℕ) (n2 : ℕ) (νs : ℕ) (δs : GName) (cs : List ℕ) (νL8 : ℕ) (δL8 : GName) (l8 : ℕ) (cL8 : List Entry) (νo : ℕ) (δo : GName) (co : List ℕ) (νt : ℕ) (δt : GName) (ct : List ℕ) → n2 ≤ length cL8 → ent 𝓤 (⋆ 𝓤 H A ((‵ (flft κf qf) ⊛ ‵ (flft (νs ∷ []) fullShare) ⊛ ‵ (flft (νL8 ∷ []) fullShare) ⊛ ‵ (flft (νo ∷ []) fullShare) ⊛ ‵ (flft (νt ∷ []) fullShare) ⊛ ‵ ftrue) ∷ ‵ (owns (ShrSlice (named 0) κf u8 ∷ usize ∷ usize ∷ MutSlice (named 1) (νs ∷ []) u8 ∷ MutSlice (named 2) (νL8 ∷ []) Entry-s.the-row ∷ MutSlice (named 3) (νo ∷ []) u8 ∷ MutRef (named 4) (νt ∷ []) (Array u16 7176) ∷ []) (a-run′ n1 n2 νs δs cs νL8 δL8 l8 cL8 νo δo co νt δt ct) (vals-run′ n1 n2 νs δs cs νL8 δL8 l8 cL8 νo δo co νt δt ct)) ∷ [])) (Run 𝓤 H A mem run .pre (to-run′ n1 n2 νs δs cs νL8 δL8 l8 cL8 νo δo co νt δt ct))
-  asks-run′ n1 n2 νs δs cs νL8 δL8 l8 cL8 νo δo co νt δt ct ok = qed W ((‵ (flft κf qf) ⊛ ‵ (flft (νs ∷ []) fullShare) ⊛ ‵ (flft (νL8 ∷ []) fullShare) ⊛ ‵ (flft (νo ∷ []) fullShare) ⊛ ‵ (flft (νt ∷ []) fullShare) ⊛ ‵ ftrue) ∷ ‵ (owns (ShrSlice (named 0) κf u8 ∷ usize ∷ usize ∷ MutSlice (named 1) (νs ∷ []) u8 ∷ MutSlice (named 2) (νL8 ∷ []) Entry-s.the-row ∷ MutSlice (named 3) (νo ∷ []) u8 ∷ MutRef (named 4) (νt ∷ []) (Array u16 7176) ∷ []) (a-run′ n1 n2 νs δs cs νL8 δL8 l8 cL8 νo δo co νt δt ct) (vals-run′ n1 n2 νs δs cs νL8 δL8 l8 cL8 νo δo co νt δt ct)) ∷ []) ∵ says ! ok $ frame ! $ done !
+  asks-run′ : (n1 : ℕ) (n2 : ℕ) (νs : ℕ) (δs : GName) (cs : List ℕ) (νL8 : ℕ) (δL8 : GName) (l8 : ℕ) (cL8 : List Entry) (νo : ℕ) (δo : GName) (co : List ℕ) (νt : ℕ) (δt : GName) (ct : List ℕ) → (n2 ≤ length cL8) × EmptyTables ct → ent 𝓤 (⋆ 𝓤 H A ((‵ (flft κf qf) ⊛ ‵ (flft (νs ∷ []) fullShare) ⊛ ‵ (flft (νL8 ∷ []) fullShare) ⊛ ‵ (flft (νo ∷ []) fullShare) ⊛ ‵ (flft (νt ∷ []) fullShare) ⊛ ‵ ftrue) ∷ ‵ (owns (ShrSlice (named 0) κf u8 ∷ usize ∷ usize ∷ MutSlice (named 1) (νs ∷ []) u8 ∷ MutSlice (named 2) (νL8 ∷ []) Entry-s.the-row ∷ MutSlice (named 3) (νo ∷ []) u8 ∷ MutRef (named 4) (νt ∷ []) (Array u16 12296) ∷ []) (a-run′ n1 n2 νs δs cs νL8 δL8 l8 cL8 νo δo co νt δt ct) (vals-run′ n1 n2 νs δs cs νL8 δL8 l8 cL8 νo δo co νt δt ct)) ∷ [])) (Run 𝓤 H A mem run .pre (to-run′ n1 n2 νs δs cs νL8 δL8 l8 cL8 νo δo co νt δt ct))
+  asks-run′ n1 n2 νs δs cs νL8 δL8 l8 cL8 νo δo co νt δt ct ok = qed W ((‵ (flft κf qf) ⊛ ‵ (flft (νs ∷ []) fullShare) ⊛ ‵ (flft (νL8 ∷ []) fullShare) ⊛ ‵ (flft (νo ∷ []) fullShare) ⊛ ‵ (flft (νt ∷ []) fullShare) ⊛ ‵ ftrue) ∷ ‵ (owns (ShrSlice (named 0) κf u8 ∷ usize ∷ usize ∷ MutSlice (named 1) (νs ∷ []) u8 ∷ MutSlice (named 2) (νL8 ∷ []) Entry-s.the-row ∷ MutSlice (named 3) (νo ∷ []) u8 ∷ MutRef (named 4) (νt ∷ []) (Array u16 12296) ∷ []) (a-run′ n1 n2 νs δs cs νL8 δL8 l8 cL8 νo δo co νt δt ct) (vals-run′ n1 n2 νs δs cs νL8 δL8 l8 cL8 νo δo co νt δt ct)) ∷ []) ∵ says ! ok $ frame ! $ done !
 
   -- ---- `head`: what its triple binds outside, and that the caller has what it asks
   abbrev κ-head′ : Finished → ℕ → GName → List ℕ → ℕ → GName → List ℕ → Lft × (Lft × Unit {0})
@@ -313,7 +314,7 @@ module _ {M : Type 1} (𝓤 : URA M) (H : Heap 𝓤) (A : Atoms 𝓤) (W : Given
   module _ (C : Calls 𝓤 H) (Λ : Loops 𝓤 H) (fm : FmC 𝓤 H (W .laws) C) (known-no-entry : Triple 𝓤 (C #no-entry) (NoEntry 𝓤 H A mem run)) (known-run′ : Triple 𝓤 (C #run′) (Run 𝓤 H A mem run)) (known-head′ : Triple 𝓤 (C #head′) (Head 𝓤 H A mem run)) (known-entries-of : Triple 𝓤 (C #entries-of) (EntriesOf 𝓤 H A mem run)) (known-entries-into : Triple 𝓤 (C #entries-into) (EntriesInto 𝓤 H A mem run)) (known-last′ : Triple 𝓤 (C #last′) (Last 𝓤 H A mem run)) where
     walk : ent 𝓤 (onEntry 𝓤 H A list-with′.signature (κf, (κs, (κo, (κt, (κx, tt))))) (qf, (qs, (qo, (qt, (qx, tt))))) a vals) (WpFn 𝓤 H C Λ code.function (sf ∷ ss ∷ so ∷ st ∷ sx ∷ []) Post)
     walk =
-        qed W ((‵ (flft κf qf) ⊛ ‵ (flft κs qs) ⊛ ‵ (flft κo qo) ⊛ ‵ (flft κt qt) ⊛ ‵ (flft κx qx) ⊛ ‵ ftrue) ∷ ‵ (owns (ShrSlice (named 0) κf u8 ∷ MutSlice (named 1) κs u8 ∷ MutSlice (named 2) κo u8 ∷ MutRef (named 3) κt (Array u16 7176) ∷ MutSlice (named 4) κx u8 ∷ []) a vals) ∷ []) ∵ enter ! C Λ code.function (sf ∷ ss ∷ so ∷ st ∷ sx ∷ []) _ $
+        qed W ((‵ (flft κf qf) ⊛ ‵ (flft κs qs) ⊛ ‵ (flft κo qo) ⊛ ‵ (flft κt qt) ⊛ ‵ (flft κx qx) ⊛ ‵ ftrue) ∷ ‵ (owns (ShrSlice (named 0) κf u8 ∷ MutSlice (named 1) κs u8 ∷ MutSlice (named 2) κo u8 ∷ MutRef (named 3) κt (Array u16 12296) ∷ MutSlice (named 4) κx u8 ∷ []) a vals) ∷ []) ∵ enter ! C Λ code.function (sf ∷ ss ∷ so ∷ st ∷ sx ∷ []) _ $
         alloc1 ! (λ l0. alloc1 ! (λ l1. alloc1 ! (λ l2. alloc1 ! (λ l3. alloc1 ! (λ l4. alloc1 ! (λ l5. alloc1 ! (λ l6. alloc1 ! (λ l7. alloc1 ! (λ l8. alloc1 ! (λ l9. alloc1 ! (λ l10. alloc1 ! (λ l11. alloc1 ! (λ l12. alloc1 ! (λ l13. alloc1 ! (λ l14. alloc1 ! (λ l15. alloc1 ! (λ l16. alloc1 ! (λ l17. alloc1 ! (λ l18. alloc1 ! (λ l19. alloc1 ! (λ l20. alloc1 ! (λ l21. alloc1 ! (λ l22. alloc1 ! (λ l23. alloc1 ! (λ l24. alloc1 ! (λ l25. alloc1 ! (λ l26. alloc1 ! (λ l27. alloc1 ! (λ l28. alloc1 ! (λ l29. alloc0 ! $ params1 ! $
         pass1 ! (init ! 56 refl (tt, (tt, (record { fits = room-f .0 }, tt)))) $
         pass1 ! (init ! 54 refl (tt, (tt, (record { fits = room-s .0 }, tt)))) $
@@ -394,7 +395,7 @@ module _ {M : Type 1} (𝓤 : URA M) (H : Heap 𝓤) (A : Atoms 𝓤) (W : Given
         move ! (10 ∷ 14 ∷ []) $
         use2 W (later (some (λ (δ₀ : GName). ‵ (MutSlice (named 3) (νo1 ∷ []) u8 .own (record { ptr = xo .ptr; name = δ₀; now = xo .now }) (sliceVal (xo .ptr) (length (xo .now)) ∷ [])) ⊛ ‵ (LentAgain u8 κo (νo1 ∷ []) qo (xo .name) (xo .ptr .0) (xo .ptr .1) δ₀ (xo .now))))) (lends-again u8 κo (νo1 ∷ []) qo (xo .name) (xo .ptr .0) (xo .ptr .1) 𝓤 H A W (named 2) (named 3) (xo .now)) $ await ! tt $ pick ! (λ δo1. split ! $
         move ! (11 ∷ 14 ∷ []) $
-        use2 W (later (some (λ (δ₀ : GName). ‵ (MutRef (named 4) (νt1 ∷ []) (Array u16 7176) .own (record { ptr = xt .ptr; name = δ₀; now = xt .now }) (vptr (xt .ptr .0) (xt .ptr .1) ∷ [])) ⊛ ‵ (RefAgain (Array u16 7176) κt (νt1 ∷ []) qt (xt .name) (xt .ptr .0) (xt .ptr .1) δ₀ (xt .now))))) (ref-again 𝓤 H A W (Array u16 7176) (named 3) κt (νt1 ∷ []) qt (xt .name) (xt .ptr .0) (xt .ptr .1) (named 4) (xt .now)) $ await ! tt $ pick ! (λ δt1. split ! $
+        use2 W (later (some (λ (δ₀ : GName). ‵ (MutRef (named 4) (νt1 ∷ []) (Array u16 12296) .own (record { ptr = xt .ptr; name = δ₀; now = xt .now }) (vptr (xt .ptr .0) (xt .ptr .1) ∷ [])) ⊛ ‵ (RefAgain (Array u16 12296) κt (νt1 ∷ []) qt (xt .name) (xt .ptr .0) (xt .ptr .1) δ₀ (xt .now))))) (ref-again 𝓤 H A W (Array u16 12296) (named 3) κt (νt1 ∷ []) qt (xt .name) (xt .ptr .0) (xt .ptr .1) (named 4) (xt .now)) $ await ! tt $ pick ! (λ δt1. split ! $
         move ! (13 ∷ []) $
         use1 W (‵ Of ⊛ ‵ Of) (shr-slice-copy 𝓤 H A W (named 0) κf u8 .twice xf (sf ∷ [])) $ split ! $
         nothing ! $
@@ -423,7 +424,7 @@ module _ {M : Type 1} (𝓤 : URA M) (H : Heap 𝓤) (A : Atoms 𝓤) (W : Given
         join ! $
         move ! (9 ∷ 0 ∷ []) $
         join ! $
-        use2 W (raw (Run 𝓤 H A mem run .pre (to-run′ (length (xf .now)) 1024 νs1 δs1 (xs .now) νL81 δL81 l8 (replicate 1024 noEntry) νo1 δo1 (xo .now) νt1 δt1 (xt .now)))) (asks-run′ (length (xf .now)) 1024 νs1 δs1 (xs .now) νL81 δL81 l8 (replicate 1024 noEntry) νo1 δo1 (xo .now) νt1 δt1 (xt .now) ledger-fits) $
+        use2 W (raw (Run 𝓤 H A mem run .pre (to-run′ (length (xf .now)) 1024 νs1 δs1 (xs .now) νL81 δL81 l8 (replicate 1024 noEntry) νo1 δo1 (xo .now) νt1 δt1 (xt .now)))) (asks-run′ (length (xf .now)) 1024 νs1 δs1 (xs .now) νL81 δL81 l8 (replicate 1024 noEntry) νo1 δo1 (xo .now) νt1 δt1 (xt .now) (ledger-fits, given .empty)) $
         rewrite ! 34 (λ (m : ℕ). ‵ (fat fullShare (sliceTy (tyRef erased mut (pointee (Entry-s.the-row .written)))) l16 0 (sliceVal (l8, 0) m))) (sym ledger-long) refl $
         calls-at ! fm (Run 𝓤 H A mem run) known-run′ (to-run′ (length (xf .now)) 1024 νs1 δs1 (xs .now) νL81 δL81 l8 (replicate 1024 noEntry) νo1 δo1 (xo .now) νt1 δt1 (xt .now)) (and-then ! (load ! (from ! (stop !)) (look ! 63 refl)) (and-then ! (load ! (from ! (stop !)) (look ! 53 refl)) (and-then ! (big-lit ! (record { fits = lit< tt })) (and-then ! (load ! (from ! (stop !)) (look ! 38 refl)) (and-then ! (load ! (from ! (stop !)) (look ! 34 refl)) (and-then ! (load ! (from ! (stop !)) (look ! 30 refl)) (and-then ! (load ! (from ! (stop !)) (look ! 28 refl)) (no-more !)))))))) (λ w1.
         use1 W (later (some (λ (ans : Finished). ((‵ (flft κf qf) ⊛ ‵ (flft (νs1 ∷ []) fullShare) ⊛ ‵ (flft (νL81 ∷ []) fullShare) ⊛ ‵ (flft (νo1 ∷ []) fullShare) ⊛ ‵ (flft (νt1 ∷ []) fullShare) ⊛ ‵ ftrue) ⊛ ‵ (Finished-s.the-row .own ans (w1 ∷ []))) ⊛ raw (ensured 𝓤 H A run′.ended (run′.clauses 𝓤 H A mem run) (κ-run′ (length (xf .now)) 1024 νs1 δs1 (xs .now) νL81 δL81 l8 (replicate 1024 noEntry) νo1 δo1 (xo .now) νt1 δt1 (xt .now)) (a-run′ (length (xf .now)) 1024 νs1 δs1 (xs .now) νL81 δL81 l8 (replicate 1024 noEntry) νo1 δo1 (xo .now) νt1 δt1 (xt .now)) tt ans)))) (id⊢ 𝓤 _) $ await ! tt $ pick ! (λ d.
@@ -493,7 +494,7 @@ module _ {M : Type 1} (𝓤 : URA M) (H : Heap 𝓤) (A : Atoms 𝓤) (W : Given
         move ! (5 ∷ []) $
         lft-end ! tt $
         move ! (0 ∷ 9 ∷ 7 ∷ []) $
-        use3 W (later (‵ (Mt (zs1 .1 .1 .1 .1 .1 .1 .0)) ⊛ ‵ (flft κt qt))) (ref-returns 𝓤 H A W (Array u16 7176) (named 3) κt (νt1 ∷ []) qt (xt .name) (xt .ptr .0) (xt .ptr .1) δt1 (xt .now) (zs1 .1 .1 .1 .1 .1 .1 .0)) $ await ! tt $ split ! $
+        use3 W (later (‵ (Mt (zs1 .1 .1 .1 .1 .1 .1 .0)) ⊛ ‵ (flft κt qt))) (ref-returns 𝓤 H A W (Array u16 12296) (named 3) κt (νt1 ∷ []) qt (xt .name) (xt .ptr .0) (xt .ptr .1) δt1 (xt .now) (zs1 .1 .1 .1 .1 .1 .1 .0)) $ await ! tt $ split ! $
         assigns ! (addr ! (from ! (fld ! refl (hop ! (look-in ! 62 (sub ! 0 refl (whole !))) (stop !))))) (from ! (stop !)) (init ! 29 refl (tt, tt)) $
         assigns ! (agg ! (and-then ! (load ! (from ! (stop !)) (look ! 29 refl)) (and-then ! (load ! (from ! (fld ! refl (stop !))) (look-in ! 62 (sub ! 1 refl (whole !)))) (no-more !)))) (from ! (stop !)) (init ! 27 refl (tt, (tt, (record { fits = room-o .0 }, tt)))) $
         assigns ! (addr ! (from ! (fld ! refl (hop ! (look-in ! 58 (sub ! 0 refl (whole !))) (stop !))))) (from ! (stop !)) (init ! 25 refl (tt, tt)) $
@@ -707,13 +708,13 @@ module _ {M : Type 1} (𝓤 : URA M) (H : Heap 𝓤) (A : Atoms 𝓤) (W : Given
       → Walks 𝓤 H A list-with′.ended stayed (WpFn 𝓤 H (𝓣 .C) (𝓣 .Λ) code.function) (list-with′.clauses 𝓤 H A mem run)
   walks 𝓣 fm known-no-entry known-run′ known-head′ known-entries-of known-entries-into known-last′ = walked 𝓤 H A list-with′.ended stayed (list-with′.clauses 𝓤 H A mem run) (WpFn 𝓤 H (𝓣 .C) (𝓣 .Λ) code.function)
       (λ κs. (slice-vals, (slice-vals, (slice-vals, (ptr-vals, (slice-vals, tt))))))
-      (λ κs. (shr-slice-tells (named 0) (κs .0) u8, (mut-slice-tells (named 1) (κs .1 .0) u8, (mut-slice-tells (named 2) (κs .1 .1 .0) u8, (mut-tells (named 3) (κs .1 .1 .1 .0) (Array u16 7176), (mut-slice-tells (named 4) (κs .1 .1 .1 .1 .0) u8, tt))))))
-      (λ κs qs bounds a g are. needs 𝓤 (ListReady (a .1 .0 .now) (a .1 .1 .0 .now) (a .1 .1 .1 .1 .0 .now)) _ (λ given. walk 𝓤 H A W mem run (κs .0) (κs .1 .0) (κs .1 .1 .0) (κs .1 .1 .1 .0) (κs .1 .1 .1 .1 .0) (qs .0) (qs .1 .0) (qs .1 .1 .0) (qs .1 .1 .1 .0) (qs .1 .1 .1 .1 .0) (a .0 .ptr .0) (a .0 .ptr .1) (a .0 .name) (a .0 .now) (a .1 .0 .ptr .0) (a .1 .0 .ptr .1) (a .1 .0 .name) (a .1 .0 .now) (a .1 .1 .0 .ptr .0) (a .1 .1 .0 .ptr .1) (a .1 .1 .0 .name) (a .1 .1 .0 .now) (a .1 .1 .1 .0 .ptr .0) (a .1 .1 .1 .0 .ptr .1) (a .1 .1 .1 .0 .name) (a .1 .1 .1 .0 .now) (a .1 .1 .1 .1 .0 .ptr .0) (a .1 .1 .1 .1 .0 .ptr .1) (a .1 .1 .1 .1 .0 .name) (a .1 .1 .1 .1 .0 .now) (are .0 .0 .1) (are .1 .0 .0 .1) (are .1 .1 .0 .0 .1) (are .1 .1 .1 .1 .0 .0 .1) given (𝓣 .C) (𝓣 .Λ) fm known-no-entry known-run′ known-head′ known-entries-of known-entries-into known-last′))
+      (λ κs. (shr-slice-tells (named 0) (κs .0) u8, (mut-slice-tells (named 1) (κs .1 .0) u8, (mut-slice-tells (named 2) (κs .1 .1 .0) u8, (mut-tells (named 3) (κs .1 .1 .1 .0) (Array u16 12296), (mut-slice-tells (named 4) (κs .1 .1 .1 .1 .0) u8, tt))))))
+      (λ κs qs bounds a g are. needs 𝓤 (ListReady (a .1 .0 .now) (a .1 .1 .0 .now) (a .1 .1 .1 .0 .now) (a .1 .1 .1 .1 .0 .now)) _ (λ given. walk 𝓤 H A W mem run (κs .0) (κs .1 .0) (κs .1 .1 .0) (κs .1 .1 .1 .0) (κs .1 .1 .1 .1 .0) (qs .0) (qs .1 .0) (qs .1 .1 .0) (qs .1 .1 .1 .0) (qs .1 .1 .1 .1 .0) (a .0 .ptr .0) (a .0 .ptr .1) (a .0 .name) (a .0 .now) (a .1 .0 .ptr .0) (a .1 .0 .ptr .1) (a .1 .0 .name) (a .1 .0 .now) (a .1 .1 .0 .ptr .0) (a .1 .1 .0 .ptr .1) (a .1 .1 .0 .name) (a .1 .1 .0 .now) (a .1 .1 .1 .0 .ptr .0) (a .1 .1 .1 .0 .ptr .1) (a .1 .1 .1 .0 .name) (a .1 .1 .1 .0 .now) (a .1 .1 .1 .1 .0 .ptr .0) (a .1 .1 .1 .1 .0 .ptr .1) (a .1 .1 .1 .1 .0 .name) (a .1 .1 .1 .1 .0 .now) (are .0 .0 .1) (are .1 .0 .0 .1) (are .1 .1 .0 .0 .1) (are .1 .1 .1 .1 .0 .0 .1) given (𝓣 .C) (𝓣 .Λ) fm known-no-entry known-run′ known-head′ known-entries-of known-entries-into known-last′))
 
 meets : {M : Type 1} (𝓤 : URA M) (H : Heap 𝓤) (A : Atoms 𝓤) → Given 𝓤 H A → (mem : Memory → SProp 𝓤) (run : Routine → Fun 𝓤) (𝓣 : Tables 𝓤 H) → Triple 𝓤 (𝓣 .C #no-entry) (NoEntry 𝓤 H A mem run) → Triple 𝓤 (𝓣 .C #run′) (Run 𝓤 H A mem run) → Triple 𝓤 (𝓣 .C #head′) (Head 𝓤 H A mem run) → Triple 𝓤 (𝓣 .C #entries-of) (EntriesOf 𝓤 H A mem run) → Triple 𝓤 (𝓣 .C #entries-into) (EntriesInto 𝓤 H A mem run) → Triple 𝓤 (𝓣 .C #last′) (Last 𝓤 H A mem run)
     → Meets 𝓤 H A list-with′.signature (WpFn 𝓤 H (𝓣 .C) (𝓣 .Λ) code.function) (list-with′.spec 𝓤 H A mem run)
 meets 𝓤 H A W mem run 𝓣 known-no-entry known-run′ known-head′ known-entries-of known-entries-into known-last′ =
-    walk-meets 𝓤 H A list-with′.ended stayed W (goes-none-slice 𝓤 H A W 5 (0 ∷ []) tt (plain (λ _. u8)) yes, (goes-slice 𝓤 H A W 5 1 tt (plain (λ _. u8)), (goes-slice 𝓤 H A W 5 2 tt (plain (λ _. u8)), (goes-ref 𝓤 H A W 5 3 tt (arrayOf (plain (λ _. u16)) 7176), (goes-slice 𝓤 H A W 5 4 tt (plain (λ _. u8)), tt))))) (list-with′.clauses 𝓤 H A mem run)
+    walk-meets 𝓤 H A list-with′.ended stayed W (goes-none-slice 𝓤 H A W 5 (0 ∷ []) tt (plain (λ _. u8)) yes, (goes-slice 𝓤 H A W 5 1 tt (plain (λ _. u8)), (goes-slice 𝓤 H A W 5 2 tt (plain (λ _. u8)), (goes-ref 𝓤 H A W 5 3 tt (arrayOf (plain (λ _. u16)) 12296), (goes-slice 𝓤 H A W 5 4 tt (plain (λ _. u8)), tt))))) (list-with′.clauses 𝓤 H A mem run)
     (WpFn 𝓤 H (𝓣 .C) (𝓣 .Λ) code.function) (WpFn-mono 𝓤 H (W .laws) 𝓣 code.function) (walks 𝓤 H A W mem run 𝓣 (fmOf 𝓤 H (W .laws) 𝓣) known-no-entry known-run′ known-head′ known-entries-of known-entries-into known-last′)
 
 pub list-with-spec : {M : Type 1} → stated.statement M
@@ -723,7 +724,7 @@ list-with-spec 𝓤 H 𝓜 𝓖 𝓡 =
     (tables 𝓤 H 𝓜 𝓡 code.env .C) (tables 𝓤 H 𝓜 𝓡 code.env .Λ) #list-with code.function (code.unfolded 𝓤 H 𝓜 𝓡)
     (meets 𝓤 H (𝓖 .A) (givenOf 𝓤 H 𝓜 𝓖) (𝓜 .mem) (𝓡 .run) (tablesOf 𝓤 H 𝓜 (tables 𝓤 H 𝓜 𝓡 code.env))
     (cited 𝓤 H (NoEntry 𝓤 H (𝓖 .A) (𝓜 .mem) (𝓡 .run)) 𝓜 𝓡 code.env #no-entry no-entry-def.routine code.calls-lines·no-entry (no-entry-thm.met 𝓤 H 𝓜 𝓖 𝓡))
-    (cited 𝓤 H (Run 𝓤 H (𝓖 .A) (𝓜 .mem) (𝓡 .run)) 𝓜 𝓡 code.env #run′ run′-def.routine code.calls-runs·run (run′-thm.met 𝓤 H 𝓜 𝓖 𝓡))
+    (cited 𝓤 H (Run 𝓤 H (𝓖 .A) (𝓜 .mem) (𝓡 .run)) 𝓜 𝓡 code.env #run′ run′-def.routine code.calls-engine·run (run′-thm.met 𝓤 H 𝓜 𝓖 𝓡))
     (cited 𝓤 H (Head 𝓤 H (𝓖 .A) (𝓜 .mem) (𝓡 .run)) 𝓜 𝓡 code.env #head′ head′-def.routine code.calls-lines·head (head′-thm.met 𝓤 H 𝓜 𝓖 𝓡))
     (cited 𝓤 H (EntriesOf 𝓤 H (𝓖 .A) (𝓜 .mem) (𝓡 .run)) 𝓜 𝓡 code.env #entries-of entries-of-def.routine code.calls-lines·entries-of (entries-of-thm.met 𝓤 H 𝓜 𝓖 𝓡))
     (cited 𝓤 H (EntriesInto 𝓤 H (𝓖 .A) (𝓜 .mem) (𝓡 .run)) 𝓜 𝓡 code.env #entries-into entries-into-def.routine code.calls-lister·entries-into (entries-into-thm.met 𝓤 H 𝓜 𝓖 𝓡))

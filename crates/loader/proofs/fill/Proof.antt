@@ -11,8 +11,8 @@ clear-requires c κs = search needs
 
 scan-requires : tie.Need-scan-requires
 scan-requires c κs =
-    let s = c .before .before .before .before .before .before .before .before .before .before .before .before in
-    (scan-ready _ _ _ (s .pre) (c .before .before .before .before .before .before .before .clear .ensures) (c .before .before .before .before .before .before .before .clear .kept .0), indexed-none _ _ _ _ _ refl refl refl)
+    let s = c .before .before .before .before .before .before .before .before .before .before .pre in
+    (scan-ready s (c .before .before .before .before .before .before .clear .ensures) (c .before .before .before .before .before .before .clear .kept .0), indexed-none _ _ _ _ refl (s .empty))
 
 clear-requires-2 : tie.Need-clear-requires-2
 clear-requires-2 c κs = search needs
@@ -23,7 +23,7 @@ same-length c = search needs
 returns : tie.Need-returns
 returns c =
     let t = c .before .before .before .before .before .before .before .scan in
-    fill-refused _ _ _ _ (t .ensures .0) (now (c .before .before .before .before .before .before .before .before .before .before .before .before .before .before .before .before .before .before .before .before .args .state)) _ _ (c .before .before .before .before .if1 .taken) (c .before .before .clear2 .ensures) (t .kept .1 .0 ∙ c .before .before .before .before .before .before .before .before .before .before .before .before .before .before .before .clear .kept .0) (c .before .before .before .before .before .before .before .before .before .before .before .before .before .before .before .before .before .before .before .before .pre .room)
+    fill-refused _ _ _ _ (t .ensures .0) (now (c .before .before .before .before .before .before .before .before .before .before .before .before .before .before .before .before .before .before .args .state)) _ _ (c .before .before .before .before .if1 .taken) (c .before .before .clear2 .ensures) (t .kept .1 .0 ∙ c .before .before .before .before .before .before .before .before .before .before .before .before .before .before .clear .kept .0) (c .before .before .before .before .before .before .before .before .before .before .before .before .before .before .before .before .before .before .pre .room)
 
 note-signers-requires : tie.Need-note-signers-requires
 note-signers-requires c κs = c .before .before .before .before .before .scan .ensures .1 .1 (c .before .before .if1 .left) .words
@@ -35,7 +35,7 @@ returns-2 : tie.Need-returns-2
 returns-2 c =
     let t = c .before .before .before .before .before .before .scan in
     let z = c .before .before .before .if1 .left in
-    fill-loaded _ _ _ _ (t .ensures .0) _ _ _ _ (t .ensures .1 .1 z) (c .note-signers .ensures) (t .ensures .1 .0) z
+    fill-loaded _ _ _ _ (t .ensures .0) _ _ _ (t .ensures .1 .1 z) (c .note-signers .ensures) (t .ensures .1 .0) z
 
 pub fill-spec : {M : Type 1} → statement M
 fill-spec =

@@ -1,6 +1,6 @@
 -- `loader::load` meets its contract: what filling leaves is what loading gives, and the buffer beyond its first part is as it was. Assumes nothing.
 use borrow.Author.Needs.{needs}
-use mathlib.Core.Path.{_≡_, sym, ap, _∙_}
+use mathlib.Core.Path.{_≡_, refl, sym, ap, _∙_}
 use mathlib.Core.Logic.{inl, inr}
 use mathlib.Core.List.{List, _++_}
 use Prim.Native.Nat.{ℕ, suc, _<_, _≤_}
@@ -64,7 +64,7 @@ slice-aggregate-fill c = sym (length-take-le stateBytes (now (c .before .before 
 fill-requires : tie.Need-fill-requires
 fill-requires c κs =
     let a = c .before .before .before .before .before .before .args in
-    record { short = c .before .before .if2 .left; room = length-take-le stateBytes (now (a .state)) (c .before .before .before .if1 .left) }
+    record { short = c .before .before .if2 .left; room = length-take-le stateBytes (now (a .state)) (c .before .before .before .if1 .left); empty = refl }
 
 cast-t13 : tie.Need-cast-t13
 cast-t13 c = search needs

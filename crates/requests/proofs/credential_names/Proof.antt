@@ -1,15 +1,14 @@
 use borrow.Author.Tests.{not-true, not-false, eq-eqb, ne-eqb}
 use mathlib.Core.Path.{sym, _∙_}
 use Rattle.theorems.proofs.Chain.{chain-none, chain-passes, chain-fails}
-use Rattle.loaded.proofs.Standing.{term-here}
-use Rattle.requests.proofs.Read.{is-kind-kind}
+use Rattle.loaded.proofs.Noted.{term-noted}
 use Rattle.requests.proofs.credential_names.Statement.{statement}
 use Rattle.requests.proofs.credential_names.Tie as tie
 
 is-kind-requires : tie.Need-is-kind-requires
 is-kind-requires c κs =
-    let p = c .before .before .pre in
-    term-here (p .0) (p .1)
+    let p = c .before .pre in
+    term-noted (p .0) (p .1)
 
 returns : tie.Need-returns
 returns c =
@@ -17,8 +16,8 @@ returns c =
 
 hashed-term-requires : tie.Need-hashed-term-requires
 hashed-term-requires c κs =
-    let p = c .before .before .before .before .pre in
-    (term-here (p .0) (p .1), is-kind-kind _ _ (sym (c .before .is-kind .ensures) ∙ not-false _ (c .if1 .left)))
+    let p = c .before .before .before .pre in
+    term-noted (p .0) (p .1)
 
 returns-2 : tie.Need-returns-2
 returns-2 c =

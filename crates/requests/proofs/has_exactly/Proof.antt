@@ -1,31 +1,20 @@
 use borrow.Author.Needs.{needs}
-use mathlib.Core.Path.{ap, _∙_}
+use mathlib.Core.Path.{ap}
 use Prim.Native.Nat.{ℕ}
-use denote.Ref.{now}
-use Rattle.rules.specs.declared.Attributes.{Attributes}
+use lib.Dec.{eqb}
 use Rattle.rules.specs.Attributes.{sameAttributes}
-use Rattle.rules.specs.Term.{attributesOf}
-use Rattle.rules.specs.File.{attributes}
-use Rattle.learning.specs.There.{termThere}
 use Rattle.requests.proofs.has_exactly.Statement.{statement}
 use Rattle.requests.proofs.has_exactly.Tie as tie
 
-place-of-requires : tie.Need-place-of-requires
-place-of-requires c κs = search needs
+attributes-of-requires : tie.Need-attributes-of-requires
+attributes-of-requires c κs = search needs
 
-attributes-at-requires : tie.Need-attributes-at-requires
-attributes-at-requires c κs = rw (c .place-of .ensures) (c .before .before .before .pre .whole)
-
-same-requires : tie.Need-same-requires
-same-requires c κs = search needs
+cast-result : tie.Need-cast-result
+cast-result c = search needs
 
 returns : tie.Need-returns
-unfolding attributes
-returns c =
-    let o = c .before .before .before .before .before in
-    c .same .ensures
-    ∙ ap (λ (x : Attributes). sameAttributes x (o .args .wanted))
-    (c .before .attributes-at .ensures ∙ ap (λ (at : ℕ). attributesOf (termThere (now (o .args .file)) at)) (c .before .before .place-of .ensures) ∙ ap attributesOf (o .pre .same))
+unfolding sameAttributes
+returns c = ap (λ (x : ℕ). eqb x (c .before .before .args .wanted .bits)) (c .attributes-of .ensures)
 
 pub has-exactly-spec : {M : Type 1} → statement M
-has-exactly-spec = tie.close (tie.spec place-of-requires attributes-at-requires same-requires returns)
+has-exactly-spec = tie.close (tie.spec attributes-of-requires cast-result returns)

@@ -11,42 +11,40 @@ use Rattle.theorems.specs.Chain.{chain}
 use Rattle.loaded.specs.Loaded.{fileIn}
 use Rattle.theorems.proofs.Chain.{chain-none, chain-passes, chain-fails}
 use Rattle.loaded.proofs.Halves.{pair-read}
-use Rattle.loaded.proofs.Standing.{checked-here, party-here, term-here}
+use Rattle.loaded.proofs.Noted.{term-noted}
 use Rattle.requests.proofs.parentage.Statement.{statement}
 use Rattle.requests.proofs.parentage.Tie as tie
 
 is-half-requires : tie.Need-is-half-requires
 is-half-requires c κs =
-    let p = c .before .before .pre in
-    let few = checked-here (p .0) .fewTerms in
-    (omega (arith, few, p .5), omega (arith, few, p .3))
+    let p = c .before .pre in
+    let few = p .0 .0 .fewTerms in
+    (omega (arith, few, p .3), omega (arith, few, p .1))
 
 returns : tie.Need-returns
 returns c =
-    let p = c .before .before .before .before .pre in
-    sym (chain-fails 20 _ _ (pair-read (p .1) (p .5) (p .3) refl (c .before .is-half .ensures) (not-true _ (c .if1 .taken))))
+    let p = c .before .before .before .pre in
+    sym (chain-fails 20 _ _ (pair-read (p .0 .1) (p .3) (p .1) refl (c .before .is-half .ensures) (not-true _ (c .if1 .taken))))
 
-passes-1 : (c : tie.Else1) → let a = c .before .before .before .before .args in paired (fileIn (now (a .file))) (a .certificate .key) (a .half) ≡ true
+passes-1 : (c : tie.Else1) → let a = c .before .before .before .args in paired (fileIn (now (a .file))) (a .certificate .key) (a .half) ≡ true
 passes-1 c =
-    let p = c .before .before .before .before .pre in
-    pair-read (p .1) (p .5) (p .3) refl (c .before .is-half .ensures) (not-false _ (c .if1 .left))
+    let p = c .before .before .before .pre in
+    pair-read (p .0 .1) (p .3) (p .1) refl (c .before .is-half .ensures) (not-false _ (c .if1 .left))
 
 signs-for-some-requires : tie.Need-signs-for-some-requires
 signs-for-some-requires c κs =
-    let p = c .before .before .before .before .pre in
-    let few = checked-here (p .0) .fewTerms in
-    (checked-here (p .0), p .1, p .2, (λ i l. party-here (p .0) (omega (arith, l, p .2))), omega (arith, few, p .6))
+    c .before .before .before .pre .0
 
 returns-2 : tie.Need-returns-2
 returns-2 c =
     sym (chain-passes 20 _ _ (passes-1 (c .before .before))
     ∙ chain-fails 21 _ _ (sym (c .before .signs-for-some .ensures) ∙ not-true _ (c .if2 .taken)))
 
-passes-2 : (c : tie.Else2) → let a = c .before .before .before .before .before .before .args in signsForSome (fileIn (now (a .file))) (a .family .signers) (a .certificate .signer) ≡ true
+passes-2 : (c : tie.Else2) → let a = c .before .before .before .before .before .args in signsForSome (fileIn (now (a .file))) (a .family .signers) (a .certificate .signer) ≡ true
 passes-2 c = sym (c .before .signs-for-some .ensures) ∙ not-false _ (c .if2 .left)
 
 has-exactly-requires : tie.Need-has-exactly-requires
-has-exactly-requires c κs = let p = c .before .before .before .before .before .before .pre in term-here (p .0) (p .4)
+has-exactly-requires c κs = let p = c .before .before .before .before .before .pre in term-noted (p .0 .1) (p .2)
 
 returns-3 : tie.Need-returns-3
 returns-3 c =
@@ -54,14 +52,14 @@ returns-3 c =
     ∙ chain-passes 21 _ _ (passes-2 (c .before .before))
     ∙ chain-fails 23 _ _ (sym (c .before .has-exactly .ensures) ∙ not-true _ (c .if3 .taken)))
 
-passes-3 : (c : tie.Else3) → let a = c .before .before .before .before .before .before .before .before .args in sameAttributes (attributes (fileIn (now (a .file))) (a .new)) (a .family .key) ≡ true
+passes-3 : (c : tie.Else3) → let a = c .before .before .before .before .before .before .before .args in sameAttributes (attributes (fileIn (now (a .file))) (a .new)) (a .family .key) ≡ true
 passes-3 c = sym (c .before .has-exactly .ensures) ∙ not-false _ (c .if3 .left)
 
 has-exactly-requires-2 : tie.Need-has-exactly-requires-2
-has-exactly-requires-2 c κs = let p = c .before .before .before .before .before .before .before .before .pre in term-here (p .0) (p .5)
+has-exactly-requires-2 c κs = let p = c .before .before .before .before .before .before .before .pre in term-noted (p .0 .1) (p .3)
 
 -- the tests but for the last
-first-three : (c : tie.Else3) (xs : List Test) → let a = c .before .before .before .before .before .before .before .before .args in
+first-three : (c : tie.Else3) (xs : List Test) → let a = c .before .before .before .before .before .before .before .args in
     chain (need 20 (paired (fileIn (now (a .file))) (a .certificate .key) (a .half)) ∷ need 21 (signsForSome (fileIn (now (a .file))) (a .family .signers) (a .certificate .signer)) ∷ need 23 (sameAttributes (attributes (fileIn (now (a .file))) (a .new)) (a .family .key)) ∷ xs) ≡ chain xs
 first-three c xs = chain-passes 20 _ _ (passes-1 (c .before .before .before .before)) ∙ chain-passes 21 _ _ (passes-2 (c .before .before)) ∙ chain-passes 23 _ _ (passes-3 c)
 

@@ -49,40 +49,40 @@ setup-place bs v x false = refl
 other-terms : (own : ℕ) (n : Tally) → (own ≡ termSection → ⊥) → counted own n .terms ≡ n .terms
 other-terms own n a = counted-is (λ (m : Tally). m .terms ≡ n .terms) own n refl (λ e. absurd (a e)) refl refl
 
-module _ (bs : List ℕ) (v : Columns) (signers links keys tables : List ℕ) (n : Tally) (k own : ℕ) (body : List ℕ) (at : ℕ) (o : own ≡ sectionOf k) where
+module _ (bs : List ℕ) (v : Columns) (signers links tables : List ℕ) (n : Tally) (k own : ℕ) (body : List ℕ) (at : ℕ) (o : own ≡ sectionOf k) where
   -- what entering leaves
-  abbrev Entered : ℕ → Columns → List ℕ → List ℕ → List ℕ → List ℕ → Type 0
-  Entered r w signers′ links′ keys′ tables′ =
+  abbrev Entered : ℕ → Columns → List ℕ → List ℕ → List ℕ → Type 0
+  Entered r w signers′ links′ tables′ =
       (r ≡ lastFault bs v signers n k body)
       × ((w ≡ cond (eqb r 0) (columnsAfter bs v n k body at) v)
       × ((signers′ ≡ cond (eqb r 0) (signersAfter signers k body) signers)
-      × (r ≡ 0 → Indexed bs (w .place) links′ keys′ tables′ (counted own n .terms))))
+      × (r ≡ 0 → Indexed bs (w .place) links′ tables′ (counted own n .terms))))
 
-  term-entered : (r : ℕ) (w : Columns) (links′ keys′ tables′ : List ℕ) → own ≡ termSection
+  term-entered : (r : ℕ) (w : Columns) (links′ tables′ : List ℕ) → own ≡ termSection
       → r ≡ refuseUnless 9 (not (anyAlikeThere bs (v .place) (termAt k body) (n .terms)))
       → w ≡ cond (eqb r 0) (withPlace v (put (v .place) (n .terms) at)) v
-      → (r ≡ 0 → Indexed bs (w .place) links′ keys′ tables′ (n .terms + 1))
-      → Entered r w signers links′ keys′ tables′
+      → (r ≡ 0 → Indexed bs (w .place) links′ tables′ (n .terms + 1))
+      → Entered r w signers links′ tables′
   unfolding lastFault columnsAfter signersAfter counted
-  term-entered r w links′ keys′ tables′ e p q i = rw (← o, e) (p, (q, (either (eqb r 0) signers, i)))
+  term-entered r w links′ tables′ e p q i = rw (← o, e) (p, (q, (either (eqb r 0) signers, i)))
 
   setup-entered : (r : ℕ) (w : Columns) (signers′ : List ℕ) → own ≡ setupSection
       → r ≡ allowedThere bs v signers (n .parties) (setupAt k body)
       → w ≡ cond (eqb r 0) (setupLeaves bs v (setupAt k body)) v
       → signers′ ≡ cond (eqb r 0) (signersLeave signers (setupAt k body)) signers
-      → Indexed bs (v .place) links keys tables (n .terms)
-      → Entered r w signers′ links keys tables
+      → Indexed bs (v .place) links tables (n .terms)
+      → Entered r w signers′ links tables
   unfolding lastFault columnsAfter signersAfter counted
   setup-entered r w signers′ e p q g i = rw (← o, e) (p, (q, (g, λ _. rw (q, setup-place bs v (setupAt k body) (eqb r 0)) i)))
 
-  other-entered : (own ≡ termSection → ⊥) → (own ≡ setupSection → ⊥) → Indexed bs (v .place) links keys tables (n .terms) → Entered 0 v signers links keys tables
+  other-entered : (own ≡ termSection → ⊥) → (own ≡ setupSection → ⊥) → Indexed bs (v .place) links tables (n .terms) → Entered 0 v signers links tables
   unfolding lastFault columnsAfter signersAfter
   other-entered a b i = rw (other-terms own n a, ← o, ne-eqb own termSection a, ne-eqb own setupSection b) (refl, (refl, (refl, λ _. i)))
 
 enter-term-requires : tie.Need-enter-term-requires
 enter-term-requires c κs =
-    let p = c .before .before .before .before .before .before .before .before .pre in
-    let e = sym (p .0) ∙ c .before .before .before .before .if1 .taken in
+    let p = c .before .before .before .before .before .before .before .pre in
+    let e = sym (p .0) ∙ c .before .before .before .if1 .taken in
     record { there = p .1 .there; indexed = p .2; room = p .1 .roomForTerm e; near = p .1 .near; isTerm = e; whole = p .1 .whole; kind = p .3; stands = p .4 }
 
 same-length : tie.Need-same-length
@@ -91,10 +91,10 @@ same-length c = search needs
 returns : tie.Need-returns
 returns c =
     let t = c .before .before .enter-term in
-    let s = c .before .before .before .before .before .before .before .before .before .before .before in
+    let s = c .before .before .before .before .before .before .before .before .before .before in
     let a = s .args in
-    term-entered (now (a .file)) (view (now (a .state))) (now (a .signers)) (now (a .links)) (now (a .keys)) (now (a .tables)) (a .n) (a .kind) (a .section) (now (a .body)) (a .at) (s .pre .0) _ _ _ _ _
-    (c .before .before .before .before .before .before .before .if1 .taken) (t .ensures .0) (t .ensures .1 .0) (t .ensures .1 .1)
+    term-entered (now (a .file)) (view (now (a .state))) (now (a .signers)) (now (a .links)) (now (a .tables)) (a .n) (a .kind) (a .section) (now (a .body)) (a .at) (s .pre .0) _ _ _ _
+    (c .before .before .before .before .before .before .if1 .taken) (t .ensures .0) (t .ensures .1 .0) (t .ensures .1 .1)
 
 enter-setup-requires : tie.Need-enter-setup-requires
 enter-setup-requires c κs =
@@ -119,14 +119,14 @@ returns-2 c =
     let t = c .before .before .enter-setup in
     let s = c .before .before .before .before .before .before .before .before .before .before in
     let a = s .args in
-    setup-entered (now (a .file)) (view (now (a .state))) (now (a .signers)) (now (a .links)) (now (a .keys)) (now (a .tables)) (a .n) (a .kind) (a .section) (now (a .body)) (a .at) (s .pre .0) _ _ _
+    setup-entered (now (a .file)) (view (now (a .state))) (now (a .signers)) (now (a .links)) (now (a .tables)) (a .n) (a .kind) (a .section) (now (a .body)) (a .at) (s .pre .0) _ _ _
     (c .before .before .before .before .before .if2 .taken) (t .ensures .0) (t .ensures .1 .0) (t .ensures .1 .1) (s .pre .2)
 
 returns-3 : tie.Need-returns-3
 returns-3 c =
     let s = c .before .before .before .before .before in
     let a = s .args in
-    other-entered (now (a .file)) (view (now (a .state))) (now (a .signers)) (now (a .links)) (now (a .keys)) (now (a .tables)) (a .n) (a .kind) (a .section) (now (a .body)) (a .at) (s .pre .0)
+    other-entered (now (a .file)) (view (now (a .state))) (now (a .signers)) (now (a .links)) (now (a .tables)) (a .n) (a .kind) (a .section) (now (a .body)) (a .at) (s .pre .0)
     (c .before .if1 .left) (c .if2 .left) (s .pre .2)
 
 pub enter-spec : {M : Type 1} → statement M

@@ -34,10 +34,10 @@ unfolding termThere bodyAt
 body-stands bs at body e = ap (termAt (getD bs at 0)) (sym e)
 
 -- the same count
-indexed-terms : {bs : List ℕ} {place : ℕ → ℕ} {links keys tables : List ℕ} {n m : ℕ} → m ≡ n → Indexed bs place links keys tables n → Indexed bs place links keys tables m
-indexed-terms {bs} {place} {links} {keys} {tables} e i = subst⁻¹ (Indexed bs place links keys tables) e i
+indexed-terms : {bs : List ℕ} {place : ℕ → ℕ} {links tables : List ℕ} {n m : ℕ} → m ≡ n → Indexed bs place links tables n → Indexed bs place links tables m
+indexed-terms {bs} {place} {links} {tables} e i = subst⁻¹ (Indexed bs place links tables) e i
 
-indexed-counted : {bs : List ℕ} {place : ℕ → ℕ} {links keys tables : List ℕ} {n m : Tally} → m ≡ n → Indexed bs place links keys tables (n .terms) → Indexed bs place links keys tables (m .terms)
+indexed-counted : {bs : List ℕ} {place : ℕ → ℕ} {links tables : List ℕ} {n m : Tally} → m ≡ n → Indexed bs place links tables (n .terms) → Indexed bs place links tables (m .terms)
 indexed-counted e i = indexed-terms (ap (λ (t : Tally). t .terms) e) i
 
 -- the first command's place, where the file ends
@@ -50,18 +50,18 @@ passed : (bs : List ℕ) (at : ℕ) {next own : ℕ} → next ≡ nextPlace bs a
 passed bs at n h o s e = ap (commandsFrom (length bs) bs) n ∙ sym (commands-later bs at h (λ q. s (o ∙ q))) ∙ e
 
 abbrev Inv-loop : tie.InvT-loop
-Inv-loop file state signers links keys tables table at n kind start own section parties terms end head body fields₀ i₀ offset₀ fields i offset =
+Inv-loop file state signers links tables table at n kind start own section parties terms end head body fields₀ i₀ offset₀ fields i offset =
     InFields file state signers n at body i offset × (fields ≡ packed (drop i (fieldsOf (getD file at 0))))
 
 abbrev μ-loop : tie.MeasureT-loop
-μ-loop file state signers links keys tables table at n kind start own section parties terms end head body fields₀ i₀ offset₀ fields i offset = fieldLimit - i
+μ-loop file state signers links tables table at n kind start own section parties terms end head body fields₀ i₀ offset₀ fields i offset = fieldLimit - i
 
 abbrev Inv-records : tie.InvT-records
-Inv-records file state₀ signers₀ links₀ keys₀ tables₀ table at₀ n₀ state signers links keys tables at n =
-    (length state ≡ length state₀) × At file state signers n at × Indexed file (view state .place) links keys tables (n .terms) × (commandsFrom (length file) file at ≡ commandsFrom (length file) file 0)
+Inv-records file state₀ signers₀ links₀ tables₀ table at₀ n₀ state signers links tables at n =
+    (length state ≡ length state₀) × At file state signers n at × Indexed file (view state .place) links tables (n .terms) × (commandsFrom (length file) file at ≡ commandsFrom (length file) file 0)
 
 abbrev μ-records : tie.MeasureT-records
-μ-records file state₀ signers₀ links₀ keys₀ tables₀ table at₀ n₀ state signers links keys tables at n = length file - at
+μ-records file state₀ signers₀ links₀ tables₀ table at₀ n₀ state signers links tables at n = length file - at
 
 field-table-requires : tie.Need-field-table-requires Inv-loop μ-loop Inv-records μ-records
 field-table-requires c κs = search needs
@@ -142,26 +142,26 @@ loop-again c =
 
 enter-requires : tie.Need-enter-requires Inv-loop μ-loop Inv-records μ-records
 enter-requires c κs =
-    let w = c .before .before .before .before .before .before .loop .inv .0 in
-    let l : length (fieldsOf (getD (c .before .before .before .before .before .before .before .before .before .before .before .before .before .before .before .before .before .before .before .before .before .args .file .now) (c .before .before .before .before .before .before .before .before .before .before .before .before .before .before .before .before .before .records .at) 0)) ≤ c .before .before .before .before .before .before .loop .i = ⊎-elim (λ u. omega (arith, few-fields (getD (c .before .before .before .before .before .before .before .before .before .before .before .before .before .before .before .before .before .before .before .before .before .args .file .now) (c .before .before .before .before .before .before .before .before .before .before .before .before .before .before .before .before .before .records .at) 0), u .left)) (λ u. none-left _ _ _ (c .before .before .before .before .before .before .loop .inv .1) (u .0 .taken) (u .1 .taken)) (c .before .before .before .before .before .loop-test .came) in
-    (c .before .before .before .before .before .before .before .before .before .before .before .before .before .before .section-of .ensures, enter-asks _ _ _ _ _ _ _ _ w _ refl l, c .before .before .before .before .before .before .before .before .before .before .before .before .before .before .before .before .before .records .inv .2, refl, body-stands _ _ _ (w .bodyIs))
+    let w = c .before .before .before .before .before .loop .inv .0 in
+    let l : length (fieldsOf (getD (c .before .before .before .before .before .before .before .before .before .before .before .before .before .before .before .before .before .before .before .before .args .file .now) (c .before .before .before .before .before .before .before .before .before .before .before .before .before .before .before .before .records .at) 0)) ≤ c .before .before .before .before .before .loop .i = ⊎-elim (λ u. omega (arith, few-fields (getD (c .before .before .before .before .before .before .before .before .before .before .before .before .before .before .before .before .before .before .before .before .args .file .now) (c .before .before .before .before .before .before .before .before .before .before .before .before .before .before .before .before .records .at) 0), u .left)) (λ u. none-left _ _ _ (c .before .before .before .before .before .loop .inv .1) (u .0 .taken) (u .1 .taken)) (c .before .before .before .before .loop-test .came) in
+    (c .before .before .before .before .before .before .before .before .before .before .before .before .before .section-of .ensures, enter-asks _ _ _ _ _ _ _ _ w _ refl l, c .before .before .before .before .before .before .before .before .before .before .before .before .before .before .before .before .records .inv .2, refl, body-stands _ _ _ (w .bodyIs))
 
 count-requires : tie.Need-count-requires Inv-loop μ-loop Inv-records μ-records
-count-requires c κs = counts-small _ _ _ _ _ (c .before .before .before .before .before .before .before .before .before .before .before .before .before .before .before .before .before .before .before .before .before .records .inv .1)
+count-requires c κs = counts-small _ _ _ _ _ (c .before .before .before .before .before .before .before .before .before .before .before .before .before .before .before .before .before .before .before .before .records .inv .1)
 
 records-less : tie.Need-records-less Inv-loop μ-loop Inv-records μ-records
-records-less c = omega (arith, c .before .before .before .before .before .before .before .before .before .before .before .before .before .before .before .before .before .before .before .before .before .if1 .left, place-later _ _ _ (c .before .before .before .before .before .before .before .before .before .before .before .before .before .before .before .before .before .next-place .ensures))
+records-less c = omega (arith, c .before .before .before .before .before .before .before .before .before .before .before .before .before .before .before .before .before .before .before .before .if1 .left, place-later _ _ _ (c .before .before .before .before .before .before .before .before .before .before .before .before .before .before .before .before .next-place .ensures))
 
 records-again : tie.Need-records-again Inv-loop μ-loop Inv-records μ-records
 records-again c =
-    let w = c .before .before .before .before .before .before .before .before .before .before .before .loop .inv .0 in
-    let l : length (fieldsOf (getD (c .before .before .before .before .before .before .before .before .before .before .before .before .before .before .before .before .before .before .before .before .before .before .before .before .before .before .args .file .now) (c .before .before .before .before .before .before .before .before .before .before .before .before .before .before .before .before .before .before .before .before .before .before .records .at) 0)) ≤ c .before .before .before .before .before .before .before .before .before .before .before .loop .i = ⊎-elim (λ u. omega (arith, few-fields (getD (c .before .before .before .before .before .before .before .before .before .before .before .before .before .before .before .before .before .before .before .before .before .before .before .before .before .before .args .file .now) (c .before .before .before .before .before .before .before .before .before .before .before .before .before .before .before .before .before .before .before .before .before .before .records .at) 0), u .left)) (λ u. none-left _ _ _ (c .before .before .before .before .before .before .before .before .before .before .before .loop .inv .1) (u .0 .taken) (u .1 .taken)) (c .before .before .before .before .before .before .before .before .before .before .loop-test .came) in
+    let w = c .before .before .before .before .before .before .before .before .before .before .loop .inv .0 in
+    let l : length (fieldsOf (getD (c .before .before .before .before .before .before .before .before .before .before .before .before .before .before .before .before .before .before .before .before .before .before .before .before .before .args .file .now) (c .before .before .before .before .before .before .before .before .before .before .before .before .before .before .before .before .before .before .before .before .before .records .at) 0)) ≤ c .before .before .before .before .before .before .before .before .before .before .loop .i = ⊎-elim (λ u. omega (arith, few-fields (getD (c .before .before .before .before .before .before .before .before .before .before .before .before .before .before .before .before .before .before .before .before .before .before .before .before .before .args .file .now) (c .before .before .before .before .before .before .before .before .before .before .before .before .before .before .before .before .before .before .before .before .before .records .at) 0), u .left)) (λ u. none-left _ _ _ (c .before .before .before .before .before .before .before .before .before .before .loop .inv .1) (u .0 .taken) (u .1 .taken)) (c .before .before .before .before .before .before .before .before .before .loop-test .came) in
     let e = c .before .before .before .before .enter in
-    let k = c .count .ensures ∙ ap (λ (own : ℕ). counted own (c .before .before .before .before .before .before .before .before .before .before .before .before .before .before .before .before .before .before .before .before .before .before .records .n)) (c .before .before .before .before .before .before .before .before .before .before .before .before .before .before .before .before .before .before .before .section-of .ensures) in (
-      e .kept .1 .0 ∙ c .before .before .before .before .before .before .before .before .before .before .before .before .before .before .before .before .before .before .before .before .before .before .records .inv .0,
-      record-taken _ _ _ _ _ _ _ _ w _ refl l _ _ _ (e .ensures .0) (c .before .if6 .left) (e .kept .1 .0) (e .ensures .1 .0) (e .ensures .1 .1 .0) _ k _ (c .before .before .before .before .before .before .before .before .before .before .before .before .before .before .before .before .before .next-place .ensures),
+    let k = c .count .ensures ∙ ap (λ (own : ℕ). counted own (c .before .before .before .before .before .before .before .before .before .before .before .before .before .before .before .before .before .before .before .before .before .records .n)) (c .before .before .before .before .before .before .before .before .before .before .before .before .before .before .before .before .before .before .section-of .ensures) in (
+      e .kept .1 .0 ∙ c .before .before .before .before .before .before .before .before .before .before .before .before .before .before .before .before .before .before .before .before .before .records .inv .0,
+      record-taken _ _ _ _ _ _ _ _ w _ refl l _ _ _ (e .ensures .0) (c .before .if6 .left) (e .kept .1 .0) (e .ensures .1 .0) (e .ensures .1 .1 .0) _ k _ (c .before .before .before .before .before .before .before .before .before .before .before .before .before .before .before .before .next-place .ensures),
       indexed-counted (c .count .ensures) (e .ensures .1 .1 .1 (c .before .if6 .left)),
-      passed (c .before .before .before .before .before .before .before .before .before .before .before .before .before .before .before .before .before .before .before .before .before .before .before .before .before .before .args .file .now) (c .before .before .before .before .before .before .before .before .before .before .before .before .before .before .before .before .before .before .before .before .before .before .records .at) (c .before .before .before .before .before .before .before .before .before .before .before .before .before .before .before .before .before .next-place .ensures) (c .before .before .before .before .before .before .before .before .before .before .before .before .before .before .before .before .before .before .before .before .before .if1 .left) (c .before .before .before .before .before .before .before .before .before .before .before .before .before .before .before .before .before .before .before .section-of .ensures) (c .before .before .before .before .before .before .before .before .before .before .before .before .before .before .before .before .before .before .if2 .left) (c .before .before .before .before .before .before .before .before .before .before .before .before .before .before .before .before .before .before .before .before .before .before .records .inv .3),
+      passed (c .before .before .before .before .before .before .before .before .before .before .before .before .before .before .before .before .before .before .before .before .before .before .before .before .before .args .file .now) (c .before .before .before .before .before .before .before .before .before .before .before .before .before .before .before .before .before .before .before .before .before .records .at) (c .before .before .before .before .before .before .before .before .before .before .before .before .before .before .before .before .next-place .ensures) (c .before .before .before .before .before .before .before .before .before .before .before .before .before .before .before .before .before .before .before .before .if1 .left) (c .before .before .before .before .before .before .before .before .before .before .before .before .before .before .before .before .before .before .section-of .ensures) (c .before .before .before .before .before .before .before .before .before .before .before .before .before .before .before .before .before .if2 .left) (c .before .before .before .before .before .before .before .before .before .before .before .before .before .before .before .before .before .before .before .before .before .records .inv .3),
     )
 
 same-length : tie.Need-same-length Inv-loop μ-loop Inv-records μ-records
@@ -200,12 +200,12 @@ returns-4 c =
     (field-refused _ _ _ _ _ _ _ _ w _ refl (l .0) _ (c .before .before .before .low-field .ensures ∙ l .1) _ (c .before .field-fault .ensures) (c .if5 .taken), (λ z. absurd (c .if5 .taken z), λ z. absurd (c .if5 .taken z)))
 
 same-length-5 : tie.Need-same-length-5 Inv-loop μ-loop Inv-records μ-records
-same-length-5 c = c .before .before .before .enter .kept .1 .0 ∙ c .before .before .before .before .before .before .before .before .before .before .before .before .before .before .before .before .before .before .before .before .before .records .inv .0
+same-length-5 c = c .before .before .before .enter .kept .1 .0 ∙ c .before .before .before .before .before .before .before .before .before .before .before .before .before .before .before .before .before .before .before .before .records .inv .0
 
 returns-5 : tie.Need-returns-5 Inv-loop μ-loop Inv-records μ-records
 returns-5 c =
-    let w = c .before .before .before .before .before .before .before .before .before .before .loop .inv .0 in
-    let l : length (fieldsOf (getD (c .before .before .before .before .before .before .before .before .before .before .before .before .before .before .before .before .before .before .before .before .before .before .before .before .before .args .file .now) (c .before .before .before .before .before .before .before .before .before .before .before .before .before .before .before .before .before .before .before .before .before .records .at) 0)) ≤ c .before .before .before .before .before .before .before .before .before .before .loop .i = ⊎-elim (λ u. omega (arith, few-fields (getD (c .before .before .before .before .before .before .before .before .before .before .before .before .before .before .before .before .before .before .before .before .before .before .before .before .before .args .file .now) (c .before .before .before .before .before .before .before .before .before .before .before .before .before .before .before .before .before .before .before .before .before .records .at) 0), u .left)) (λ u. none-left _ _ _ (c .before .before .before .before .before .before .before .before .before .before .loop .inv .1) (u .0 .taken) (u .1 .taken)) (c .before .before .before .before .before .before .before .before .before .loop-test .came) in
+    let w = c .before .before .before .before .before .before .before .before .before .loop .inv .0 in
+    let l : length (fieldsOf (getD (c .before .before .before .before .before .before .before .before .before .before .before .before .before .before .before .before .before .before .before .before .before .before .before .before .args .file .now) (c .before .before .before .before .before .before .before .before .before .before .before .before .before .before .before .before .before .before .before .before .records .at) 0)) ≤ c .before .before .before .before .before .before .before .before .before .loop .i = ⊎-elim (λ u. omega (arith, few-fields (getD (c .before .before .before .before .before .before .before .before .before .before .before .before .before .before .before .before .before .before .before .before .before .before .before .before .args .file .now) (c .before .before .before .before .before .before .before .before .before .before .before .before .before .before .before .before .before .before .before .before .records .at) 0), u .left)) (λ u. none-left _ _ _ (c .before .before .before .before .before .before .before .before .before .loop .inv .1) (u .0 .taken) (u .1 .taken)) (c .before .before .before .before .before .before .before .before .loop-test .came) in
     (last-refused _ _ _ _ _ _ _ _ w _ refl l _ _ _ (c .before .before .before .enter .ensures .0) (c .if6 .taken), (λ z. absurd (c .if6 .taken z), λ z. absurd (c .if6 .taken z)))
 
 pub scan-spec : {M : Type 1} → statement M

@@ -3,26 +3,28 @@ use denote.Ref.{now}
 use Rattle.rules.specs.File.{certifiedKey, idevidCertificate, leftOf}
 use Rattle.rules.specs.Desk.{requestBody, ekCertificateOf, ekOf}
 use Rattle.loaded.specs.Loaded.{fileIn}
-use Rattle.loaded.proofs.Standing.{term-here, left-declared}
-use Rattle.issuance.proofs.Endorsement.{endorsement-here}
+use Rattle.loaded.proofs.Standing.{checked-here, term-here}
+use Rattle.loaded.proofs.Declared.{left-declared}
+use Rattle.loaded.proofs.Noted.{term-noted}
+use Rattle.issuance.proofs.Endorsement.{endorsement-noted}
 use Rattle.together.proofs.ek_asked.Statement.{statement}
 use Rattle.together.proofs.ek_asked.Tie as tie
 
 request-of-requires : tie.Need-request-of-requires
-request-of-requires c κs = term-here (c .before .before .pre .0) (c .before .before .pre .1) .row
+request-of-requires c κs = term-here (c .before .before .pre .0) (c .before .before .pre .2) .row
 
 left-of-requires : tie.Need-left-of-requires
-left-of-requires c κs = let p = c .before .before .before .pre in rw (c .request-of .ensures) (term-here (p .0) (p .2 .declared), p .2 .formed .pair)
+left-of-requires c κs = let p = c .before .before .before .pre in rw (c .request-of .ensures) (term-noted (p .1) (p .3 .declared))
 
 idevid-certificate-of-requires : tie.Need-idevid-certificate-of-requires
 idevid-certificate-of-requires c κs =
     let p = c .before .before .before .before .pre in
-    rw (c .left-of .ensures, c .before .request-of .ensures) (term-here (p .0) (left-declared (p .0) (p .2 .declared) (p .2 .formed .pair)), p .2 .body)
+    rw (c .left-of .ensures, c .before .request-of .ensures) (term-noted (p .1) (left-declared (checked-here (p .0)) (p .3 .declared) (p .3 .formed .pair)))
 
 certified-key-of-requires : tie.Need-certified-key-of-requires
 certified-key-of-requires c κs =
     let p = c .before .before .before .before .before .pre in
-    rw (c .idevid-certificate-of .ensures, c .before .left-of .ensures, c .before .before .request-of .ensures) (endorsement-here (p .0) (p .2))
+    rw (c .idevid-certificate-of .ensures, c .before .left-of .ensures, c .before .before .request-of .ensures) (endorsement-noted (p .0) (p .3) (p .1))
 
 returns : tie.Need-returns
 unfolding ekOf ekCertificateOf requestBody

@@ -10,7 +10,8 @@ use Rattle.theorems.specs.Judging.{othersEnd}
 use Rattle.state.specs.View.{view}
 use Rattle.state.proofs.Exact.{stateOf}
 use Rattle.loaded.specs.Loaded.{fileIn}
-use Rattle.loaded.proofs.Standing.{checked-here, kind-declared, term-here}
+use Rattle.loaded.proofs.Standing.{checked-here, kind-declared}
+use Rattle.loaded.proofs.Noted.{term-noted}
 use Rattle.loaded.proofs.Boards.{entered-falls}
 use Rattle.issuance.proofs.Issued.{iak-open}
 use Rattle.together.proofs.Pairs.{credential-among, term-named}
@@ -72,16 +73,16 @@ ek-asked-requires c κs =
     let p = c .before .before .before .before .before .before .before .before .pre in
     let d = p .0 .decided in
     let z = sym (c .before .decide-issue-iak .ensures (d .entries) (d .ledger) (d .ledgered)) ∙ c .if2 .left in
-    (d .here .holds, kind-declared _ (p .1) (λ q. omega arith), d .here .opened _ (iak-open _ _ _ _ _ _ z))
+    (d .here .holds, d .finds, kind-declared _ (p .1) (λ q. omega arith), d .here .opened _ (iak-open _ _ _ _ _ _ z))
 
 certificate-of-requires : tie.Need-certificate-of-requires
-certificate-of-requires c κs = let p = c .before .before .before .before .before .before .before .before .before .pre in (term-here (p .0 .decided .here .holds) (kind-declared _ (p .2) (λ q. omega arith)), p .2)
+certificate-of-requires c κs = let p = c .before .before .before .before .before .before .before .before .before .pre in (term-noted (p .0 .decided .finds) (kind-declared _ (p .2) (λ q. omega arith)), p .2)
 
 add-others-end : tie.Need-add-others-end
 add-others-end c = search needs
 
 others-end-requires : tie.Need-others-end-requires
-others-end-requires c κs = let p = c .before .before .before .before .before .before .before .before .before .before .pre .0 in (p .decided .here .holds, omega (arith, p .decided .here .whole, p .few), p .formed, p .requested)
+others-end-requires c κs = let p = c .before .before .before .before .before .before .before .before .before .before .pre .0 in (p .decided .here .holds, p .decided .finds, omega (arith, p .decided .here .whole, p .few), p .formed, p .requested)
 
 returns-3 : tie.Need-returns-3
 returns-3 c =

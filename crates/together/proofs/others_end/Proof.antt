@@ -17,23 +17,23 @@ use Rattle.together.proofs.others_end.Statement.{statement}
 use Rattle.together.proofs.others_end.Tie as tie
 
 abbrev Inv-loop : tie.InvT-loop
-Inv-loop file state first n wanted ek place₀ left₀ place left =
+Inv-loop file state tables first n wanted ek place₀ left₀ place left =
     (place + pairWidth * left ≤ length file)
     × PairsFormed (fileIn file) (pairsAt left file place)
     × PairsRequested (fileIn file) (view state .request) (pairsAt left file place)
     × (othersEnd (fileIn file) (view state .request) wanted ek (pairsAt n file first) ≡ othersEnd (fileIn file) (view state .request) wanted ek (pairsAt left file place))
 
 abbrev μ-loop : tie.MeasureT-loop
-μ-loop file state first n wanted ek place₀ left₀ place left = left
+μ-loop file state tables first n wanted ek place₀ left₀ place left = left
 
 loop-holds : tie.Need-loop-holds Inv-loop μ-loop
-loop-holds c = let p = c .before .before .pre in (p .1, p .2, p .3, refl)
+loop-holds c = let p = c .before .before .pre in (p .2, p .3, p .4, refl)
 
 pair-ends-requires : tie.Need-pair-ends-requires Inv-loop μ-loop
 pair-ends-requires c κs =
     let l = c .before .loop in
     let n = c .loop-test .taken in
-    (c .before .before .before .before .pre .0, omega (arith, l .inv .0), formed-head _ (view (now (c .before .before .before .before .args .state)) .request) _ _ _ (omega arith) (l .inv .1) .0, requested-head _ _ _ _ _ (omega arith) (l .inv .2) .0)
+    (c .before .before .before .before .pre .0, c .before .before .before .before .pre .1, omega (arith, l .inv .0), formed-head _ (view (now (c .before .before .before .before .args .state)) .request) _ _ _ (omega arith) (l .inv .1) .0, requested-head _ _ _ _ _ (omega arith) (l .inv .2) .0)
 
 returns : tie.Need-returns Inv-loop μ-loop
 returns c =

@@ -11,7 +11,8 @@ use Rattle.rules.specs.File.{subject}
 use Rattle.rules.specs.Desk.{ekOf}
 use Rattle.state.specs.View.{view}
 use Rattle.loaded.specs.Loaded.{fileIn}
-use Rattle.loaded.proofs.Standing.{term-here, kind-declared}
+use Rattle.loaded.proofs.Standing.{kind-declared}
+use Rattle.loaded.proofs.Noted.{term-noted}
 use Rattle.together.proofs.Pairs.{formed-one, requested-one, ends-empty, ends-other, ends-same}
 use Rattle.together.proofs.pair_ends.Statement.{statement}
 use Rattle.together.proofs.pair_ends.Tie as tie
@@ -40,8 +41,8 @@ cast-r c = search needs
 certificate-of-requires : tie.Need-certificate-of-requires
 certificate-of-requires c κs =
     let p = c .before .before .before .before .before .before .pre in
-    let k = formed-one _ _ _ (sym (c .before .before .before .empty-pair .ensures) ∙ c .before .before .if1 .left) (p .2) .1 in
-    rw (c .word-at2 .ensures) (term-here (p .0) (kind-declared _ k (λ z. omega arith)), k)
+    let k = formed-one _ _ _ (sym (c .before .before .before .empty-pair .ensures) ∙ c .before .before .if1 .left) (p .3) .1 in
+    rw (c .word-at2 .ensures) (term-noted (p .1) (kind-declared _ k (λ z. omega arith)), k)
 
 same-subject-requires : tie.Need-same-subject-requires
 same-subject-requires c κs = search needs
@@ -59,7 +60,7 @@ ek-asked-requires : tie.Need-ek-asked-requires
 ek-asked-requires c κs =
     let p = c .before .before .before .before .before .before .before .before .before .pre in
     let e = sym (c .before .before .before .before .before .before .empty-pair .ensures) ∙ c .before .before .before .before .before .if1 .left in
-    rw (c .before .before .before .before .word-at .ensures) (p .0, kind-declared _ (formed-one _ _ _ e (p .2) .0) (λ z. omega arith), requested-one _ _ _ _ e (p .3))
+    rw (c .before .before .before .before .word-at .ensures) (p .0, p .1, kind-declared _ (formed-one _ _ _ e (p .3) .0) (λ z. omega arith), requested-one _ _ _ _ e (p .4))
 
 returns-3 : tie.Need-returns-3
 returns-3 c =

@@ -1,0 +1,4 @@
+pub mod Begins
+pub mod Few
+pub mod All
+pub mod Refused

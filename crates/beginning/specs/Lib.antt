@@ -1,0 +1,4 @@
+pub mod Begins
+pub mod Runs
+pub mod All
+pub mod Refused

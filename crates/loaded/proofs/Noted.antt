@@ -1,0 +1,122 @@
+-- The terms of a file as the tables have them.
+--     term-noted                       a declared term
+--     finds-kept                       what the tables have, where only the columns of entries change
+--     key-attributes, no-attributes    the attributes of a key are its second field; another term has none
+--     request-subject, certificate-subject     the Subject of a request and of a certificate, by its two fields
+--     subject-read                     what was read of those, by the tables
+-- Assumes nothing.
+use mathlib.Core.Path.{_≡_, refl, sym, ap, subst⁻¹, _∙_}
+use mathlib.Core.List.{List, [], _∷_}
+use Prim.Native.Nat.{ℕ, _+_, _<_, _≤_}
+use native.Mathlib.Omega.{arith}
+use lib.Dec.{eqb}
+use lib.ListN.{length, getD}
+use Rattle.rules.specs.declared.Subject.{Subject}
+use Rattle.rules.specs.declared.Subject.the-variants.{Tpm, Device}
+use Rattle.rules.specs.declared.Term.{Term}
+use Rattle.rules.specs.declared.Term.the-variants.{PublicKey, PrivateKey, Hash, Signature, Attest, Credential, Number, IdevidRequest, LdevidRequest, Certificate, Pair}
+use Rattle.rules.specs.Attributes.{noAttributes}
+use Rattle.rules.specs.Term.{idevidRequestKind, certificateKind, kindOf, fieldsIn, subjectFields, subjectOf, attributesOf}
+use Rattle.rules.specs.File.{File, term, kind, field, attributes, subject}
+use Rattle.tables.specs.Regions.{Terms, fieldWords, tablesIn, fieldOf}
+use Rattle.index.specs.Indexed.{passes}
+use Rattle.loaded.specs.Loaded.{fileIn, Finds, TermNoted, subjectBy}
+use Rattle.loaded.specs.Entries.{SameKeys}
+
+pub term-noted : {bs tables : List ℕ} {t : ℕ} → Finds bs tables → t < length (fileIn bs .terms) → TermNoted bs tables t
+term-noted {t = t} d l = record { few = omega (arith, d .few); kindIs = d .kindIs t l; fieldIs = λ i m. d .fieldIs t i l m }
+
+pub finds-kept : {bs tables tables′ : List ℕ} → Finds bs tables → SameKeys (tablesIn tables) (tablesIn tables′) → Finds bs tables′
+finds-kept {bs} d k = record {
+  signer = λ p j l m. d .signer p j l m ∙ ap (λ (c : ℕ → ℕ). eqb (c p) j) (sym (k .signer));
+  half = λ test j l. d .half test j l ∙ ap (λ (c : ℕ → ℕ). passes test (c j)) (sym (k .half));
+  declared = λ j. subst⁻¹ (λ (c : ℕ → ℕ). c j ≤ length (fileIn bs .terms)) (k .half) (d .declared j);
+  kindIs = λ t l. ap (λ (v : Terms). v .kind t) (k .terms) ∙ d .kindIs t l;
+  fieldIs = λ t i l m. ap (λ (v : Terms). fieldOf v t i) (k .terms) ∙ d .fieldIs t i l m;
+  few = d .few;
+  words = k .words ∙ d .words;
+}
+
+key-bits : (x : Term) → kindOf x ≤ 0x11 → getD (fieldsIn x) 1 0 ≡ attributesOf x .bits
+unfolding kindOf fieldsIn attributesOf
+key-bits (PublicKey id a) h = refl
+key-bits (PrivateKey id a) h = refl
+key-bits (Hash t) h = absurd (omega arith)
+key-bits (Signature t k) h = absurd (omega arith)
+key-bits (Attest k) h = absurd (omega arith)
+key-bits (Credential t n k) h = absurd (omega arith)
+key-bits (Number id) h = absurd (omega arith)
+key-bits (IdevidRequest s c k) h = absurd (omega arith)
+key-bits (LdevidRequest t c) h = absurd (omega arith)
+key-bits (Certificate k s p) h = absurd (omega arith)
+key-bits (Pair t u) h = absurd (omega arith)
+
+no-bits : (x : Term) → 0x11 < kindOf x → attributesOf x .bits ≡ 0
+unfolding kindOf attributesOf
+no-bits (PublicKey id a) h = absurd (omega arith)
+no-bits (PrivateKey id a) h = absurd (omega arith)
+no-bits (Hash t) h = refl
+no-bits (Signature t k) h = refl
+no-bits (Attest k) h = refl
+no-bits (Credential t n k) h = refl
+no-bits (Number id) h = refl
+no-bits (IdevidRequest s c k) h = refl
+no-bits (LdevidRequest t c) h = refl
+no-bits (Certificate k s p) h = refl
+no-bits (Pair t u) h = refl
+
+pub key-attributes : (f : File) (t : ℕ) → kind f t ≤ 0x11 → field f t 1 ≡ attributes f t .bits
+unfolding kind field attributes
+key-attributes f t h = key-bits (term f t) h
+
+pub no-attributes : (f : File) (t : ℕ) → 0x11 < kind f t → attributes f t .bits ≡ 0
+unfolding kind attributes
+no-attributes f t h = no-bits (term f t) h
+
+-- what a Subject is, by its fields before others
+subject-fields : (s : Subject) (more : List ℕ) → subjectBy (getD (subjectFields s more) 0 0) (getD (subjectFields s more) 1 0) ≡ s
+unfolding subjectFields subjectBy
+subject-fields (Tpm n) more = refl
+subject-fields (Device n) more = refl
+
+request-fields : (x : Term) → kindOf x ≡ idevidRequestKind → subjectBy (getD (fieldsIn x) 0 0) (getD (fieldsIn x) 1 0) ≡ subjectOf x
+unfolding kindOf fieldsIn subjectOf
+request-fields (PublicKey id a) e = absurd (omega arith)
+request-fields (PrivateKey id a) e = absurd (omega arith)
+request-fields (Hash t) e = absurd (omega arith)
+request-fields (Signature t k) e = absurd (omega arith)
+request-fields (Attest k) e = absurd (omega arith)
+request-fields (Credential t n k) e = absurd (omega arith)
+request-fields (Number id) e = absurd (omega arith)
+request-fields (IdevidRequest s c k) e = subject-fields s (c ∷ k ∷ [])
+request-fields (LdevidRequest t c) e = absurd (omega arith)
+request-fields (Certificate k s p) e = absurd (omega arith)
+request-fields (Pair t u) e = absurd (omega arith)
+
+certificate-fields : (x : Term) → kindOf x ≡ certificateKind → subjectBy (getD (fieldsIn x) 1 0) (getD (fieldsIn x) 2 0) ≡ subjectOf x
+unfolding kindOf fieldsIn subjectOf
+certificate-fields (PublicKey id a) e = absurd (omega arith)
+certificate-fields (PrivateKey id a) e = absurd (omega arith)
+certificate-fields (Hash t) e = absurd (omega arith)
+certificate-fields (Signature t k) e = absurd (omega arith)
+certificate-fields (Attest k) e = absurd (omega arith)
+certificate-fields (Credential t n k) e = absurd (omega arith)
+certificate-fields (Number id) e = absurd (omega arith)
+certificate-fields (IdevidRequest s c k) e = absurd (omega arith)
+certificate-fields (LdevidRequest t c) e = absurd (omega arith)
+certificate-fields (Certificate k s p) e = subject-fields s (p ∷ [])
+certificate-fields (Pair t u) e = absurd (omega arith)
+
+pub request-subject : (f : File) (t : ℕ) → kind f t ≡ idevidRequestKind → subjectBy (field f t 0) (field f t 1) ≡ subject f t
+unfolding kind field subject
+request-subject f t e = request-fields (term f t) e
+
+pub certificate-subject : (f : File) (t : ℕ) → kind f t ≡ certificateKind → subjectBy (field f t 1) (field f t 2) ≡ subject f t
+unfolding kind field subject
+certificate-subject f t e = certificate-fields (term f t) e
+
+pub subject-read :
+    {bs tables : List ℕ} {t tag number : ℕ} → TermNoted bs tables t → (i : ℕ) → i + 1 < fieldWords → tag ≡ fieldOf (tablesIn tables .terms) t i
+    → number ≡ fieldOf (tablesIn tables .terms) t (i + 1)
+    → subjectBy tag number ≡ subjectBy (field (fileIn bs) t i) (field (fileIn bs) t (i + 1))
+subject-read w i l e q = rw (e ∙ w .fieldIs i (omega arith), q ∙ w .fieldIs (i + 1) l) refl
