@@ -56,7 +56,7 @@ def climb():
     return make(fn, 'zp ≡ sets (xp .now) (vs .at) (climbed (xt .now) (xl .now) (vs .left) (vs .certificate))', script, dict(X=X, held={'_5': 'LL.val Stage-s.the-type Stage-l.the-laws (t .1 .0)'}, cur={'p': 't .0'}, len={'p': 't .1 .1 .1 .1'}, tail='t-3', rest='t-2', body=body,
         start='(xp .now, (vs, (left-starts given, (is-s, refl))))'))
 BUFS='(lentWith (xs .now) (xl .now) (xo .now))'
-READS='use Rattle.tables.specs.Regions.{EmptyTables}\nuse Rattle.ledger.proofs.Read.{LentRead, lends-read, read-back}\nuse Rattle.calls.proofs.Local.{part-in, part-out}\nuse Rattle.beginning.specs.Runs.{lentWith}\nuse Rattle.engine.specs.Raw.{Runs}\n'
+READS='use Rattle.tables.specs.Regions.{EmptyTables}\nuse Rattle.ledger.proofs.Read.{LentRead, lends-read, read-back}\nuse Rattle.calls.proofs.Local.{part-in, part-out}\nuse Rattle.engine.specs.Runs.{lentWith}\nuse Rattle.engine.specs.Raw.{Runs}\n'
 def ask():
     fn = Fn('calls', 'ask', [('f','shr','u8'),('q','enum','Question'),('s','mut','u8'),('l','mut','Entry'),('o','mut','u8')], ('enum','AskAnswer'), ['']*19,
         {'Entry': ('rules','struct'), 'Question': ('rules','enum'), 'AskAnswer': ('rules','enum'), 'Finished': ('runs','struct')},

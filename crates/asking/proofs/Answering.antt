@@ -24,7 +24,7 @@ use Rattle.rules.specs.Stock.{boardsLeft, stockAnswer}
 use Rattle.rules.specs.Questions.{askInNumbers, countOf, answerOf, leavesOf}
 use Rattle.theorems.proofs.Asking.{refused-first, asked-loaded, left-as-run}
 use Rattle.loaded.specs.Loaded.{fileIn}
-use Rattle.beginning.specs.Runs.{lentWith}
+use Rattle.engine.specs.Runs.{lentWith}
 use Rattle.engine.specs.declared.Finished.{Finished}
 use Rattle.engine.specs.Raw.{ranIn, Ran, Runs, Stood}
 use Rattle.engine.proofs.Whole.{run-left, run-stood, near-place}

@@ -1,7 +1,7 @@
 // What is asked after a run: the calls that are lent Run's buffers alone, by what the run left.
+use engine::Finished;
 use rules::AskAnswer;
 use rules::Question;
-use engine::Finished;
 ghost use mathlib.Core.Path.{_≡_};
 ghost use mathlib.Core.List.{List};
 ghost use Rattle.rules.specs.declared.Entry.{Entry};

@@ -35,7 +35,7 @@ use Rattle.rules.specs.declared.Question.{Question}
 use Rattle.rules.specs.declared.AskAnswer.{AskAnswer}
 use Rattle.rules.specs.Lent.{Lent}
 use Rattle.rules.specs.Questions.{askInNumbers, answerOf, leavesOf}
-use Rattle.beginning.specs.Runs.{lentWith}
+use Rattle.engine.specs.Runs.{lentWith}
 use Rattle.rules.proofs.Entry as E
 use Rattle.rules.proofs.Question as Q
 use Rattle.rules.proofs.Question.Laws as Q′

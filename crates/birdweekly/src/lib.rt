@@ -9,7 +9,7 @@ ghost use lib.ListN.{getD};
 ghost use Rattle.rules.specs.Lent.{noEntry, loadAnswer, loadLeaves, runAnswer, runLeaves, pathInNumbers, pathAnswer, pathBuffers, pathLeaves};
 ghost use Rattle.rules.specs.Stock.{stockAnswer, stockLeaves};
 ghost use Rattle.rules.specs.Questions.{askInNumbers};
-ghost use Rattle.beginning.specs.Runs.{lentWith};
+ghost use Rattle.engine.specs.Runs.{lentWith};
 ghost use Rattle.birdweekly.specs.Numbers.{numbersOf, loadNumbers, runNumbers, pathNumbers, stockNumbers};
 
 // What loading answers: number 0 with the parties, terms and commands, or the refusal with its place.

@@ -9,7 +9,7 @@ ghost use lib.ListN.{getD};
 ghost use lib.Seq.{sets};
 ghost use Rattle.rules.specs.Lent.{noEntry, pathInNumbers, pathAnswer, pathBuffers, pathLeaves};
 ghost use Rattle.rules.specs.Questions.{askInNumbers, answerOf, leavesOf};
-ghost use Rattle.beginning.specs.Runs.{lentWith};
+ghost use Rattle.engine.specs.Runs.{lentWith};
 ghost use Rattle.path.specs.Climbing.{ClimbReady, climbed};
 
 // The steps of a path go to the list, an entry of the ledger read for each.

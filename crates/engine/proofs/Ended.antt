@@ -34,7 +34,7 @@ use Rattle.ledger.specs.Placed.{cleared}
 use Rattle.ledger.proofs.Placed.{cleared-first}
 use Rattle.turns.specs.declared.Progress.{Progress}
 use Rattle.turns.specs.Turns.{given, Executes}
-use Rattle.beginning.proofs.Few.{few-outcomes}
+use Rattle.engine.proofs.Few.{few-outcomes}
 use Rattle.engine.proofs.Ready.{state-start}
 
 drop-cleared : (n k : ℕ) (rest : List ℕ) → k ≤ n → drop k (replicate n 0 ++ rest) ≡ replicate (n - k) 0 ++ rest

@@ -31,13 +31,13 @@ use Rattle.turns.specs.declared.Begun.{Begun}
 use Rattle.turns.specs.Turns.{Executes}
 use Rattle.beginning.specs.Begins.{roomy, stops, begunBy}
 use Rattle.beginning.proofs.Begins.{state-long}
-use Rattle.beginning.specs.Runs.{lentWith}
+use Rattle.engine.specs.Runs.{lentWith}
 use Rattle.ledger.specs.Placed.{cleared}
 use Rattle.ledger.proofs.Placed.{cleared-first, clear-begin}
 use Rattle.engine.specs.declared.Finished.{Finished}
 use Rattle.engine.specs.Raw.{Ran, Runs, Stood}
 use Rattle.engine.proofs.Ready.{ledger-long}
-use Rattle.beginning.proofs.Few.{few-counted, too-long}
+use Rattle.engine.proofs.Few.{few-counted, too-long}
 use Rattle.engine.proofs.Ended.{split-at, run-is, entries-are, LoadedLeft, loaded-left}
 
 module _ (bs : List ℕ) (n : ℕ) (lent : Lent) where

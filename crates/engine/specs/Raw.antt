@@ -14,7 +14,7 @@ use Rattle.state.proofs.Exact.{stateOf}
 use Rattle.loaded.specs.Loaded.{fileIn}
 use Rattle.commands.specs.Standing.{Stands}
 use Rattle.beginning.specs.Begins.{Begins}
-use Rattle.beginning.specs.Runs.{lentWith}
+use Rattle.engine.specs.Runs.{lentWith}
 use Rattle.ledger.specs.Placed.{cleared}
 use Rattle.command_loop.specs.Recorded.{Recorded}
 use Rattle.engine.specs.declared.Finished.{Finished}

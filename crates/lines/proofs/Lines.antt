@@ -27,8 +27,8 @@ use Rattle.decimal.specs.Text.{Written}
 use Rattle.decimal.proofs.Writing.{written-none, written-then, written-length}
 use Rattle.lister.specs.Text.{refusalBytes, entryBytes, totalBytes, faultBytes, listingBytes, Listed}
 use Rattle.lister.proofs.Room.{listed}
-use Rattle.beginning.specs.Runs.{lentWith}
-use Rattle.beginning.proofs.Few.{loaded-short, all-commands}
+use Rattle.engine.specs.Runs.{lentWith}
+use Rattle.engine.proofs.Few.{loaded-short, all-commands}
 use Rattle.engine.specs.declared.Finished.{Finished}
 use Rattle.engine.specs.Raw.{ranIn, Ran, Runs, Stood}
 use Rattle.engine.proofs.Whole.{enough-is, run-left, run-stood, near-place}

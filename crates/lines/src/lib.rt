@@ -1,7 +1,7 @@
 // The listing of a file, in a buffer and on standard output.
+use engine::Finished;
 use libc::STDOUT_FILENO;
 use rules::Entry;
-use engine::Finished;
 ghost use mathlib.Core.Path.{_≡_};
 ghost use Prim.Native.Nat.{_≤_};
 ghost use lib.ListN.{length};

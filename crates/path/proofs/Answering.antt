@@ -25,7 +25,7 @@ use Rattle.loaded.specs.Loaded.{fileIn}
 use Rattle.loaded.proofs.Ledger.{column-none, column-listed}
 use Rattle.turns.specs.declared.Begun.{Begun}
 use Rattle.beginning.specs.Begins.{roomy, stops}
-use Rattle.beginning.specs.Runs.{lentWith}
+use Rattle.engine.specs.Runs.{lentWith}
 use Rattle.engine.specs.declared.Finished.{Finished}
 use Rattle.engine.specs.Raw.{ranIn, Ran, Runs, Stood}
 use Rattle.engine.proofs.Whole.{run-left, run-stood, near-place, run-short}

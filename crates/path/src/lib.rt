@@ -1,7 +1,7 @@
 // The way from an issued certificate to its endorsement certificate, by the tables and the ledger that a run left. A step reads one entry.
+use engine::Finished;
 use rules::Entry;
 use rules::PathAnswer;
-use engine::Finished;
 ghost use mathlib.Core.Path.{_≡_};
 ghost use mathlib.Core.Bool.{cond};
 ghost use Prim.Native.Nat.{_+_, _<_, _≤_};

@@ -40,7 +40,7 @@ use denote.Exit.{yes}
 use Rattle.rules.specs.declared.Entry.{Entry}
 use Rattle.rules.specs.declared.PathAnswer.{PathAnswer as Answer}
 use Rattle.rules.specs.Lent.{Lent, pathInNumbers, pathAnswer, pathBuffers, pathLeaves}
-use Rattle.beginning.specs.Runs.{lentWith}
+use Rattle.engine.specs.Runs.{lentWith}
 use Rattle.birdweekly.specs.Numbers.{pathNumbers}
 use Rattle.birdweekly.specs.declared.PathNumbers.{PathNumbers as Struct}
 use Rattle.rules.proofs.Entry as E

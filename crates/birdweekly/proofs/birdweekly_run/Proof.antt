@@ -42,7 +42,7 @@ use Rattle.rules.specs.declared.Question.{Question}
 use Rattle.rules.specs.declared.Question.the-variants.{Totals}
 use Rattle.rules.specs.declared.AskAnswer.{AskAnswer as Answer}
 use Rattle.rules.specs.Lent.{Lent, runAnswer, runLeaves}
-use Rattle.beginning.specs.Runs.{lentWith}
+use Rattle.engine.specs.Runs.{lentWith}
 use Rattle.rules.specs.Questions.{askInNumbers, answerOf, leavesOf}
 use Rattle.birdweekly.specs.Numbers.{runNumbers}
 use Rattle.birdweekly.specs.declared.RunNumbers.{RunNumbers as Struct}

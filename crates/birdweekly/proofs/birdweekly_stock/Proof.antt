@@ -43,7 +43,7 @@ use Rattle.rules.specs.declared.Question.the-variants.{Stock}
 use Rattle.rules.specs.declared.AskAnswer.{AskAnswer as Answer}
 use Rattle.rules.specs.Lent.{Lent}
 use Rattle.rules.specs.Stock.{stockAnswer, stockLeaves}
-use Rattle.beginning.specs.Runs.{lentWith}
+use Rattle.engine.specs.Runs.{lentWith}
 use Rattle.rules.specs.Questions.{askInNumbers, answerOf, leavesOf}
 use Rattle.birdweekly.specs.Numbers.{stockNumbers}
 use Rattle.birdweekly.specs.declared.StockNumbers.{StockNumbers as Struct}

@@ -54,7 +54,7 @@ use Rattle.ledger.proofs.Again.{LentAgain, lends-again, comes-back}
 use Rattle.tables.specs.Regions.{EmptyTables}
 use Rattle.ledger.proofs.Read.{LentRead, lends-read, read-back}
 use Rattle.calls.proofs.Local.{part-in, part-out}
-use Rattle.beginning.specs.Runs.{lentWith}
+use Rattle.engine.specs.Runs.{lentWith}
 use Rattle.engine.specs.Raw.{Runs}
 use mathlib.Core.Bool.{cond}
 use lib.Dec.{leb}

@@ -12,8 +12,8 @@ use Rattle.rules.specs.Load.{loaded, load, commandsOf}
 use Rattle.rules.specs.State.{start}
 use Rattle.rules.specs.Run.{run, outcomes, firstCommands, reached, outcomesOf}
 use Rattle.theorems.proofs.Laws.{totals}
-use Rattle.beginning.specs.All.{AllCommands}
-use Rattle.beginning.proofs.Few.{few-outcomes, loaded-short}
+use Rattle.engine.specs.All.{AllCommands}
+use Rattle.engine.proofs.Few.{few-outcomes, loaded-short}
 
 module _ (bytes : List ℕ) (f : File) (loads : load bytes ≡ loaded f) where
   few : length (f .commands) ≤ commandLimit

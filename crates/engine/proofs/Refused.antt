@@ -19,8 +19,8 @@ use Rattle.theorems.proofs.Running.{after-refused, reached-next, take-next}
 use Rattle.theorems.proofs.Ledgers.{at-below}
 use Rattle.theorems.proofs.Written.{loaded-fits}
 use Rattle.theorems.proofs.Laws.{outcome-each}
-use Rattle.beginning.specs.Refused.{SameBut, RefusedLeaves}
-use Rattle.beginning.proofs.Few.{few-outcomes}
+use Rattle.engine.specs.Refused.{SameBut, RefusedLeaves}
+use Rattle.engine.proofs.Few.{few-outcomes}
 
 outcomes-both : (f : File) (xs ys : List Command) (s : State) → outcomes f (xs ++ ys) s ≡ outcomes f xs s ++ outcomes f ys (run f xs s)
 unfolding outcomes run
