@@ -1,7 +1,6 @@
 // Learning a term: the party knows it and everything in it.
 use records::Parts;
 use rules::Attributes;
-use rules::Term;
 ghost use mathlib.Core.Path.{_≡_};
 ghost use mathlib.Core.List.{[], _∷_};
 ghost use Prim.Native.Nat.{_+_, _<_};
@@ -11,18 +10,6 @@ ghost use Rattle.rules.specs.Record.{word};
 ghost use Rattle.records.specs.Parts.{listed};
 ghost use Rattle.state.specs.View.{view, withKnows};
 ghost use Rattle.learning.specs.There.{termThere, TermRecord, learnThere, learnPartsThere, Ready};
-
-// The term of the record at a place.
-pub fn term_at(file: &[u8], at: usize) -> Term
-    requires { ⌜ TermRecord (now file) at ⌝ }
-    ensures { λ r. ⌜ r ≡ termThere (now (file .entry)) at ⌝ }
-{
-    let kind = file[at];
-    let start = at + 1;
-    let end = start + records::body_length(kind);
-    let body = &file[start..end];
-    records::term_in(kind, body)
-}
 
 // The attributes of the key of the record at a place, read where they stand; none of another term.
 pub fn attributes_at(file: &[u8], at: usize) -> Attributes

@@ -2,12 +2,11 @@
 --     term-noted                       a declared term
 --     finds-kept                       what the tables have, where only the columns of entries change
 --     key-attributes, no-attributes    the attributes of a key are its second field; another term has none
---     request-subject, certificate-subject     the Subject of a request and of a certificate, by its two fields
---     subject-read                     what was read of those, by the tables
+--     request-term, certificate-term   an IDevID request and a certificate, by their four fields
 -- Assumes nothing.
 use mathlib.Core.Path.{_≡_, refl, sym, ap, subst⁻¹, _∙_}
-use mathlib.Core.List.{List, [], _∷_}
-use Prim.Native.Nat.{ℕ, _+_, _<_, _≤_}
+use mathlib.Core.List.{List}
+use Prim.Native.Nat.{ℕ, _<_, _≤_}
 use native.Mathlib.Omega.{arith}
 use lib.Dec.{eqb}
 use lib.ListN.{length, getD}
@@ -16,9 +15,9 @@ use Rattle.rules.specs.declared.Subject.the-variants.{Tpm, Device}
 use Rattle.rules.specs.declared.Term.{Term}
 use Rattle.rules.specs.declared.Term.the-variants.{PublicKey, PrivateKey, Hash, Signature, Attest, Credential, Number, IdevidRequest, LdevidRequest, Certificate, Pair}
 use Rattle.rules.specs.Attributes.{noAttributes}
-use Rattle.rules.specs.Term.{idevidRequestKind, certificateKind, kindOf, fieldsIn, subjectFields, subjectOf, attributesOf}
-use Rattle.rules.specs.File.{File, term, kind, field, attributes, subject}
-use Rattle.tables.specs.Regions.{Terms, fieldWords, tablesIn, fieldOf}
+use Rattle.rules.specs.Term.{idevidRequestKind, certificateKind, kindOf, fieldsIn, subjectFields, attributesOf}
+use Rattle.rules.specs.File.{File, term, kind, field, attributes}
+use Rattle.tables.specs.Regions.{Terms, tablesIn, fieldOf}
 use Rattle.index.specs.Indexed.{passes}
 use Rattle.loaded.specs.Loaded.{fileIn, Finds, TermNoted, subjectBy}
 use Rattle.loaded.specs.Entries.{SameKeys}
@@ -73,14 +72,10 @@ pub no-attributes : (f : File) (t : ℕ) → 0x11 < kind f t → attributes f t 
 unfolding kind attributes
 no-attributes f t h = no-bits (term f t) h
 
--- what a Subject is, by its fields before others
-subject-fields : (s : Subject) (more : List ℕ) → subjectBy (getD (subjectFields s more) 0 0) (getD (subjectFields s more) 1 0) ≡ s
-unfolding subjectFields subjectBy
-subject-fields (Tpm n) more = refl
-subject-fields (Device n) more = refl
-
-request-fields : (x : Term) → kindOf x ≡ idevidRequestKind → subjectBy (getD (fieldsIn x) 0 0) (getD (fieldsIn x) 1 0) ≡ subjectOf x
-unfolding kindOf fieldsIn subjectOf
+request-fields :
+    (x : Term) → kindOf x ≡ idevidRequestKind
+    → IdevidRequest (subjectBy (getD (fieldsIn x) 0 0) (getD (fieldsIn x) 1 0)) (getD (fieldsIn x) 2 0) (getD (fieldsIn x) 3 0) ≡ x
+unfolding kindOf fieldsIn subjectFields subjectBy
 request-fields (PublicKey id a) e = absurd (omega arith)
 request-fields (PrivateKey id a) e = absurd (omega arith)
 request-fields (Hash t) e = absurd (omega arith)
@@ -88,13 +83,16 @@ request-fields (Signature t k) e = absurd (omega arith)
 request-fields (Attest k) e = absurd (omega arith)
 request-fields (Credential t n k) e = absurd (omega arith)
 request-fields (Number id) e = absurd (omega arith)
-request-fields (IdevidRequest s c k) e = subject-fields s (c ∷ k ∷ [])
+request-fields (IdevidRequest (Tpm n) c k) e = refl
+request-fields (IdevidRequest (Device n) c k) e = refl
 request-fields (LdevidRequest t c) e = absurd (omega arith)
 request-fields (Certificate k s p) e = absurd (omega arith)
 request-fields (Pair t u) e = absurd (omega arith)
 
-certificate-fields : (x : Term) → kindOf x ≡ certificateKind → subjectBy (getD (fieldsIn x) 1 0) (getD (fieldsIn x) 2 0) ≡ subjectOf x
-unfolding kindOf fieldsIn subjectOf
+certificate-fields :
+    (x : Term) → kindOf x ≡ certificateKind
+    → Certificate (getD (fieldsIn x) 0 0) (subjectBy (getD (fieldsIn x) 1 0) (getD (fieldsIn x) 2 0)) (getD (fieldsIn x) 3 0) ≡ x
+unfolding kindOf fieldsIn subjectFields subjectBy
 certificate-fields (PublicKey id a) e = absurd (omega arith)
 certificate-fields (PrivateKey id a) e = absurd (omega arith)
 certificate-fields (Hash t) e = absurd (omega arith)
@@ -104,19 +102,16 @@ certificate-fields (Credential t n k) e = absurd (omega arith)
 certificate-fields (Number id) e = absurd (omega arith)
 certificate-fields (IdevidRequest s c k) e = absurd (omega arith)
 certificate-fields (LdevidRequest t c) e = absurd (omega arith)
-certificate-fields (Certificate k s p) e = subject-fields s (p ∷ [])
+certificate-fields (Certificate k (Tpm n) p) e = refl
+certificate-fields (Certificate k (Device n) p) e = refl
 certificate-fields (Pair t u) e = absurd (omega arith)
 
-pub request-subject : (f : File) (t : ℕ) → kind f t ≡ idevidRequestKind → subjectBy (field f t 0) (field f t 1) ≡ subject f t
-unfolding kind field subject
-request-subject f t e = request-fields (term f t) e
+pub request-term :
+    (f : File) (t : ℕ) → kind f t ≡ idevidRequestKind → IdevidRequest (subjectBy (field f t 0) (field f t 1)) (field f t 2) (field f t 3) ≡ term f t
+unfolding kind field
+request-term f t e = request-fields (term f t) e
 
-pub certificate-subject : (f : File) (t : ℕ) → kind f t ≡ certificateKind → subjectBy (field f t 1) (field f t 2) ≡ subject f t
-unfolding kind field subject
-certificate-subject f t e = certificate-fields (term f t) e
-
-pub subject-read :
-    {bs tables : List ℕ} {t tag number : ℕ} → TermNoted bs tables t → (i : ℕ) → i + 1 < fieldWords → tag ≡ fieldOf (tablesIn tables .terms) t i
-    → number ≡ fieldOf (tablesIn tables .terms) t (i + 1)
-    → subjectBy tag number ≡ subjectBy (field (fileIn bs) t i) (field (fileIn bs) t (i + 1))
-subject-read w i l e q = rw (e ∙ w .fieldIs i (omega arith), q ∙ w .fieldIs (i + 1) l) refl
+pub certificate-term :
+    (f : File) (t : ℕ) → kind f t ≡ certificateKind → Certificate (field f t 0) (subjectBy (field f t 1) (field f t 2)) (field f t 3) ≡ term f t
+unfolding kind field
+certificate-term f t e = certificate-fields (term f t) e

@@ -1,14 +1,17 @@
 // A loaded file: what commands read of its parties, where they stand, and of its terms, by the tables. The file is lent too, for the
 // contracts to speak of.
+use rules::Subject;
+use rules::Term;
 ghost use mathlib.Core.Path.{_≡_};
 ghost use Prim.Native.Nat.{_+_, _<_};
 ghost use lib.Dec.{eqb};
 ghost use lib.ListN.{length};
 ghost use Rattle.rules.specs.Limits.{termLimit};
-ghost use Rattle.rules.specs.File.{isRole, isKind, field, attributes, hashedTerm, message, signingKey, attestedKey, credentialTerm, credentialNumber, credentialKey, idevidCertificate, idevidKey, ldevidMessage, ldevidCertificate, certifiedKey, signer, leftOf, rightOf};
+ghost use Rattle.rules.specs.Term.{idevidRequestKind, certificateKind};
+ghost use Rattle.rules.specs.File.{isRole, isKind, term, kind, field, attributes, hashedTerm, message, signingKey, attestedKey, credentialTerm, credentialNumber, credentialKey, idevidCertificate, idevidKey, ldevidMessage, ldevidCertificate, certifiedKey, signer, leftOf, rightOf};
 ghost use Rattle.rules.specs.Device.{keyHas};
 ghost use Rattle.tables.specs.Regions.{fieldWords, tablesIn};
-ghost use Rattle.loaded.specs.Loaded.{fileIn, Holds, PartyHere, TermNoted, Learns};
+ghost use Rattle.loaded.specs.Loaded.{fileIn, Holds, PartyHere, TermNoted, subjectBy, Learns};
 
 // Whether a party has a role.
 pub fn is_role(file: &[u8], party: usize, role: u8) -> bool
@@ -123,6 +126,28 @@ pub fn idevid_key_of(file: &[u8], tables: &[u16; tables::WORDS], t: usize) -> us
     field_of(file, tables, t, 3)
 }
 
+// A Subject by its two fields.
+fn subject_of(tag: u16, number: u16) -> Subject
+    ensures { λ r. ⌜ r ≡ subjectBy tag number ⌝ }
+{
+    if tag == 0 {
+        return Subject::Tpm(number);
+    }
+    Subject::Device(number)
+}
+
+// An IDevID request as a term.
+pub fn idevid_request_of(file: &[u8], tables: &[u16; tables::WORDS], t: usize) -> Term
+    requires { ⌜ TermNoted (now file) (now tables) t × (kind (fileIn (now file)) t ≡ idevidRequestKind) ⌝ }
+    ensures { λ r. ⌜ r ≡ term (fileIn (now (file .entry))) t ⌝ }
+{
+    let tag = tables::field_of(tables, t, 0);
+    let number = tables::field_of(tables, t, 1);
+    let certificate = tables::field_of(tables, t, 2);
+    let key = tables::field_of(tables, t, 3);
+    Term::IdevidRequest(subject_of(tag, number), certificate, key)
+}
+
 // The message and the certificate of an LDevID request.
 pub fn ldevid_message_of(file: &[u8], tables: &[u16; tables::WORDS], t: usize) -> usize
     requires { ⌜ TermNoted (now file) (now tables) t ⌝ }
@@ -151,6 +176,18 @@ pub fn signer_of(file: &[u8], tables: &[u16; tables::WORDS], t: usize) -> usize
     ensures { λ r. ⌜ r ≡ signer (fileIn (now (file .entry))) t ⌝ }
 {
     field_of(file, tables, t, 3)
+}
+
+// A certificate as a term.
+pub fn certificate_of(file: &[u8], tables: &[u16; tables::WORDS], t: usize) -> Term
+    requires { ⌜ TermNoted (now file) (now tables) t × (kind (fileIn (now file)) t ≡ certificateKind) ⌝ }
+    ensures { λ r. ⌜ r ≡ term (fileIn (now (file .entry))) t ⌝ }
+{
+    let key = tables::field_of(tables, t, 0);
+    let tag = tables::field_of(tables, t, 1);
+    let number = tables::field_of(tables, t, 2);
+    let signer = tables::field_of(tables, t, 3);
+    Term::Certificate(key, subject_of(tag, number), signer)
 }
 
 // The two terms of a pair.

@@ -1,14 +1,12 @@
-// Records and terms of a scenario file: the kind byte, the fields of a body, the term of a record.
+// Records and terms of a scenario file: the kind byte, the fields of a body, the fields and the key of a term.
 use rules::Attributes;
 use rules::Field;
-use rules::Subject;
-use rules::Term;
 ghost use mathlib.Core.Path.{_≡_};
 ghost use mathlib.Core.List.{[], _∷_};
 ghost use Prim.Native.Nat.{_+_, _<_, _≤_};
 ghost use lib.ListN.{length, getD};
 ghost use Rattle.rules.specs.Attributes.{has as hasFlag};
-ghost use Rattle.rules.specs.Term.{idevidRequestKind, certificateKind, subjectFields, fieldsIn};
+ghost use Rattle.rules.specs.Term.{subjectFields, fieldsIn};
 ghost use Rattle.rules.specs.Record.{lastKind, sectionOf, bodyLength, fieldsOf, width as widthOf, termSection, word};
 ghost use Rattle.rules.specs.Load.{termAt, subjectAt};
 ghost use Rattle.records.specs.Codes.{packed, lowField, FieldRows};
@@ -249,71 +247,6 @@ pub fn body_length(kind: u8) -> usize
         }
     }
     length_of(kind)
-}
-
-// The subject at a place of a body.
-fn subject_at(body: &[u8], i: usize) -> Subject
-    requires { ⌜ i + 2 < length (now body) ⌝ }
-    ensures { λ r. ⌜ r ≡ subjectAt (now (body .entry)) i ⌝ }
-{
-    let n = word_at(body, i + 1);
-    if body[i] == 0 {
-        Subject::Tpm(n)
-    } else {
-        Subject::Device(n)
-    }
-}
-
-// The attributes in a key's body.
-fn attributes_at(body: &[u8]) -> Attributes
-    requires { ⌜ 2 < length (now body) ⌝ }
-    ensures { λ r. ⌜ r ≡ record { bits = getD (now (body .entry)) 2 0 } ⌝ }
-{
-    Attributes { bits: body[2] }
-}
-
-// The IDevID request with a body.
-pub fn idevid_request_in(body: &[u8]) -> Term
-    requires { ⌜ 6 < length (now body) ⌝ }
-    ensures { λ r. ⌜ r ≡ termAt idevidRequestKind (now (body .entry)) ⌝ }
-{
-    let s = subject_at(body, 0);
-    let c = word_at(body, 3);
-    Term::IdevidRequest(s, c, word_at(body, 5))
-}
-
-// The certificate with a body.
-pub fn certificate_in(body: &[u8]) -> Term
-    requires { ⌜ 6 < length (now body) ⌝ }
-    ensures { λ r. ⌜ r ≡ termAt certificateKind (now (body .entry)) ⌝ }
-{
-    let k = word_at(body, 0);
-    let s = subject_at(body, 2);
-    Term::Certificate(k, s, word_at(body, 5))
-}
-
-// The term of a kind with a body.
-pub fn term_in(kind: u8, body: &[u8]) -> Term
-    requires { ⌜ (sectionOf kind ≡ termSection) × (bodyLength kind ≤ length (now body)) ⌝ }
-    ensures { λ r. ⌜ r ≡ termAt kind (now (body .entry)) ⌝ }
-{
-    let first = word_at(body, 0);
-    match kind {
-        0x10 => Term::PublicKey(first, attributes_at(body)),
-        0x11 => Term::PrivateKey(first, attributes_at(body)),
-        0x12 => Term::Hash(first),
-        0x13 => Term::Signature(first, word_at(body, 2)),
-        0x14 => Term::Attest(first),
-        0x15 => {
-            let n = word_at(body, 2);
-            Term::Credential(first, n, word_at(body, 4))
-        }
-        0x16 => Term::Number(first),
-        0x17 => idevid_request_in(body),
-        0x18 => Term::LdevidRequest(first, word_at(body, 2)),
-        0x19 => certificate_in(body),
-        _ => Term::Pair(first, word_at(body, 2)),
-    }
 }
 
 // The first four fields of a term, 0 where it has fewer.

@@ -3,6 +3,7 @@ use rules::Attributes;
 use rules::Family;
 use rules::Signers;
 use rules::Subject;
+use rules::Term;
 ghost use mathlib.Core.Path.{_≡_};
 ghost use mathlib.Core.Bool.{_&&_};
 ghost use mathlib.Core.List.{List};
@@ -17,7 +18,7 @@ ghost use Rattle.rules.specs.Desk.{formTests, proofTests};
 ghost use Rattle.tables.specs.Regions.{tablesIn};
 ghost use Rattle.theorems.specs.Chain.{chain};
 ghost use Rattle.theorems.proofs.Loading.{Checked};
-ghost use Rattle.loaded.specs.Loaded.{fileIn, Finds, PartyHere, TermNoted, subjectBy};
+ghost use Rattle.loaded.specs.Loaded.{fileIn, Finds, PartyHere, TermNoted};
 ghost use Rattle.requests.specs.Search.{hasSome, Searched};
 ghost use Rattle.requests.specs.Names.{Names};
 ghost use Rattle.requests.specs.Tests.{endorsementTests, credentialTests, calledTests, attestTests, parentageTests};
@@ -76,30 +77,23 @@ pub fn credential_of(file: &[u8], tables: &[u16; tables::WORDS], t: usize) -> Cr
     }
 }
 
-// A Subject by its two fields.
-fn subject_of(tag: u16, number: u16) -> Subject
-    ensures { λ x. ⌜ x ≡ subjectBy tag number ⌝ }
-{
-    if tag == 0 {
-        return Subject::Tpm(number);
-    }
-    Subject::Device(number)
-}
-
 // The Subject, the certificate and the public key of an IDevID request.
 pub fn idevid_request_of(file: &[u8], tables: &[u16; tables::WORDS], t: usize) -> IdevidRequest
     requires { ⌜ TermNoted (now file) (now tables) t × (kind (fileIn (now file)) t ≡ idevidRequestKind) ⌝ }
     ensures { λ x. ⌜ (x .subject ≡ subject (fileIn (now (file .entry))) t) × (x .certificate ≡ idevidCertificate (fileIn (now (file .entry))) t) × (x .key ≡ idevidKey (fileIn (now (file .entry))) t) ⌝ }
 {
-    let tag = tables::field_of(tables, t, 0);
-    let number = tables::field_of(tables, t, 1);
-    let subject = subject_of(tag, number);
-    let certificate = loaded::idevid_certificate_of(file, tables, t);
-    let key = loaded::idevid_key_of(file, tables, t);
+    let found = loaded::idevid_request_of(file, tables, t);
+    let Term::IdevidRequest(subject, certificate, key) = found else {
+        return IdevidRequest {
+            subject: Subject::Tpm(0),
+            certificate: 0,
+            key: 0,
+        };
+    };
     IdevidRequest {
         subject,
-        certificate,
-        key,
+        certificate: certificate as usize,
+        key: key as usize,
     }
 }
 
@@ -121,15 +115,18 @@ pub fn certificate_of(file: &[u8], tables: &[u16; tables::WORDS], t: usize) -> C
     requires { ⌜ TermNoted (now file) (now tables) t × (kind (fileIn (now file)) t ≡ certificateKind) ⌝ }
     ensures { λ x. ⌜ (x .key ≡ certifiedKey (fileIn (now (file .entry))) t) × (x .subject ≡ subject (fileIn (now (file .entry))) t) × (x .signer ≡ signer (fileIn (now (file .entry))) t) ⌝ }
 {
-    let key = loaded::certified_key_of(file, tables, t);
-    let tag = tables::field_of(tables, t, 1);
-    let number = tables::field_of(tables, t, 2);
-    let subject = subject_of(tag, number);
-    let signer = loaded::signer_of(file, tables, t);
+    let found = loaded::certificate_of(file, tables, t);
+    let Term::Certificate(key, subject, signer) = found else {
+        return Certificate {
+            key: 0,
+            subject: Subject::Tpm(0),
+            signer: 0,
+        };
+    };
     Certificate {
-        key,
+        key: key as usize,
         subject,
-        signer,
+        signer: signer as usize,
     }
 }
 

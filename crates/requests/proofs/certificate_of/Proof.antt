@@ -1,39 +1,32 @@
-use mathlib.Core.Path.{_∙_}
-use native.Mathlib.Omega.{arith}
 use borrow.Author.Needs.{needs}
-use Rattle.loaded.proofs.Noted.{certificate-subject, subject-read}
+use mathlib.Core.Path.{sym, _∙_}
+use mathlib.Core.List.{[], _∷_}
+use Rattle.requests.proofs.Read.{other-kind, certificate-key, certificate-subject, certificate-signer}
 use Rattle.requests.proofs.certificate_of.Statement.{statement}
 use Rattle.requests.proofs.certificate_of.Tie as tie
 
-certified-key-of-requires : tie.Need-certified-key-of-requires
-certified-key-of-requires c κs = search needs
+certificate-of-requires : tie.Need-certificate-of-requires
+certificate-of-requires c κs = search needs
 
-field-of-requires : tie.Need-field-of-requires
-field-of-requires c κs = search needs
-
-field-of-requires-2 : tie.Need-field-of-requires-2
-field-of-requires-2 c κs = search needs
-
-subject-of-requires : tie.Need-subject-of-requires
-subject-of-requires c κs = search needs
-
-signer-of-requires : tie.Need-signer-of-requires
-signer-of-requires c κs = search needs
+enum-known-found : tie.Need-enum-known-found
+enum-known-found c = search needs
 
 returns : tie.Need-returns
 returns c =
+    absurd (other-kind _ _ 9 (0 ∷ 1 ∷ 2 ∷ 3 ∷ 4 ∷ 5 ∷ 6 ∷ 7 ∷ 8 ∷ 10 ∷ []) (c .before .certificate-of .ensures) tt (c .match .keys2) (c .before .before .before .pre .1))
+
+cast-t9 : tie.Need-cast-t9
+cast-t9 c = search needs
+
+cast-t10 : tie.Need-cast-t10
+cast-t10 c = search needs
+
+returns-2 : tie.Need-returns-2
+returns-2 c =
     let b = c .before in
-    let p = b .before .before .before .before .before .pre in
-    let named = subject-read (p .0) 1 (omega arith) (b .before .before .field-of .ensures) (b .before .field-of2 .ensures) in
-    (b .before .before .before .certified-key-of .ensures, b .subject-of .ensures ∙ named ∙ certificate-subject _ _ (p .1), c .signer-of .ensures)
+    let e = sym (b .before .before .certificate-of .ensures) ∙ b .found .given .1 in
+    (sym (certificate-key _ _ e), sym (certificate-subject _ _ e), sym (certificate-signer _ _ e))
 
 pub certificate-of-spec : {M : Type 1} → statement M
 certificate-of-spec =
-    tie.close
-    (tie.spec
-    certified-key-of-requires
-    field-of-requires
-    field-of-requires-2
-    subject-of-requires
-    signer-of-requires
-    returns)
+    tie.close (tie.spec certificate-of-requires enum-known-found returns cast-t9 cast-t10 returns-2)

@@ -1,8 +1,8 @@
 use mathlib.Core.Path.{refl}
 use borrow.Author.Tests.{eq-eqb, ne-eqb}
 use Rattle.loaded.specs.Loaded.{subjectBy}
-use Rattle.requests.proofs.subject_of.Statement.{statement}
-use Rattle.requests.proofs.subject_of.Tie as tie
+use Rattle.loaded.proofs.subject_of.Statement.{statement}
+use Rattle.loaded.proofs.subject_of.Tie as tie
 
 returns : tie.Need-returns
 unfolding subjectBy
