@@ -106,12 +106,16 @@ certificate-fields (Certificate k (Tpm n) p) e = refl
 certificate-fields (Certificate k (Device n) p) e = refl
 certificate-fields (Pair t u) e = absurd (omega arith)
 
-pub request-term :
-    (f : File) (t : ℕ) → kind f t ≡ idevidRequestKind → IdevidRequest (subjectBy (field f t 0) (field f t 1)) (field f t 2) (field f t 3) ≡ term f t
-unfolding kind field
-request-term f t e = request-fields (term f t) e
+-- what was read of each field, for both
+module _ (f : File) (t : ℕ) {s : Subject} {a b c d : ℕ} where
+  pub request-term :
+      kind f t ≡ idevidRequestKind → s ≡ subjectBy a b → a ≡ field f t 0 → b ≡ field f t 1 → c ≡ field f t 2 → d ≡ field f t 3
+      → IdevidRequest s c d ≡ term f t
+  unfolding kind field
+  request-term k e e0 e1 e2 e3 = rw (e, e0, e1, e2, e3) (request-fields (term f t) k)
 
-pub certificate-term :
-    (f : File) (t : ℕ) → kind f t ≡ certificateKind → Certificate (field f t 0) (subjectBy (field f t 1) (field f t 2)) (field f t 3) ≡ term f t
-unfolding kind field
-certificate-term f t e = certificate-fields (term f t) e
+  pub certificate-term :
+      kind f t ≡ certificateKind → s ≡ subjectBy b c → a ≡ field f t 0 → b ≡ field f t 1 → c ≡ field f t 2 → d ≡ field f t 3
+      → Certificate a s d ≡ term f t
+  unfolding kind field
+  certificate-term k e e0 e1 e2 e3 = rw (e, e0, e1, e2, e3) (certificate-fields (term f t) k)
