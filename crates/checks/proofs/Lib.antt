@@ -2,3 +2,4 @@ pub mod Alike
 pub mod Records
 pub mod Tests
 pub mod Plain
+pub mod Seen

@@ -17,7 +17,8 @@ use Rattle.records.proofs.EachKind.{agree}
 use Rattle.checks.specs.There.{fieldFaultThere}
 use Rattle.checks.specs.Plain.{fieldsFaultThere, Plain}
 
-both : {a b : ℕ} → a ≡ 0 → b ≡ 0 → first a b ≡ 0
+-- two fields that are right
+pub both : {a b : ℕ} → a ≡ 0 → b ≡ 0 → first a b ≡ 0
 unfolding first
 both {a} {b} p q = rw p q
 

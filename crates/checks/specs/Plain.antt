@@ -1,4 +1,4 @@
--- A command whose fields are seen to be right at once, without a walk from field to field.
+-- Commands and terms whose fields are seen to be right at once, without a walk from field to field.
 use mathlib.Core.Path.{_≡_}
 use mathlib.Core.List.{List, [], _∷_}
 use Prim.Native.Nat.{ℕ, _+_, _≤_}
@@ -19,3 +19,7 @@ pub record Plain (bs : List ℕ) (place : ℕ → ℕ) (parties terms at end : �
   pub ends : end ≡ at + 1 + bodyLength (getD bs at 0)
   pub whole : end ≤ length bs
   pub right : fieldsFaultThere bs place parties terms (fieldsOf (getD bs at 0)) 0 (take (bodyLength (getD bs at 0)) (drop (at + 1) bs)) ≡ 0
+
+-- the fields of a body of a kind are right, whatever the parties: that of a term
+pub record Right (bs : List ℕ) (place : ℕ → ℕ) (terms k : ℕ) (body : List ℕ) : Type 0 where
+  pub fault : (parties : ℕ) → fieldsFaultThere bs place parties terms (fieldsOf k) 0 body ≡ 0

@@ -2,6 +2,7 @@
 use rules::Attributes;
 use rules::Field;
 ghost use mathlib.Core.Path.{_≡_};
+ghost use mathlib.Core.Logic.{_⊎_};
 ghost use mathlib.Core.Bool.{true};
 ghost use Prim.Native.Nat.{ℕ, _+_, _*_, _<_, _≤_};
 ghost use lib.Dec.{ltb};
@@ -10,11 +11,11 @@ ghost use Rattle.rules.specs.declared.Field.the-variants.{TermOf, SignedAttest,
 ghost use Rattle.rules.specs.Limits.{rowWidth};
 ghost use Rattle.rules.specs.Record.{bodyLength, width as widthOf, word};
 ghost use Rattle.rules.specs.Load.{refuseUnless, emptyPair};
-ghost use Rattle.records.specs.Codes.{FieldRows};
+ghost use Rattle.records.specs.Codes.{fieldLimit, FieldRows};
 ghost use Rattle.state.specs.View.{view};
 ghost use Rattle.learning.specs.There.{kindThere};
 ghost use Rattle.checks.specs.There.{headFault, roleThere, TermsThere, fieldFaultThere};
-ghost use Rattle.checks.specs.Plain.{Plain};
+ghost use Rattle.checks.specs.Plain.{Plain, Right};
 
 // 3 to 6 at a record, by its kind's section and the place where it ends: 0, or the refusal.
 pub fn head_fault(
@@ -376,4 +377,83 @@ pub fn is_plain(
         return pairs_right(file, state, at, end, parties, terms);
     }
     false
+}
+
+// Whether the fields of a 13 are right.
+fn signature_right(file: &[u8], state: &[u8], body: &[u8], terms: usize) -> bool
+    requires { ⌜ TermsThere (now file) (now state) terms × (3 < length (now body)) ⌝ }
+    ensures { λ r. ⌜ (r ≡ true → Right (now (file .entry)) (view (now (state .entry)) .place) terms 0x13 (now (body .entry))) ⌝ }
+{
+    if declared_fault(body, 0, terms) != 0 {
+        return false;
+    }
+    if kind_fault(file, state, body, 2, 0x11, terms) != 0 {
+        return false;
+    }
+    true
+}
+
+// The same of a 19.
+fn certificate_right(file: &[u8], state: &[u8], body: &[u8], terms: usize) -> bool
+    requires { ⌜ TermsThere (now file) (now state) terms × (6 < length (now body)) ⌝ }
+    ensures { λ r. ⌜ (r ≡ true → Right (now (file .entry)) (view (now (state .entry)) .place) terms 0x19 (now (body .entry))) ⌝ }
+{
+    if kind_fault(file, state, body, 0, 0x10, terms) != 0 {
+        return false;
+    }
+    if byte_fault(body, 2, 2) != 0 {
+        return false;
+    }
+    if kind_fault(file, state, body, 5, 0x11, terms) != 0 {
+        return false;
+    }
+    true
+}
+
+// How many fields of a body need no look: all where it is a term's of a frequent kind and they are seen to be right
+// at once, else 0, which says nothing.
+pub fn seen_right(file: &[u8], state: &[u8], body: &[u8], kind: u8, terms: usize) -> usize
+    requires { ⌜ TermsThere (now file) (now state) terms × (bodyLength kind ≤ length (now body)) ⌝ }
+    ensures { λ r. ⌜ (r ≡ 0) ⊎ ((r ≡ fieldLimit) × Right (now (file .entry)) (view (now (state .entry)) .place) terms kind (now (body .entry))) ⌝ }
+{
+    if kind < 0x10 {
+        return 0;
+    }
+    if kind <= 0x11 {
+        if byte_fault(body, 2, Attributes::LIMIT) != 0 {
+            return 0;
+        }
+        return records::FIELD_LIMIT;
+    }
+    if kind == 0x12 {
+        if declared_fault(body, 0, terms) != 0 {
+            return 0;
+        }
+        return records::FIELD_LIMIT;
+    }
+    if kind == 0x13 {
+        if signature_right(file, state, body, terms) {
+            return records::FIELD_LIMIT;
+        }
+        return 0;
+    }
+    if kind == 0x16 {
+        return records::FIELD_LIMIT;
+    }
+    if kind == 0x19 {
+        if certificate_right(file, state, body, terms) {
+            return records::FIELD_LIMIT;
+        }
+        return 0;
+    }
+    if kind == 0x1A {
+        if declared_fault(body, 0, terms) != 0 {
+            return 0;
+        }
+        if declared_fault(body, 2, terms) != 0 {
+            return 0;
+        }
+        return records::FIELD_LIMIT;
+    }
+    0
 }

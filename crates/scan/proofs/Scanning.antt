@@ -1,7 +1,7 @@
 -- The scan of a file, record by record: what holds at a record's place, and what each of its ends gives.
 -- Assumes nothing.
 use mathlib.Core.Path.{_≡_, refl, sym, ap, subst, subst⁻¹, _∙_}
-use mathlib.Core.Logic.{inl, inr}
+use mathlib.Core.Logic.{_⊎_, inl, inr}
 use mathlib.Core.Bool.{Bool, true, false, cond}
 use mathlib.Core.List.{List, [], _∷_}
 use Prim.Native.Nat.{ℕ, zero, suc, _+_, _-_, _<_, _≤_}
@@ -18,8 +18,10 @@ use Rattle.rules.specs.File.{Setup, learns, holds, signsWith}
 use Rattle.rules.specs.Load.{fieldsFault, enter, setupAt, feed, loaded, refused, emptyFile}
 use Rattle.state.specs.View.{view}
 use Rattle.checks.specs.There.{headFault, fieldFaultThere}
+use Rattle.checks.specs.Plain.{fieldsFaultThere, Right}
 use Rattle.setup.specs.Allowed.{signersLeave}
-use Rattle.records.proofs.Lengths.{section-most}
+use Rattle.records.specs.Codes.{fieldLimit, packed}
+use Rattle.records.proofs.Lengths.{section-most, few-fields}
 use Rattle.theorems.proofs.Loading.{entered, empty-good}
 use Rattle.theorems.proofs.Pieces.{from, bodyAt, body-length, load-from, feed-end}
 use Rattle.reader.specs.Place.{nextPlace}
@@ -134,13 +136,26 @@ module _ (bs s signers : List ℕ) (n : Tally) (at : ℕ) (a : At bs s signers n
 
       -- the fields so far are right, and the rest is what is left
       pub record Fields (body : List ℕ) (i offset : ℕ) : Type 0 where
-        pub within : i ≤ length (fieldsOf (getD bs at 0))
-        pub offsetIs : offset ≡ widths (take i (fieldsOf (getD bs at 0)))
+        pub offsetIs : i < length (fieldsOf (getD bs at 0)) → offset ≡ widths (take i (fieldsOf (getD bs at 0)))
         pub rest : fieldsFault (a .file) (drop i (fieldsOf (getD bs at 0))) offset body ≡ fieldsFault (a .file) (fieldsOf (getD bs at 0)) 0 body
 
       pub fields-start : (body : List ℕ) → Fields body 0 0
       unfolding widths
-      fields-start body = record { within = omega arith; offsetIs = refl; rest = refl }
+      fields-start body = record { offsetIs = λ _. refl; rest = refl }
+
+      -- the same faults by the bytes alone
+      fields-same : (fs : List Field) (i : ℕ) (body : List ℕ) → fieldsFaultThere bs (view s .place) (n .parties) (n .terms) fs i body ≡ fieldsFault (a .file) fs i body
+      unfolding fieldsFaultThere fieldsFault
+      fields-same [] i body = refl
+      fields-same (x ∷ xs) i body = rw (field-same (a .file) bs s signers n at (a .describes) (a .good) x i body, fields-same xs (i + width x) body) refl
+
+      -- no field is left where all of them are seen to be right
+      pub fields-seen : (body : List ℕ) (i offset : ℕ) → length (fieldsOf (getD bs at 0)) ≤ i → Right bs (view s .place) (n .terms) (getD bs at 0) body → Fields body i offset
+      unfolding fieldsFault
+      fields-seen body i offset l r = record {
+        offsetIs = λ m. absurd (omega arith);
+        rest = rw (lib.ListN.drop-of-length-le (fieldsOf (getD bs at 0)) l) (sym (r .fault (n .parties)) ∙ fields-same (fieldsOf (getD bs at 0)) 0 body);
+      }
 
       -- a field lies in the body
       pub field-inside : (body : List ℕ) (i offset : ℕ) → body ≡ bodyAt bs at → Fields body i offset → i < length (fieldsOf (getD bs at 0)) → offset + width (getD (fieldsOf (getD bs at 0)) i AnyTerm) ≤ length body
@@ -149,15 +164,14 @@ module _ (bs s signers : List ℕ) (n : Tally) (at : ℕ) (a : At bs s signers n
           let p = widths-next (fieldsOf (getD bs at 0)) i l in
           let q = widths-most (fieldsOf (getD bs at 0)) (i + 1) in
           let r : length body ≡ bodyLength (getD bs at 0) = ap length e ∙ body-length bs at fits in
-          let o = w .offsetIs in
+          let o = w .offsetIs l in
           omega arith
 
       pub fields-more : (body : List ℕ) (i offset : ℕ) → Fields body i offset → i < length (fieldsOf (getD bs at 0))
           → fieldFaultThere bs (view s .place) (n .parties) (n .terms) (getD (fieldsOf (getD bs at 0)) i AnyTerm) offset body ≡ 0
           → Fields body (i + 1) (offset + width (getD (fieldsOf (getD bs at 0)) i AnyTerm))
       fields-more body i offset w l e = record {
-        within = omega arith;
-        offsetIs = let p = widths-next (fieldsOf (getD bs at 0)) i l in let o = w .offsetIs in omega arith;
+        offsetIs = λ _. let p = widths-next (fieldsOf (getD bs at 0)) i l in let o = w .offsetIs l in omega arith;
         rest =
             sym (fields-next (a .file) bs s signers n at (a .describes) (a .good) (getD bs at 0) i offset body l
             (sym (field-same (a .file) bs s signers n at (a .describes) (a .good) (getD (fieldsOf (getD bs at 0)) i AnyTerm) offset body) ∙ e))
@@ -238,6 +252,24 @@ pub record InFields (bs s signers : List ℕ) (n : Tally) (at : ℕ) (body : Lis
   pub head : headFault (sectionOf (getD bs at 0)) (at + 1 + bodyLength (getD bs at 0)) (length bs) (n .section) (n .parties) (n .terms) ≡ 0
   pub bodyIs : body ≡ bodyAt bs at
   pub fields : Fields bs s signers n at here more head body i offset
+
+-- a record's body is whole
+pub body-whole : (bs body : List ℕ) (at : ℕ) → body ≡ bodyAt bs at → at + 1 + bodyLength (getD bs at 0) ≤ length bs → bodyLength (getD bs at 0) ≤ length body
+body-whole bs body at e h = let r : length body ≡ bodyLength (getD bs at 0) = ap length e ∙ body-length bs at h in omega arith
+
+-- what holds in the walk over the fields; it begins at the first, or past the last where all are seen to be right
+abbrev pub Walks : List ℕ → List ℕ → List ℕ → Tally → ℕ → List ℕ → ℕ → ℕ → ℕ → Type 0
+Walks bs s signers n at body fields i offset = InFields bs s signers n at body i offset × (i < fieldLimit → fields ≡ packed (drop i (fieldsOf (getD bs at 0))))
+
+module _ {bs s signers : List ℕ} {n : Tally} {at : ℕ} (a : At bs s signers n at) (h : at < length bs) (z : headFault (sectionOf (getD bs at 0)) (at + 1 + bodyLength (getD bs at 0)) (length bs) (n .section) (n .parties) (n .terms) ≡ 0) where
+  pub fields-begin : {body : List ℕ} {fields i : ℕ} → body ≡ bodyAt bs at → fields ≡ packed (fieldsOf (getD bs at 0))
+      → (i ≡ 0) ⊎ ((i ≡ fieldLimit) × Right bs (view s .place) (n .terms) (getD bs at 0) body) → Walks bs s signers n at body fields i 0
+  fields-begin {body} {fields} b f (inl e) =
+      subst⁻¹ (λ (i : ℕ). Walks bs s signers n at body fields i 0) e
+      (record { here = a; more = h; head = z; bodyIs = b; fields = fields-start bs s signers n at a h z body }, λ _. f)
+  fields-begin {body} {fields} b f (inr (e, r)) =
+      subst⁻¹ (λ (i : ℕ). Walks bs s signers n at body fields i 0) e
+      (record { here = a; more = h; head = z; bodyIs = b; fields = fields-seen bs s signers n at a h z body fieldLimit 0 (few-fields (getD bs at 0)) r }, λ m. absurd (omega arith))
 
 -- no signing key is added or lost
 leave-length : (signers : List ℕ) (x : Setup) → length (signersLeave signers x) ≡ length signers

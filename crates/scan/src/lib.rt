@@ -173,6 +173,7 @@ fn scan_commands(
 }
 
 // The scan of the file: it ends at the first refusal, which a label carries out of both loops.
+// The fields of a term that are seen to be right at once are not walked over.
 pub fn scan(
     file: &[u8],
     state: &mut [u8],
@@ -223,7 +224,7 @@ pub fn scan(
         }
         let body = &file[start..end];
         let mut fields = records::fields_in(&table, kind);
-        let mut i: usize = 0;
+        let mut i = checks::seen_right(file, state, body, kind, terms);
         let mut offset = 0;
         while i < records::FIELD_LIMIT {
             if fields == 0 {

@@ -1,15 +1,17 @@
--- `scan::scan` meets its contract. The outer invariant: the file declared by the records before `at` is described, its terms are indexed, feeding it
--- the pieces from `at` on is loading the file, and the first command is the first from `at` on. The inner one: the fields so far are right, and the rest is what is left. Assumes nothing.
+-- `scan::scan` meets its contract. The outer invariant: the file declared by the records before `at` is described,
+-- its terms are indexed, feeding it the pieces from `at` on is loading the file, and the first command is the first
+-- from `at` on. The inner one: the fields so far, or all of them, are right, and the rest is what is left.
+-- Assumes nothing.
 use mathlib.Core.Path.{_≡_, refl, sym, ap, subst⁻¹, _∙_}
 use mathlib.Core.Logic.{⊎-elim}
 use mathlib.Core.List.{List}
 use Prim.Native.Nat.{ℕ, _-_, _<_, _≤_}
 use native.Mathlib.Omega.{arith}
 use borrow.Author.Needs.{needs}
-use lib.ListN.{length, getD, drop}
+use lib.ListN.{length, getD}
 use Rattle.rules.specs.Record.{sectionOf, fieldsOf, commandSection}
 use Rattle.rules.specs.Load.{termAt}
-use Rattle.records.specs.Codes.{fieldLimit, packed}
+use Rattle.records.specs.Codes.{fieldLimit}
 use Rattle.records.proofs.Lengths.{few-fields}
 use Rattle.records.proofs.Packed.{field-left, field-next, none-left}
 use Rattle.state.specs.View.{view}
@@ -22,7 +24,7 @@ use Rattle.lookup.specs.Commands.{commandsFrom}
 use Rattle.lookup.proofs.Commands.{commands-end, commands-here, commands-later}
 use Rattle.scan.specs.declared.Tally.{Tally}
 use Rattle.scan.specs.Describes.{counted, At}
-use Rattle.scan.proofs.Scanning.{head-is, at-start, at-end, at-head, fits, fields-start, InFields, body-same, field-ready, field-small, field-refused, field-passed, enter-asks, last-refused, record-taken, counts-small}
+use Rattle.scan.proofs.Scanning.{head-is, at-start, at-end, at-head, fits, Walks, body-same, body-whole, fields-begin, field-ready, field-small, field-refused, field-passed, enter-asks, last-refused, record-taken, counts-small}
 use Rattle.scan.proofs.scan.Statement.{statement}
 use Rattle.scan.proofs.scan.Tie as tie
 use Rattle.scan.proofs.scan.Reads as reads
@@ -51,7 +53,7 @@ passed bs at n h o s e = ap (commandsFrom (length bs) bs) n ∙ sym (commands-la
 
 abbrev Inv-loop : tie.InvT-loop
 Inv-loop file state signers links tables table at n kind start own section parties terms end head body fields₀ i₀ offset₀ fields i offset =
-    InFields file state signers n at body i offset × (fields ≡ packed (drop i (fieldsOf (getD file at 0))))
+    Walks file state signers n at body fields i offset
 
 abbrev μ-loop : tie.MeasureT-loop
 μ-loop file state signers links tables table at n kind start own section parties terms end head body fields₀ i₀ offset₀ fields i offset = fieldLimit - i
@@ -103,12 +105,21 @@ part-body-end c =
 fields-in-requires : tie.Need-fields-in-requires Inv-loop μ-loop Inv-records μ-records
 fields-in-requires c κs = search needs
 
+seen-right-requires : tie.Need-seen-right-requires Inv-loop μ-loop Inv-records μ-records
+seen-right-requires c κs =
+    let a = c .before .before .before .before .before .before .before .before .before .before .before .records .inv .1 in
+    let l = c .before .before .before .before .before .before .before .before .before .before .if1 .left in
+    let e = c .before .before .before .before .before .before .next-place .ensures in
+    let z = sym (head-is _ _ _ _ _ (c .before .before .before .before .before .before .before .before .section-of .ensures) e (c .before .before .before .before .before .head-fault .ensures)) ∙ c .before .before .before .before .if3 .left in
+    (a .describes .there, body-whole _ _ _ (body-same _ _ _ e) (fits _ _ _ _ _ a l z))
+
 loop-holds : tie.Need-loop-holds Inv-loop μ-loop Inv-records μ-records
 loop-holds c =
-    let a = c .before .before .before .before .before .before .before .before .before .before .records .inv .1 in
-    let l = c .before .before .before .before .before .before .before .before .before .if1 .left in
-    let z = sym (head-is _ _ _ _ _ (c .before .before .before .before .before .before .before .section-of .ensures) (c .before .before .before .before .before .next-place .ensures) (c .before .before .before .before .head-fault .ensures)) ∙ c .before .before .before .if3 .left in
-    (record { here = a; more = l; head = z; bodyIs = body-same _ _ _ (c .before .before .before .before .before .next-place .ensures); fields = fields-start _ _ _ _ _ a l z _ }, c .fields-in .ensures)
+    let a = c .before .before .before .before .before .before .before .before .before .before .before .before .records .inv .1 in
+    let l = c .before .before .before .before .before .before .before .before .before .before .before .if1 .left in
+    let e = c .before .before .before .before .before .before .before .next-place .ensures in
+    let z = sym (head-is _ _ _ _ _ (c .before .before .before .before .before .before .before .before .before .section-of .ensures) e (c .before .before .before .before .before .before .head-fault .ensures)) ∙ c .before .before .before .before .before .if3 .left in
+    fields-begin a l z (body-same _ _ _ e) (c .before .before .fields-in .ensures) (c .seen-right .ensures)
 
 low-field-requires : tie.Need-low-field-requires Inv-loop μ-loop Inv-records μ-records
 low-field-requires c κs = search needs
@@ -116,7 +127,7 @@ low-field-requires c κs = search needs
 field-fault-requires : tie.Need-field-fault-requires Inv-loop μ-loop Inv-records μ-records
 field-fault-requires c κs =
     let w = c .before .before .before .before .loop .inv .0 in
-    let l = field-left _ _ _ (c .before .before .before .before .loop .inv .1) (c .before .before .before .loop-test .taken) (c .before .before .if4 .left) in
+    let l = field-left _ _ _ (c .before .before .before .before .loop .inv .1 (c .before .before .before .loop-test .taken)) (c .before .before .before .loop-test .taken) (c .before .before .if4 .left) in
     (w .here .describes .there, field-ready _ _ _ _ _ _ _ _ w _ refl (l .0) _ (c .before .low-field .ensures ∙ l .1))
 
 width-requires : tie.Need-width-requires Inv-loop μ-loop Inv-records μ-records
@@ -125,7 +136,7 @@ width-requires c κs = search needs
 add-offset : tie.Need-add-offset Inv-loop μ-loop Inv-records μ-records
 add-offset c =
     let w = c .before .before .before .before .before .before .before .loop .inv .0 in
-    let l = field-left _ _ _ (c .before .before .before .before .before .before .before .loop .inv .1) (c .before .before .before .before .before .before .loop-test .taken) (c .before .before .before .before .before .if4 .left) in
+    let l = field-left _ _ _ (c .before .before .before .before .before .before .before .loop .inv .1 (c .before .before .before .before .before .before .loop-test .taken)) (c .before .before .before .before .before .before .loop-test .taken) (c .before .before .before .before .before .if4 .left) in
     omega (arith, field-small _ _ _ _ _ _ _ _ w _ refl (l .0) _ (c .before .before .before .before .low-field .ensures ∙ l .1), c .width .ensures)
 
 add-i : tie.Need-add-i Inv-loop μ-loop Inv-records μ-records
@@ -137,31 +148,31 @@ loop-less c = omega arith
 loop-again : tie.Need-loop-again Inv-loop μ-loop Inv-records μ-records
 loop-again c =
     let w = c .before .before .before .before .before .before .before .loop .inv in
-    let l = field-left _ _ _ (c .before .before .before .before .before .before .before .loop .inv .1) (c .before .before .before .before .before .before .loop-test .taken) (c .before .before .before .before .before .if4 .left) in
-    (field-passed _ _ _ _ _ _ _ _ (w .0) _ refl (l .0) _ (c .before .before .before .before .low-field .ensures ∙ l .1) _ (c .before .before .field-fault .ensures) (c .before .if5 .left) _ (c .width .ensures), field-next _ _ _ (w .1) (c .before .before .before .before .before .before .loop-test .taken))
+    let l = field-left _ _ _ (c .before .before .before .before .before .before .before .loop .inv .1 (c .before .before .before .before .before .before .loop-test .taken)) (c .before .before .before .before .before .before .loop-test .taken) (c .before .before .before .before .before .if4 .left) in
+    (field-passed _ _ _ _ _ _ _ _ (w .0) _ refl (l .0) _ (c .before .before .before .before .low-field .ensures ∙ l .1) _ (c .before .before .field-fault .ensures) (c .before .if5 .left) _ (c .width .ensures), λ _. field-next _ _ _ (w .1 (c .before .before .before .before .before .before .loop-test .taken)) (c .before .before .before .before .before .before .loop-test .taken))
 
 enter-requires : tie.Need-enter-requires Inv-loop μ-loop Inv-records μ-records
 enter-requires c κs =
     let w = c .before .before .before .before .before .loop .inv .0 in
-    let l : length (fieldsOf (getD (c .before .before .before .before .before .before .before .before .before .before .before .before .before .before .before .before .before .before .before .before .args .file .now) (c .before .before .before .before .before .before .before .before .before .before .before .before .before .before .before .before .records .at) 0)) ≤ c .before .before .before .before .before .loop .i = ⊎-elim (λ u. omega (arith, few-fields (getD (c .before .before .before .before .before .before .before .before .before .before .before .before .before .before .before .before .before .before .before .before .args .file .now) (c .before .before .before .before .before .before .before .before .before .before .before .before .before .before .before .before .records .at) 0), u .left)) (λ u. none-left _ _ _ (c .before .before .before .before .before .loop .inv .1) (u .0 .taken) (u .1 .taken)) (c .before .before .before .before .loop-test .came) in
-    (c .before .before .before .before .before .before .before .before .before .before .before .before .before .section-of .ensures, enter-asks _ _ _ _ _ _ _ _ w _ refl l, c .before .before .before .before .before .before .before .before .before .before .before .before .before .before .before .before .records .inv .2, refl, body-stands _ _ _ (w .bodyIs))
+    let l : length (fieldsOf (getD (c .before .before .before .before .before .before .before .before .before .before .before .before .before .before .before .before .before .before .before .before .before .before .args .file .now) (c .before .before .before .before .before .before .before .before .before .before .before .before .before .before .before .before .before .before .records .at) 0)) ≤ c .before .before .before .before .before .loop .i = ⊎-elim (λ u. omega (arith, few-fields (getD (c .before .before .before .before .before .before .before .before .before .before .before .before .before .before .before .before .before .before .before .before .before .before .args .file .now) (c .before .before .before .before .before .before .before .before .before .before .before .before .before .before .before .before .before .before .records .at) 0), u .left)) (λ u. none-left _ _ _ (c .before .before .before .before .before .loop .inv .1 (u .0 .taken)) (u .0 .taken) (u .1 .taken)) (c .before .before .before .before .loop-test .came) in
+    (c .before .before .before .before .before .before .before .before .before .before .before .before .before .before .before .section-of .ensures, enter-asks _ _ _ _ _ _ _ _ w _ refl l, c .before .before .before .before .before .before .before .before .before .before .before .before .before .before .before .before .before .before .records .inv .2, refl, body-stands _ _ _ (w .bodyIs))
 
 count-requires : tie.Need-count-requires Inv-loop μ-loop Inv-records μ-records
-count-requires c κs = counts-small _ _ _ _ _ (c .before .before .before .before .before .before .before .before .before .before .before .before .before .before .before .before .before .before .before .before .records .inv .1)
+count-requires c κs = counts-small _ _ _ _ _ (c .before .before .before .before .before .before .before .before .before .before .before .before .before .before .before .before .before .before .before .before .before .before .records .inv .1)
 
 records-less : tie.Need-records-less Inv-loop μ-loop Inv-records μ-records
-records-less c = omega (arith, c .before .before .before .before .before .before .before .before .before .before .before .before .before .before .before .before .before .before .before .before .if1 .left, place-later _ _ _ (c .before .before .before .before .before .before .before .before .before .before .before .before .before .before .before .before .next-place .ensures))
+records-less c = omega (arith, c .before .before .before .before .before .before .before .before .before .before .before .before .before .before .before .before .before .before .before .before .before .before .if1 .left, place-later _ _ _ (c .before .before .before .before .before .before .before .before .before .before .before .before .before .before .before .before .before .before .next-place .ensures))
 
 records-again : tie.Need-records-again Inv-loop μ-loop Inv-records μ-records
 records-again c =
     let w = c .before .before .before .before .before .before .before .before .before .before .loop .inv .0 in
-    let l : length (fieldsOf (getD (c .before .before .before .before .before .before .before .before .before .before .before .before .before .before .before .before .before .before .before .before .before .before .before .before .before .args .file .now) (c .before .before .before .before .before .before .before .before .before .before .before .before .before .before .before .before .before .before .before .before .before .records .at) 0)) ≤ c .before .before .before .before .before .before .before .before .before .before .loop .i = ⊎-elim (λ u. omega (arith, few-fields (getD (c .before .before .before .before .before .before .before .before .before .before .before .before .before .before .before .before .before .before .before .before .before .before .before .before .before .args .file .now) (c .before .before .before .before .before .before .before .before .before .before .before .before .before .before .before .before .before .before .before .before .before .records .at) 0), u .left)) (λ u. none-left _ _ _ (c .before .before .before .before .before .before .before .before .before .before .loop .inv .1) (u .0 .taken) (u .1 .taken)) (c .before .before .before .before .before .before .before .before .before .loop-test .came) in
+    let l : length (fieldsOf (getD (c .before .before .before .before .before .before .before .before .before .before .before .before .before .before .before .before .before .before .before .before .before .before .before .before .before .before .before .args .file .now) (c .before .before .before .before .before .before .before .before .before .before .before .before .before .before .before .before .before .before .before .before .before .before .before .records .at) 0)) ≤ c .before .before .before .before .before .before .before .before .before .before .loop .i = ⊎-elim (λ u. omega (arith, few-fields (getD (c .before .before .before .before .before .before .before .before .before .before .before .before .before .before .before .before .before .before .before .before .before .before .before .before .before .before .before .args .file .now) (c .before .before .before .before .before .before .before .before .before .before .before .before .before .before .before .before .before .before .before .before .before .before .before .records .at) 0), u .left)) (λ u. none-left _ _ _ (c .before .before .before .before .before .before .before .before .before .before .loop .inv .1 (u .0 .taken)) (u .0 .taken) (u .1 .taken)) (c .before .before .before .before .before .before .before .before .before .loop-test .came) in
     let e = c .before .before .before .before .enter in
-    let k = c .count .ensures ∙ ap (λ (own : ℕ). counted own (c .before .before .before .before .before .before .before .before .before .before .before .before .before .before .before .before .before .before .before .before .before .records .n)) (c .before .before .before .before .before .before .before .before .before .before .before .before .before .before .before .before .before .before .section-of .ensures) in (
-      e .kept .1 .0 ∙ c .before .before .before .before .before .before .before .before .before .before .before .before .before .before .before .before .before .before .before .before .before .records .inv .0,
-      record-taken _ _ _ _ _ _ _ _ w _ refl l _ _ _ (e .ensures .0) (c .before .if6 .left) (e .kept .1 .0) (e .ensures .1 .0) (e .ensures .1 .1 .0) _ k _ (c .before .before .before .before .before .before .before .before .before .before .before .before .before .before .before .before .next-place .ensures),
+    let k = c .count .ensures ∙ ap (λ (own : ℕ). counted own (c .before .before .before .before .before .before .before .before .before .before .before .before .before .before .before .before .before .before .before .before .before .before .before .records .n)) (c .before .before .before .before .before .before .before .before .before .before .before .before .before .before .before .before .before .before .before .before .section-of .ensures) in (
+      e .kept .1 .0 ∙ c .before .before .before .before .before .before .before .before .before .before .before .before .before .before .before .before .before .before .before .before .before .before .before .records .inv .0,
+      record-taken _ _ _ _ _ _ _ _ w _ refl l _ _ _ (e .ensures .0) (c .before .if6 .left) (e .kept .1 .0) (e .ensures .1 .0) (e .ensures .1 .1 .0) _ k _ (c .before .before .before .before .before .before .before .before .before .before .before .before .before .before .before .before .before .before .next-place .ensures),
       indexed-counted (c .count .ensures) (e .ensures .1 .1 .1 (c .before .if6 .left)),
-      passed (c .before .before .before .before .before .before .before .before .before .before .before .before .before .before .before .before .before .before .before .before .before .before .before .before .before .args .file .now) (c .before .before .before .before .before .before .before .before .before .before .before .before .before .before .before .before .before .before .before .before .before .records .at) (c .before .before .before .before .before .before .before .before .before .before .before .before .before .before .before .before .next-place .ensures) (c .before .before .before .before .before .before .before .before .before .before .before .before .before .before .before .before .before .before .before .before .if1 .left) (c .before .before .before .before .before .before .before .before .before .before .before .before .before .before .before .before .before .before .section-of .ensures) (c .before .before .before .before .before .before .before .before .before .before .before .before .before .before .before .before .before .if2 .left) (c .before .before .before .before .before .before .before .before .before .before .before .before .before .before .before .before .before .before .before .before .before .records .inv .3),
+      passed (c .before .before .before .before .before .before .before .before .before .before .before .before .before .before .before .before .before .before .before .before .before .before .before .before .before .before .before .args .file .now) (c .before .before .before .before .before .before .before .before .before .before .before .before .before .before .before .before .before .before .before .before .before .before .before .records .at) (c .before .before .before .before .before .before .before .before .before .before .before .before .before .before .before .before .before .before .next-place .ensures) (c .before .before .before .before .before .before .before .before .before .before .before .before .before .before .before .before .before .before .before .before .before .before .if1 .left) (c .before .before .before .before .before .before .before .before .before .before .before .before .before .before .before .before .before .before .before .before .section-of .ensures) (c .before .before .before .before .before .before .before .before .before .before .before .before .before .before .before .before .before .before .before .if2 .left) (c .before .before .before .before .before .before .before .before .before .before .before .before .before .before .before .before .before .before .before .before .before .before .before .records .inv .3),
     )
 
 same-length : tie.Need-same-length Inv-loop μ-loop Inv-records μ-records
@@ -191,21 +202,21 @@ returns-3 : tie.Need-returns-3 Inv-loop μ-loop Inv-records μ-records
 returns-3 c = (at-head _ _ _ _ _ (c .before .before .before .before .before .before .before .records .inv .1) (c .before .before .before .before .before .before .if1 .left) _ (head-is _ _ _ _ _ (c .before .before .before .before .section-of .ensures) (c .before .before .next-place .ensures) (c .before .head-fault .ensures)) (c .if3 .taken), (λ z. absurd (c .if3 .taken z), λ z. absurd (c .if3 .taken z)))
 
 same-length-4 : tie.Need-same-length-4 Inv-loop μ-loop Inv-records μ-records
-same-length-4 c = c .before .before .before .before .before .before .before .before .before .before .before .before .before .before .before .before .before .records .inv .0
+same-length-4 c = c .before .before .before .before .before .before .before .before .before .before .before .before .before .before .before .before .before .before .before .records .inv .0
 
 returns-4 : tie.Need-returns-4 Inv-loop μ-loop Inv-records μ-records
 returns-4 c =
     let w = c .before .before .before .before .before .before .loop .inv .0 in
-    let l = field-left _ _ _ (c .before .before .before .before .before .before .loop .inv .1) (c .before .before .before .before .before .loop-test .taken) (c .before .before .before .before .if4 .left) in
+    let l = field-left _ _ _ (c .before .before .before .before .before .before .loop .inv .1 (c .before .before .before .before .before .loop-test .taken)) (c .before .before .before .before .before .loop-test .taken) (c .before .before .before .before .if4 .left) in
     (field-refused _ _ _ _ _ _ _ _ w _ refl (l .0) _ (c .before .before .before .low-field .ensures ∙ l .1) _ (c .before .field-fault .ensures) (c .if5 .taken), (λ z. absurd (c .if5 .taken z), λ z. absurd (c .if5 .taken z)))
 
 same-length-5 : tie.Need-same-length-5 Inv-loop μ-loop Inv-records μ-records
-same-length-5 c = c .before .before .before .enter .kept .1 .0 ∙ c .before .before .before .before .before .before .before .before .before .before .before .before .before .before .before .before .before .before .before .before .records .inv .0
+same-length-5 c = c .before .before .before .enter .kept .1 .0 ∙ c .before .before .before .before .before .before .before .before .before .before .before .before .before .before .before .before .before .before .before .before .before .before .records .inv .0
 
 returns-5 : tie.Need-returns-5 Inv-loop μ-loop Inv-records μ-records
 returns-5 c =
     let w = c .before .before .before .before .before .before .before .before .before .loop .inv .0 in
-    let l : length (fieldsOf (getD (c .before .before .before .before .before .before .before .before .before .before .before .before .before .before .before .before .before .before .before .before .before .before .before .before .args .file .now) (c .before .before .before .before .before .before .before .before .before .before .before .before .before .before .before .before .before .before .before .before .records .at) 0)) ≤ c .before .before .before .before .before .before .before .before .before .loop .i = ⊎-elim (λ u. omega (arith, few-fields (getD (c .before .before .before .before .before .before .before .before .before .before .before .before .before .before .before .before .before .before .before .before .before .before .before .before .args .file .now) (c .before .before .before .before .before .before .before .before .before .before .before .before .before .before .before .before .before .before .before .before .records .at) 0), u .left)) (λ u. none-left _ _ _ (c .before .before .before .before .before .before .before .before .before .loop .inv .1) (u .0 .taken) (u .1 .taken)) (c .before .before .before .before .before .before .before .before .loop-test .came) in
+    let l : length (fieldsOf (getD (c .before .before .before .before .before .before .before .before .before .before .before .before .before .before .before .before .before .before .before .before .before .before .before .before .before .before .args .file .now) (c .before .before .before .before .before .before .before .before .before .before .before .before .before .before .before .before .before .before .before .before .before .before .records .at) 0)) ≤ c .before .before .before .before .before .before .before .before .before .loop .i = ⊎-elim (λ u. omega (arith, few-fields (getD (c .before .before .before .before .before .before .before .before .before .before .before .before .before .before .before .before .before .before .before .before .before .before .before .before .before .before .args .file .now) (c .before .before .before .before .before .before .before .before .before .before .before .before .before .before .before .before .before .before .before .before .before .before .records .at) 0), u .left)) (λ u. none-left _ _ _ (c .before .before .before .before .before .before .before .before .before .loop .inv .1 (u .0 .taken)) (u .0 .taken) (u .1 .taken)) (c .before .before .before .before .before .before .before .before .loop-test .came) in
     (last-refused _ _ _ _ _ _ _ _ w _ refl l _ _ _ (c .before .before .before .enter .ensures .0) (c .if6 .taken), (λ z. absurd (c .if6 .taken z), λ z. absurd (c .if6 .taken z)))
 
 pub scan-spec : {M : Type 1} → statement M
@@ -228,6 +239,7 @@ scan-spec =
     part-body-start
     part-body-end
     fields-in-requires
+    seen-right-requires
     loop-holds
     low-field-requires
     field-fault-requires
