@@ -3,6 +3,7 @@
 --     cleared-first                               the rules' first part, of entries on cleared places
 --     length-puts, puts-begin, puts-next          entries written from a place on
 --     puts-onto                                   after others
+--     same-end                                    where a loop over places ends
 -- Assumes nothing.
 use mathlib.Core.Path.{_≡_, refl, sym, _∙_, ap}
 use mathlib.Core.List.{List, [], _∷_, _++_}
@@ -63,6 +64,10 @@ puts-onto es xs l (suc k) h g =
     ∙ ap (λ (e : Entry). set (take (length es + k) (es ++ xs) ++ drop (length es + k) l) (length es + k) e) (sym (at-past es xs k))
     ∙ one-more (length es + k) (es ++ xs) l (omega (arith, h, length-append es xs)) (omega (arith, g))
     ∙ ap (λ (m : ℕ). take m (es ++ xs) ++ drop m l) (past-one (length es) k)
+
+-- ---- where a loop over places ends
+pub same-end : {i n : ℕ} → i ≤ n → n ≤ i → i ≡ n
+same-end h g = omega (arith, h, g)
 
 -- ---- the entries gained, one by one
 pub length-puts : (l : List Entry) (from : ℕ) (xs : List Entry) (k : ℕ) → length (puts l from xs k) ≡ length l
