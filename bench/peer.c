@@ -1,6 +1,7 @@
-/* A second engine for scenario files, in plain C, written from the papers (document 01 and, of document 02, requests
-   1 to 5 and 12) and the readings in docs/DECISIONS.md and reading/READINGS.md: it is no third reading of the papers. The speed baseline of the proved one: peer_load, peer_run and peer_path are birdweekly_load,
-   birdweekly_run and birdweekly_path by another name, but for the stock of request 12, which is left out.
+/* An engine for scenario files in plain C, the speed baseline of the proved one. Written from the papers (document 01 and,
+   of document 02, requests 1 to 5 and 12) and the readings in docs/DECISIONS.md and reading/READINGS.md, so that it is no
+   third reading of the papers. peer_load, peer_run and peer_path are birdweekly_load, birdweekly_run and birdweekly_path by
+   another name; the stock of request 12 is left out.
 
        gcc -std=c11 -O3 -c peer.c
 
