@@ -88,7 +88,7 @@ pub fn effect(
     ensures { λ _. ⌜ Leaves (now (file .entry)) (now (state .entry)) (now (state .exit)) (challenge party q r) ⌝ }
 {
     let credential = requests::credential_of(file, tables, r);
-    loaded::learn(file, state, party, r);
+    loaded::learn(file, state, tables, party, r);
     state::note_mark(state, credential.number, rules::NUMBER_USED);
     state::note_mark(state, r, rules::CREDENTIAL_OPEN);
     state::note_desk(state, r, party as u8);

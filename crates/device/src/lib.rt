@@ -451,7 +451,7 @@ pub fn effect_hash(
 {
     let content = loaded::hashed_term(file, tables, r);
     let attested = loaded::is_kind(file, tables, content, 0x14);
-    loaded::learn(file, state, party, r);
+    loaded::learn(file, state, tables, party, r);
     if attested {
         return;
     }
@@ -470,7 +470,7 @@ pub fn effect_activate(
     ensures { λ _. ⌜ Leaves (now (file .entry)) (now (state .entry)) (now (state .exit)) (activateCredential party r) ⌝ }
 {
     let number = loaded::credential_number_of(file, tables, r);
-    loaded::learn(file, state, party, number);
+    loaded::learn(file, state, tables, party, number);
 }
 
 // 30 to 37, by the record: a party and what it makes.
@@ -547,28 +547,28 @@ fn effect_made(file: &[u8], state: &mut [u8], tables: &[u16; tables::WORDS], at:
     match kind {
         0x30 => effect_hash(file, state, tables, party, r),
         0x34 => effect_activate(file, state, tables, party, r),
-        _ => loaded::learn(file, state, party, r),
+        _ => loaded::learn(file, state, tables, party, r),
     }
 }
 
 // What 3C leaves, by the record: the other party learns the term.
-fn effect_sent(file: &[u8], state: &mut [u8], at: usize)
-    requires { ⌜ Holds (now file) (now state) × CommandAt (Wellformed (fileIn (now file))) (now file) at × (kindThere (now file) at ≡ 0x3C) ⌝ }
+fn effect_sent(file: &[u8], state: &mut [u8], tables: &[u16; tables::WORDS], at: usize)
+    requires { ⌜ Holds (now file) (now state) × CommandAt (Wellformed (fileIn (now file))) (now file) at × (kindThere (now file) at ≡ 0x3C) × Finds (now file) (now tables) ⌝ }
     ensures { λ _. ⌜ Leaves (now (file .entry)) (now (state .entry)) (now (state .exit)) (commandThere (now (file .entry)) at) ⌝ }
 {
     let other = file[at + 2] as usize;
     let t = records::word_at(file, at + 3) as usize;
-    loaded::learn(file, state, other, t);
+    loaded::learn(file, state, tables, other, t);
 }
 
 // What 3D leaves, by the record: the party learns the certificate.
-fn effect_issued(file: &[u8], state: &mut [u8], at: usize)
-    requires { ⌜ Holds (now file) (now state) × CommandAt (Wellformed (fileIn (now file))) (now file) at × (kindThere (now file) at ≡ 0x3D) ⌝ }
+fn effect_issued(file: &[u8], state: &mut [u8], tables: &[u16; tables::WORDS], at: usize)
+    requires { ⌜ Holds (now file) (now state) × CommandAt (Wellformed (fileIn (now file))) (now file) at × (kindThere (now file) at ≡ 0x3D) × Finds (now file) (now tables) ⌝ }
     ensures { λ _. ⌜ Leaves (now (file .entry)) (now (state .entry)) (now (state .exit)) (commandThere (now (file .entry)) at) ⌝ }
 {
     let party = file[at + 1] as usize;
     let r = records::word_at(file, at + 2) as usize;
-    loaded::learn(file, state, party, r);
+    loaded::learn(file, state, tables, party, r);
 }
 
 // Executes the device command at a place: what it decides, and what it leaves where it is accepted. Checks leave nothing.
@@ -595,13 +595,13 @@ pub fn execute(file: &[u8], state: &mut [u8], tables: &[u16; tables::WORDS], at:
         if sent != 0 {
             return sent;
         }
-        effect_sent(file, state, at);
+        effect_sent(file, state, tables, at);
         return 0;
     }
     let issued = decide_issued(file, state, tables, at);
     if issued != 0 {
         return issued;
     }
-    effect_issued(file, state, at);
+    effect_issued(file, state, tables, at);
     0
 }

@@ -21,8 +21,7 @@ indexed-none bs place links tables el et =
         once = λ i j t p q. absurd (omega (arith, none i));
       };
       words = ap length et ∙ length-replicate {A = ℕ} tableWords 0;
-      kinds = λ t l. absurd (omega arith);
-      fields = λ t i l. absurd (omega arith);
+      noted = record { kinds = λ t l. absurd (omega arith); fields = λ t i l. absurd (omega arith) };
       met = λ t l. absurd (omega arith);
       unlike = λ t u l. absurd (omega arith);
       halves = λ t l. absurd (omega arith);
@@ -38,8 +37,7 @@ module _ {bs : List ℕ} {place place′ : ℕ → ℕ} {n : ℕ} (h : (t : ℕ)
   indexed-same i = record {
     tree = i .tree;
     words = i .words;
-    kinds = λ t l. rw (← h t l) (i .kinds t l);
-    fields = λ t j l. rw (← h t l) (i .fields t j l);
+    noted = record { kinds = λ t l. rw (← h t l) (i .noted .kinds t l); fields = λ t j l. rw (← h t l) (i .noted .fields t j l) };
     met = λ t l. rw (← h t l) (i .met t l);
     unlike = λ t u l m. rw (← h t l, ← h u m) (i .unlike t u l m);
     halves = λ t l. found-same (λ u m. rw (h t l, h u m) refl) (i .halves t l);

@@ -14,13 +14,14 @@ use Rattle.records.specs.declared.Words.{Words}
 use Rattle.records.specs.Keys.{keyOf, wordsOf}
 use Rattle.tables.specs.Regions.{Terms, Tables, tablesIn, withHalf, withTerms}
 use Rattle.learning.specs.There.{termThere}
+use Rattle.learning.specs.Noted.{Noted}
 use Rattle.checks.specs.There.{kindOfThere, anyAlikeThere}
 use Rattle.checks.proofs.Alike.{found as some-alike}
 use Rattle.index.specs.declared.Searched.{Searched}
 use Rattle.index.specs.Tree.{linkCount}
 use Rattle.index.specs.Indexed.{keyThere, keyNoted, termNoted, otherHalf, Indexed, SearchResult, EntersTerm}
 use Rattle.index.proofs.Found.{at-most, put-same, put-other, found-most, search-same}
-use Rattle.index.proofs.Noted.{key-noted, Termed, termed-more}
+use Rattle.index.proofs.Noted.{key-noted, noted-more}
 use Rattle.index.proofs.Same.{not-true, same-kind, same-key}
 use Rattle.index.proofs.There.{Bytes, Records, there-alike}
 use Rattle.index.proofs.Growing.{way-inside}
@@ -71,7 +72,7 @@ module _ {bs s links tables body : List ℕ} {k at n key : ℕ} {words : Words} 
   index-there = indexed-same place-kept (w .enters .indexed)
 
   search-there : SearchResult (kindOfThere bs places) (keyThere bs places) links (kindOfThere bs places n) (otherHalf (kindOfThere bs places n)) (keyThere bs places n) n found
-  search-there = rw (← kind-new, ← key-new) (search-same (index-there .kinds) (key-noted index-there) (w .searched))
+  search-there = rw (← kind-new, ← key-new) (search-same (index-there .noted .kinds) (key-noted index-there) (w .searched))
 
   alike-new : (t : ℕ) → t < n → alike (termThere bs (places n)) (termThere bs (places t)) ≡ alike (termAt k body) (termThere bs (view s .place t))
   alike-new t l = rw (place-new, ← place-kept t l, w .enters .stands) refl
@@ -100,14 +101,14 @@ module _ {bs s links tables body : List ℕ} {k at n key : ℕ} {words : Words} 
     abbrev terms-with : Terms
     terms-with = termNoted (tablesIn tables .terms) n k words
 
-    termed : Termed bs places terms-with (n + 1)
-    termed = termed-more index-there kind-new words-new
+    terms-noted : Noted bs places terms-with (n + 1)
+    terms-noted = noted-more index-there kind-new words-new
 
     module _ {links′ : List ℕ} (noted tables′ : List ℕ) {v : Columns} (ev : v ≡ withPlace (view s) places) (el : links′ ≡ set links (found .free) (n + 1)) (en : tablesIn noted ≡ withTerms (tablesIn tables) terms-with) where
       entered : (half′ : ℕ → ℕ) → tablesIn tables′ ≡ withHalf (withTerms (tablesIn tables) terms-with) half′ → Halved bs places half′ (n + 1) → Indexed bs (v .place) links′ tables′ (n + 1)
       entered half′ et h =
           rw (ap (λ (c : Columns). c .place) ev)
-          (indexed-more (w .bytes) index-there (w .enters .room) records search-there z half′ terms-with el et termed h)
+          (indexed-more (w .bytes) index-there (w .enters .room) records search-there z half′ terms-with el et terms-noted h)
 
       pub entered-none : found .other ≡ 0 → tables′ ≡ noted → Indexed bs (v .place) links′ tables′ (n + 1)
       entered-none o et = entered (tablesIn tables .half) (ap tablesIn et ∙ en) (halved-none (w .bytes) index-there (w .enters .room) records search-there z o)

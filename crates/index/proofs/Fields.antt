@@ -18,8 +18,8 @@ module _
     (i : Indexed bs (view s .place) links tables n) (t : ℕ) (l : t < n) where
   pub kind-follows : tablesIn tables .terms .kind t ≡ kind f t
   unfolding kind termThere
-  kind-follows = i .kinds t l ∙ sym (term-kind (kindOfThere bs (view s .place) t) _ (there .whole t l .isTerm)) ∙ ap kindOf (same t l)
+  kind-follows = i .noted .kinds t l ∙ sym (term-kind (kindOfThere bs (view s .place) t) _ (there .whole t l .isTerm)) ∙ ap kindOf (same t l)
 
   pub field-follows : (j : ℕ) → j < fieldWords → fieldOf (tablesIn tables .terms) t j ≡ field f t j
   unfolding field
-  field-follows j h = i .fields t j l h ∙ ap (λ (x : Term). getD (fieldsIn x) j 0) (same t l)
+  field-follows j h = i .noted .fields t j l h ∙ ap (λ (x : Term). getD (fieldsIn x) j 0) (same t l)

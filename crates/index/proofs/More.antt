@@ -11,14 +11,14 @@ use Rattle.rules.specs.Limits.{termLimit}
 use Rattle.rules.specs.Term.{publicKeyKind, privateKeyKind, alike}
 use Rattle.rules.specs.State.{put}
 use Rattle.records.proofs.Lengths.{term-kinds}
-use Rattle.tables.specs.Regions.{Unlinked, Terms, fieldOf, Tables, tablesIn, withHalf, withTerms}
+use Rattle.tables.specs.Regions.{Unlinked, Terms, Tables, tablesIn, withHalf, withTerms}
 use Rattle.learning.specs.There.{termThere}
+use Rattle.learning.specs.Noted.{Noted}
 use Rattle.checks.specs.There.{kindOfThere}
 use Rattle.index.specs.declared.Searched.{Searched}
 use Rattle.index.specs.Tree.{Found}
 use Rattle.index.specs.Indexed.{keyThere, sameBy, pairThere, otherHalf, Halves, Unlike, Indexed, SearchResult}
 use Rattle.index.proofs.Found.{at-most, put-same, put-other, found-more}
-use Rattle.index.proofs.Noted.{Termed}
 use Rattle.index.proofs.Same.{not-true, same-true, same-kind, same-key}
 use Rattle.index.proofs.There.{Bytes, Records, alike-there, there-alike, pair-there, there-pair}
 use Rattle.index.proofs.Growing.{grown-tree, grown-met, still-met}
@@ -170,7 +170,7 @@ module _ {bs : List ℕ} (bytes : Bytes bs) {place : ℕ → ℕ} {links tables 
     -- its kind, its words and its halves are noted, and it stands at the free entry
     pub indexed-more :
         {links′ tables′ : List ℕ} (half′ : ℕ → ℕ) (terms′ : Terms) → links′ ≡ set links (found .free) (n + 1) → tablesIn tables′ ≡ withHalf (withTerms (tablesIn tables) terms′) half′
-        → Termed bs place terms′ (n + 1) → Halved bs place half′ (n + 1) → Indexed bs place links′ tables′ (n + 1)
+        → Noted bs place terms′ (n + 1) → Halved bs place half′ (n + 1) → Indexed bs place links′ tables′ (n + 1)
     indexed-more {links′} {tables′} half′ terms′ el et w h =
         let g = f .free none in
         let eh : tablesIn tables′ .half ≡ half′ = ap (λ (v : Tables). v .half) et in
@@ -178,8 +178,7 @@ module _ {bs : List ℕ} (bytes : Bytes bs) {place : ℕ → ℕ} {links tables 
         rw el (record {
           tree = grown-tree (i .tree) few g;
           words = ap (λ (v : Tables). v .words) et ∙ i .words;
-          kinds = λ t l. ap (λ (v : Terms). v .kind t) ew ∙ w .kinds t l;
-          fields = λ t j l m. ap (λ (v : Terms). fieldOf v t j) ew ∙ w .fields t j l m;
+          noted = subst⁻¹ (λ (v : Terms). Noted bs place v (n + 1)) ew w;
           met = at-most n (grown-met (i .tree) few g) (λ t l. still-met (i .tree) few g (key t) (i .met t l));
           unlike = unlike-more;
           halves = rw eh (h .halves);

@@ -11,13 +11,14 @@ use Rattle.records.specs.declared.Words.{Words}
 use Rattle.records.specs.Keys.{keyOf, wordsOf}
 use Rattle.tables.specs.Regions.{fieldWords, Terms, fieldOf, tablesIn}
 use Rattle.learning.specs.There.{termThere}
+use Rattle.learning.specs.Noted.{Noted}
 use Rattle.checks.specs.There.{kindOfThere}
 use Rattle.index.specs.Indexed.{keyThere, keyNoted, termNoted, Indexed, Reached}
 use Rattle.index.proofs.Found.{at-most, put-same, put-other}
 
 pub key-noted : {bs : List ℕ} {place : ℕ → ℕ} {links tables : List ℕ} {n : ℕ} → Indexed bs place links tables n → (t : ℕ) → t < n → keyNoted (tablesIn tables .terms) t ≡ keyThere bs place t
 unfolding keyNoted keyThere keyOf
-key-noted i t l = rw (i .fields t 0 l (omega arith), i .fields t 1 l (omega arith), i .fields t 2 l (omega arith), i .fields t 3 l (omega arith))
+key-noted i t l = rw (i .noted .fields t 0 l (omega arith), i .noted .fields t 1 l (omega arith), i .noted .fields t 2 l (omega arith), i .noted .fields t 3 l (omega arith))
 
 -- so each of the terms is met by what is noted of it
 pub reached : {bs : List ℕ} {place : ℕ → ℕ} {links tables : List ℕ} {n : ℕ} → Indexed bs place links tables n → n ≤ termLimit → Reached (keyNoted (tablesIn tables .terms)) links n
@@ -70,19 +71,15 @@ module _ (v : Terms) (n k : ℕ) (w : Words) where
   field-new xs e (suc (suc (suc zero))) h = put-same three (fieldWords * n + 3) (w .fourth) ∙ ap (λ (x : Words). x .fourth) e
   field-new xs e (suc (suc (suc (suc i)))) h = absurd (omega arith)
 
--- the kinds and the fields of the first n terms, as they are noted
-pub record Termed (bs : List ℕ) (place : ℕ → ℕ) (v : Terms) (n : ℕ) : Type 0 where
-  pub kinds : (t : ℕ) → t < n → v .kind t ≡ kindOfThere bs place t
-  pub fields : (t i : ℕ) → t < n → i < fieldWords → fieldOf v t i ≡ getD (fieldsIn (termThere bs (place t))) i 0
-
-pub termed-more :
+-- one term more
+pub noted-more :
     {bs : List ℕ} {place : ℕ → ℕ} {links tables : List ℕ} {n k : ℕ} {w : Words} → Indexed bs place links tables n → k ≡ kindOfThere bs place n → w ≡ wordsOf (fieldsIn (termThere bs (place n)))
-    → Termed bs place (termNoted (tablesIn tables .terms) n k w) (n + 1)
-termed-more {bs} {place} {links} {tables} {n} {k} {w} i is e =
+    → Noted bs place (termNoted (tablesIn tables .terms) n k w) (n + 1)
+noted-more {bs} {place} {links} {tables} {n} {k} {w} i is e =
     let v = tablesIn tables .terms in
     record {
-      kinds = at-most n (kind-new v n k w ∙ is) (λ t l. kind-kept v n k w t l ∙ i .kinds t l);
+      kinds = at-most n (kind-new v n k w ∙ is) (λ t l. kind-kept v n k w t l ∙ i .noted .kinds t l);
       fields = λ t j l h.
           at-most {P = λ t. fieldOf (termNoted v n k w) t j ≡ getD (fieldsIn (termThere bs (place t))) j 0} n
-          (field-new v n k w (fieldsIn (termThere bs (place n))) e j h) (λ t l. field-kept v n k w t j l h ∙ i .fields t j l h) t l;
+          (field-new v n k w (fieldsIn (termThere bs (place n))) e j h) (λ t l. field-kept v n k w t j l h ∙ i .noted .fields t j l h) t l;
     }

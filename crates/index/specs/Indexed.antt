@@ -13,8 +13,9 @@ use Rattle.state.specs.View.{view}
 use Rattle.records.specs.declared.Words.{Words}
 use Rattle.records.specs.Keys.{keyOf}
 use Rattle.learning.specs.There.{termThere}
-use Rattle.checks.specs.There.{kindOfThere, TermsThere}
-use Rattle.tables.specs.Regions.{fieldWords, tableWords, Unlinked, Terms, fieldOf, tablesIn, withKind, withField}
+use Rattle.learning.specs.Noted.{Noted}
+use Rattle.checks.specs.There.{TermsThere}
+use Rattle.tables.specs.Regions.{tableWords, Unlinked, Terms, fieldOf, tablesIn, withKind, withField}
 use Rattle.index.specs.declared.Searched.{Searched}
 use Rattle.index.specs.Tree.{bucketOf, Met, Tree, Free, Found}
 
@@ -55,8 +56,7 @@ Unlike bs place n = (t u : ℕ) → t < n → u < n → alike (termThere bs (pla
 pub record Indexed (bs : List ℕ) (place : ℕ → ℕ) (links tables : List ℕ) (n : ℕ) : Type 0 where
   pub tree : Tree links n
   pub words : length tables ≡ tableWords
-  pub kinds : (t : ℕ) → t < n → tablesIn tables .terms .kind t ≡ kindOfThere bs place t
-  pub fields : (t i : ℕ) → t < n → i < fieldWords → fieldOf (tablesIn tables .terms) t i ≡ getD (fieldsIn (termThere bs (place t))) i 0
+  pub noted : Noted bs place (tablesIn tables .terms) n
   pub met : (t : ℕ) → t < n → Met links t (getD links (bucketOf (keyThere bs place t)) 0) (keyThere bs place t)
   pub unlike : Unlike bs place n
   pub halves : Halves bs place (tablesIn tables .half) n

@@ -252,7 +252,7 @@ pub fn effect_issue_iak(
     let request = requests::pair_of(file, tables, q);
     let asked = requests::idevid_request_of(file, tables, request.left);
     let ek = loaded::certified_key_of(file, tables, asked.certificate);
-    loaded::learn(file, state, party, r);
+    loaded::learn(file, state, tables, party, r);
     state::note_mark(state, c, rules::CREDENTIAL_CLOSED);
     append(tables, n, r, 1, ek as u16);
     let named = asked.subject;
@@ -282,7 +282,7 @@ pub fn effect_issue(
     let parent = asked.certificate;
     let depth = tables::depth_of(tables, parent);
     let ek = ek_of(tables, parent);
-    loaded::learn(file, state, party, r);
+    loaded::learn(file, state, tables, party, r);
     append(tables, n, r, depth + 1, ek);
     Entry {
         certificate: r as u16,

@@ -1,15 +1,14 @@
 -- The term of a record by the words where they stand.
 --     byte-at, word-at                 what stands in a body, by where it stands in the file
 --     inside                           where the body of a record ends in the file
---     public-key-there to pair-there   the term of a record, one law a kind but for numbers
+--     public-key-there, private-key-there, certificate-there   the term of a record
 --     signer-there                     the field behind a Subject
 --     tpm-byte                         the byte of a Subject
 --     certificate-tpm                  whether a 19 is a TPM's
 --     key-attributes, no-attributes    the attributes of keys; other terms have none
---     no-parts                         terms of other kinds than 13, 14 and 17 to 1A have no parts
 -- Assumes nothing.
-use mathlib.Core.Path.{_≡_, refl, ap, ap₂, subst}
-use mathlib.Core.Bool.{Bool, true, false, cond, _||_}
+use mathlib.Core.Path.{_≡_, refl, ap₂, subst}
+use mathlib.Core.Bool.{Bool, true, false, cond}
 use mathlib.Core.List.{List, [], _∷_}
 use Prim.Native.Nat.{ℕ, suc, _+_, _*_, _-_, _<_, _≤_}
 use native.Mathlib.Omega.{arith}
@@ -19,8 +18,8 @@ use lib.Seq.{getD-take, getD-drop}
 use borrow.Author.Tests.{eqb-true, eqb-false}
 use Rattle.rules.specs.declared.Subject.{Subject}
 use Rattle.rules.specs.declared.Subject.the-variants.{Tpm, Device}
-use Rattle.rules.specs.declared.Term.the-variants.{PublicKey, PrivateKey, Hash, Signature, Attest, Credential, IdevidRequest, LdevidRequest, Certificate, Pair}
-use Rattle.rules.specs.Term.{publicKeyKind, privateKeyKind, hashKind, signatureKind, attestKind, credentialKind, idevidRequestKind, ldevidRequestKind, certificateKind, pairKind, subjectFields, fieldsIn, subjectOf, isTpmSubject, attributesOf, partsOf}
+use Rattle.rules.specs.declared.Term.the-variants.{PublicKey, PrivateKey, Certificate}
+use Rattle.rules.specs.Term.{publicKeyKind, privateKeyKind, certificateKind, subjectFields, fieldsIn, subjectOf, isTpmSubject, attributesOf}
 use Rattle.rules.specs.Attributes.{noAttributes}
 use Rattle.rules.specs.Record.{sectionOf, fieldsOf, bodyLength, width, widths, word}
 use Rattle.rules.specs.Load.{termAt, subjectAt}
@@ -47,10 +46,6 @@ behind : (s : Subject) (xs : List ℕ) (i : ℕ) → getD (subjectFields s xs) (
 unfolding subjectFields
 behind (Tpm n) xs i = refl
 behind (Device n) xs i = refl
-
--- the kinds of terms that have parts
-abbrev pub hasParts : ℕ → Bool
-hasParts k = eqb k signatureKind || eqb k attestKind || eqb k idevidRequestKind || eqb k ldevidRequestKind || eqb k certificateKind || eqb k pairKind
 
 module _ (bs : List ℕ) (at : ℕ) where
   -- what stands in the first n bytes of a body
@@ -87,45 +82,10 @@ module _ (bs : List ℕ) (at : ℕ) where
   unfolding termThere termAt bodyLength widths width fieldsOf sectionOf
   private-key-there e = rw e (λ x. PrivateKey (word-at 3 0 (omega arith) x) (record { bits = byte-at 3 2 (omega arith) x }))
 
-  -- 12 (term)
-  pub hash-there : kindThere bs at ≡ hashKind → termThere bs at ≡ Hash (word bs (at + 1))
-  unfolding termThere termAt bodyLength widths width fieldsOf sectionOf
-  hash-there e = rw e (λ x. Hash (word-at 2 0 (omega arith) x))
-
-  -- 13 (message, private key)
-  pub signature-there : kindThere bs at ≡ signatureKind → termThere bs at ≡ Signature (word bs (at + 1)) (word bs (at + 3))
-  unfolding termThere termAt bodyLength widths width fieldsOf sectionOf
-  signature-there e = rw e (λ x. Signature (word-at 4 0 (omega arith) x) (word-at 4 2 (omega arith) x))
-
-  -- 14 (public key)
-  pub attest-there : kindThere bs at ≡ attestKind → termThere bs at ≡ Attest (word bs (at + 1))
-  unfolding termThere termAt bodyLength widths width fieldsOf sectionOf
-  attest-there e = rw e (λ x. Attest (word-at 2 0 (omega arith) x))
-
-  -- 15 (term, number, public key)
-  pub credential-there : kindThere bs at ≡ credentialKind → termThere bs at ≡ Credential (word bs (at + 1)) (word bs (at + 3)) (word bs (at + 5))
-  unfolding termThere termAt bodyLength widths width fieldsOf sectionOf
-  credential-there e = rw e (λ x. Credential (word-at 6 0 (omega arith) x) (word-at 6 2 (omega arith) x) (word-at 6 4 (omega arith) x))
-
-  -- 17 (Subject, certificate, public key)
-  pub idevid-request-there : kindThere bs at ≡ idevidRequestKind → termThere bs at ≡ IdevidRequest (subjectAt bs (at + 1)) (word bs (at + 4)) (word bs (at + 6))
-  unfolding termThere termAt bodyLength widths width fieldsOf sectionOf
-  idevid-request-there e = rw e (λ x. IdevidRequest (subject-at 7 0 (omega arith) x) (word-at 7 3 (omega arith) x) (word-at 7 5 (omega arith) x))
-
-  -- 18 (term, certificate)
-  pub ldevid-request-there : kindThere bs at ≡ ldevidRequestKind → termThere bs at ≡ LdevidRequest (word bs (at + 1)) (word bs (at + 3))
-  unfolding termThere termAt bodyLength widths width fieldsOf sectionOf
-  ldevid-request-there e = rw e (λ x. LdevidRequest (word-at 4 0 (omega arith) x) (word-at 4 2 (omega arith) x))
-
   -- 19 (public key, Subject, private key)
   pub certificate-there : kindThere bs at ≡ certificateKind → termThere bs at ≡ Certificate (word bs (at + 1)) (subjectAt bs (at + 3)) (word bs (at + 6))
   unfolding termThere termAt bodyLength widths width fieldsOf sectionOf
   certificate-there e = rw e (λ x. Certificate (word-at 7 0 (omega arith) x) (subject-at 7 2 (omega arith) x) (word-at 7 5 (omega arith) x))
-
-  -- 1A (term, term)
-  pub pair-there : kindThere bs at ≡ pairKind → termThere bs at ≡ Pair (word bs (at + 1)) (word bs (at + 3))
-  unfolding termThere termAt bodyLength widths width fieldsOf sectionOf
-  pair-there e = rw e (λ x. Pair (word-at 4 0 (omega arith) x) (word-at 4 2 (omega arith) x))
 
   -- the field behind the Subject of a 19
   pub signer-there : kindThere bs at ≡ certificateKind → getD (fieldsIn (termThere bs at)) 3 0 ≡ word bs (at + 6)
@@ -154,13 +114,3 @@ module _ (bs : List ℕ) (at : ℕ) where
   no-attributes r l =
       let b : List ℕ = take (bodyLength (kindThere bs at)) (drop (at + 1) bs) in
       agree (λ k. attributesOf (termAt k b)) (λ k. noAttributes) 0x12 9 refl (kindThere bs at) (omega arith) (omega (arith, term-kinds (kindThere bs at) (r .isTerm) .1))
-
-  -- a record of another kind than 13, 14 and 17 to 1A has no parts
-  pub no-parts : TermRecord bs at → hasParts (kindThere bs at) ≡ false → partsOf (termThere bs at) ≡ []
-  unfolding termThere termAt partsOf
-  no-parts r e =
-      let h = term-kinds (kindThere bs at) (r .isTerm) in
-      let b : List ℕ = take (bodyLength (kindThere bs at)) (drop (at + 1) bs) in
-      let f : ℕ → List ℕ = λ k. cond (hasParts k) [] (partsOf (termAt k b)) in
-      let l : f (kindThere bs at) ≡ [] = agree f (λ k. []) 0x10 11 refl (kindThere bs at) (h .0) (omega (arith, h .1)) in
-      rw e at l

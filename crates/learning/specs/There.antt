@@ -1,15 +1,13 @@
--- The term of a record at a place of the file, and what learning needs of the file and the state.
+-- The term of a record at a place of the file, and what learning it leaves.
 use mathlib.Core.Path.{_≡_}
-use mathlib.Core.List.{List, List·Memᴰ}
-use Prim.Native.Nat.{ℕ, suc, _+_, _*_, _<_, _≤_}
+use mathlib.Core.List.{List}
+use Prim.Native.Nat.{ℕ, suc, _+_, _<_, _≤_}
 use lib.ListN.{length, getD, take, drop}
 use Rattle.rules.specs.declared.Term.{Term}
-use Rattle.rules.specs.Limits.{rowWidth, partyLimit}
 use Rattle.rules.specs.Term.{partsOf}
 use Rattle.rules.specs.Record.{sectionOf, bodyLength, termSection}
 use Rattle.rules.specs.Load.{termAt}
-use Rattle.rules.specs.Learning.{Knowledge, opened, each}
-use Rattle.state.specs.View.{view}
+use Rattle.rules.specs.Learning.{Knowledge, opened}
 
 -- the kind byte at a place
 abbrev pub kindThere : List ℕ → ℕ → ℕ
@@ -32,14 +30,3 @@ partsThere bs place u = partsOf (termThere bs (place u))
 -- party p learns t, by the terms' records
 unfoldable pub learnThere : List ℕ → (ℕ → ℕ) → ℕ → ℕ → Knowledge → Knowledge
 learnThere bs place p t known = opened (partsThere bs place) p (suc t) t known
-
--- party p learns each part of t
-unfoldable pub learnPartsThere : List ℕ → (ℕ → ℕ) → ℕ → ℕ → Knowledge → Knowledge
-learnPartsThere bs place p t known = each (learnThere bs place p) (partsThere bs place t) known
-
--- what learning t needs: room for its row; whole records up to t, each of which has lower parts
-pub record Ready (bs s : List ℕ) (p t : ℕ) : Type 0 where
-  pub party : p < partyLimit
-  pub room : rowWidth * t + rowWidth ≤ length s
-  pub whole : (u : ℕ) → u ≤ t → TermRecord bs (view s .place u)
-  pub lower : (u v : ℕ) → u ≤ t → List·Memᴰ v (partsThere bs (view s .place) u) → v < u

@@ -11,7 +11,7 @@ ghost use Rattle.rules.specs.Term.{idevidRequestKind, certificateKind};
 ghost use Rattle.rules.specs.File.{isRole, isKind, term, kind, field, attributes, hashedTerm, message, signingKey, attestedKey, credentialTerm, credentialNumber, credentialKey, idevidCertificate, idevidKey, ldevidMessage, ldevidCertificate, certifiedKey, signer, leftOf, rightOf};
 ghost use Rattle.rules.specs.Device.{keyHas};
 ghost use Rattle.tables.specs.Regions.{fieldWords, tablesIn};
-ghost use Rattle.loaded.specs.Loaded.{fileIn, Holds, PartyHere, TermNoted, subjectBy, Learns};
+ghost use Rattle.loaded.specs.Loaded.{fileIn, Holds, Finds, PartyHere, TermNoted, subjectBy, Learns};
 
 // Whether a party has a role.
 pub fn is_role(file: &[u8], party: usize, role: u8) -> bool
@@ -215,12 +215,12 @@ pub fn is_half(tables: &[u16; tables::WORDS], key: usize, half: usize) -> bool
 }
 
 // A party learns a term and everything in it; one that it knows needs no opening.
-pub fn learn(file: &[u8], state: &mut [u8], party: usize, t: usize)
-    requires { ⌜ Holds (now file) (now state) × (party < length (fileIn (now file) .roles)) × (t < length (fileIn (now file) .terms)) ⌝ }
+pub fn learn(file: &[u8], state: &mut [u8], tables: &[u16; tables::WORDS], party: usize, t: usize)
+    requires { ⌜ Holds (now file) (now state) × (party < length (fileIn (now file) .roles)) × (t < length (fileIn (now file) .terms)) × Finds (now file) (now tables) ⌝ }
     ensures { λ _. ⌜ Learns (now (file .entry)) (now (state .entry)) (now (state .exit)) party t ⌝ }
 {
     if state::knows(state, party, t) {
         return;
     }
-    learning::learn_term(file, state, party, t);
+    learning::learn_term(tables, state, party, t);
 }

@@ -8,7 +8,7 @@ use mathlib.Core.Path.{_≡_, refl, sym, ap, subst, subst⁻¹, _∙_}
 use mathlib.Core.Bool.{Bool, true, false, cond, _&&_, _||_}
 use mathlib.Core.Logic.{inl, inr}
 use mathlib.Core.List.{List, [], _∷_, _++_, List·Memᴰ, List·Memᴰ·head, List·Memᴰ·tail}
-use Prim.Native.Nat.{ℕ, zero, suc, _+_, _*_, _<_, _≤_}
+use Prim.Native.Nat.{ℕ, suc, _+_, _*_, _<_, _≤_}
 use native.Mathlib.Omega.{arith}
 use native.Mathlib.Decide.{decLt}
 use lib.Dec.{eqb, leb}
@@ -22,7 +22,7 @@ use Rattle.rules.specs.Term.{partsOf}
 use Rattle.rules.specs.Record.{lastKind, width, widths, fieldsOf, sectionOf, bodyLength, word, partySection, termSection, setupSection, commandSection}
 use Rattle.rules.specs.File.{File, Setup, learns, holds, signsWith, Command, term, parts, roleOf, holdsKey, someSetup, isHold}
 use Rattle.rules.specs.Load.{termAt, setupAt, commandAt, sectionFault, countFault, fieldsFault, recordFault, withParty, withTerm, withSetup, withCommand, enter, emptyFile}
-use Rattle.rules.specs.Learning.{Knowledge, grant, each, opened, learn}
+use Rattle.rules.specs.Learning.{grant, each, opened, learn}
 use Rattle.rules.specs.State.{nothing, taught, put}
 use Rattle.theorems.proofs.Loading.{Good, Checked, good-checked, entered}
 use Rattle.theorems.proofs.LoadingFields.{first-zero, refuse-zero, passed, AllPassed, Each, within}
@@ -33,6 +33,7 @@ use Rattle.theorems.proofs.Terms.{declared}
 use Rattle.state.specs.View.{Columns, view, withKnows, withTable, withPlace}
 use Rattle.state.proofs.Exact.{view-zero}
 use Rattle.learning.specs.There.{termThere, TermRecord, partsThere, learnThere}
+use Rattle.learning.proofs.Opening.{opened-same}
 use Rattle.checks.specs.There.{roleThere, TermsThere}
 use Rattle.setup.specs.Allowed.{noKey, setupLeaves, signersLeave}
 use Rattle.scan.specs.declared.Tally.{Tally}
@@ -44,21 +45,6 @@ eqb-swap a b = go (eqb a b) refl
     go : (t : Bool) → eqb a b ≡ t → eqb a b ≡ eqb b a
     go true e = e ∙ sym (eq-eqb b a (sym (eqb-true a b e)))
     go false e = e ∙ sym (ne-eqb b a (λ h. eqb-false a b e (sym h)))
-
--- learning depends only on the parts of the terms up to the one learnt
-each-same : (act act′ : ℕ → Knowledge → Knowledge) (us : List ℕ) → ((a : ℕ) → List·Memᴰ a us → (k : Knowledge) → act a k ≡ act′ a k) → (k : Knowledge) → each act us k ≡ each act′ us k
-unfolding each
-each-same act act′ [] h k = refl
-each-same act act′ (u ∷ us) h k = ap (each act us) (h u (List·Memᴰ·head refl) k) ∙ each-same act act′ us (λ a m. h a (List·Memᴰ·tail m)) (act′ u k)
-
-module _ (ps qs : ℕ → List ℕ) (m : ℕ) (same : (u : ℕ) → u < m → ps u ≡ qs u) (low : (u v : ℕ) → u < m → List·Memᴰ v (ps u) → v < u) where
-  pub opened-same : (p n t : ℕ) → t < m → (k : Knowledge) → opened ps p n t k ≡ opened qs p n t k
-  unfolding opened
-  opened-same p zero t h k = refl
-  opened-same p (suc n) t h k =
-      ap (cond (k p t) k)
-      (each-same (opened ps p n) (opened qs p n) (ps t) (λ a i. opened-same p n a (omega (arith, low t a h i))) (grant k p t)
-      ∙ ap (λ (us : List ℕ). each (opened qs p n) us (grant k p t)) (same t h))
 
 -- a file with the same terms teaches the same
 taught-parts : (f f′ : File) → parts f ≡ parts f′ → (xs : List Setup) → taught f xs ≡ taught f′ xs

@@ -91,7 +91,7 @@ fn enter(
     if section == 3 {
         let parties = n.parties;
         let terms = n.terms;
-        return setup::enter_setup(file, state, signers, body, kind, parties, terms);
+        return setup::enter_setup(file, state, tables, signers, body, kind, parties, terms);
     }
     0
 }

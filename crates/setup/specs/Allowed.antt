@@ -12,8 +12,10 @@ use Rattle.rules.specs.File.{Setup, learns, holds, signsWith}
 use Rattle.rules.specs.Record.{sectionOf, setupSection, word}
 use Rattle.rules.specs.Load.{refuseUnless}
 use Rattle.rules.specs.Learning.{grant}
-use Rattle.state.specs.View.{Columns, inOther, withKnows, withTable}
+use Rattle.state.specs.View.{Columns, view, inOther, withKnows, withTable}
+use Rattle.tables.specs.Regions.{tablesIn}
 use Rattle.learning.specs.There.{termThere, learnThere}
+use Rattle.learning.specs.Noted.{Noted}
 use Rattle.checks.specs.There.{roleThere, kindOfThere, TermsThere}
 
 -- no signing key
@@ -62,9 +64,10 @@ signersLeave signers (learns p t) = signers
 signersLeave signers (holds p k) = signers
 signersLeave signers (signsWith p k) = set signers p k
 
--- what entering a set-up record needs: its fields are right
-pub record EntersSetup (bs s body : List ℕ) (kind parties terms : ℕ) : Type 0 where
+-- what entering a set-up record needs: the terms, which the tables have; its fields are right
+pub record EntersSetup (bs s tables body : List ℕ) (kind parties terms : ℕ) : Type 0 where
   pub there : TermsThere bs s terms
+  pub noted : Noted bs (view s .place) (tablesIn tables .terms) terms
   pub isSetup : sectionOf kind ≡ setupSection
   pub fewParties : parties ≤ partyLimit
   pub partiesWhole : 2 * parties ≤ length bs

@@ -109,13 +109,14 @@ pub fn may_sign(
 pub fn enter_setup(
     file: &[u8],
     state: &mut [u8],
+    tables: &[u16; tables::WORDS],
     signers: &mut [u16; 8],
     body: &[u8],
     kind: u8,
     parties: usize,
     terms: usize,
 ) -> u8
-    requires { ⌜ EntersSetup (now file) (now state) (now body) kind parties terms ⌝ }
+    requires { ⌜ EntersSetup (now file) (now state) (now tables) (now body) kind parties terms ⌝ }
     ensures refusal { λ r. ⌜ r ≡ allowedThere (now (file .entry)) (view (now (state .entry))) (now (signers .entry)) parties (setupAt kind (now (body .entry))) ⌝ }
     ensures left { λ r. ⌜ view (now (state .exit)) ≡ cond (eqb r 0) (setupLeaves (now (file .entry)) (view (now (state .entry))) (setupAt kind (now (body .entry)))) (view (now (state .entry))) ⌝ }
     ensures keys { λ r. ⌜ now (signers .exit) ≡ cond (eqb r 0) (signersLeave (now (signers .entry)) (setupAt kind (now (body .entry)))) (now (signers .entry)) ⌝ }
@@ -128,7 +129,7 @@ pub fn enter_setup(
             if state::knows(state, party, t) {
                 return 0;
             }
-            learn_term(file, state, party, t);
+            learn_term(tables, state, party, t);
             return 0;
         }
         return 10;

@@ -17,7 +17,7 @@ learn-requires : tie.Need-learn-requires
 learn-requires c κs =
     let p = c .before .before .before .before .pre in
     let l = kind-declared _ (p .1 .1) (λ x. omega arith) in
-    (p .0, p .1 .0, l)
+    (p .0, p .1 .0, l, p .2)
 
 note-mark-requires : tie.Need-note-mark-requires
 note-mark-requires c κs =

@@ -13,7 +13,7 @@ credential-number-of-requires c κs = let p = c .before .before .pre in term-not
 learn-requires : tie.Need-learn-requires
 learn-requires c κs =
     let p = c .before .before .before .before .pre in
-    (p .0, p .1 .0, rw (c .before .credential-number-of .ensures) (credential-number-declared (checked-here (p .0)) (kind-declared _ (p .1 .1) (λ q. omega arith)) (p .1 .1)))
+    (p .0, p .1 .0, rw (c .before .credential-number-of .ensures) (credential-number-declared (checked-here (p .0)) (kind-declared _ (p .1 .1) (λ q. omega arith)) (p .1 .1)), p .2)
 
 same-length : tie.Need-same-length
 same-length c = search needs

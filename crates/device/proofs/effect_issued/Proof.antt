@@ -27,7 +27,7 @@ cast-r : tie.Need-cast-r
 cast-r c = search needs
 
 learn-requires : tie.Need-learn-requires
-learn-requires c κs = let p = c .before .before .before .before .before .pre in let g = known-as (p .1) (one-read selfIssue (self-issue-there _ _ (p .2)) (c .before .word-at .ensures)) in (p .0, g .0, kind-declared _ (g .1) (λ q. omega arith))
+learn-requires c κs = let p = c .before .before .before .before .before .pre in let g = known-as (p .1) (one-read selfIssue (self-issue-there _ _ (p .2)) (c .before .word-at .ensures)) in (p .0, g .0, kind-declared _ (g .1) (λ q. omega arith), p .3)
 
 same-length : tie.Need-same-length
 same-length c = search needs

@@ -34,7 +34,7 @@ effect-activate-requires : tie.Need-effect-activate-requires
 effect-activate-requires c κs = let p = c .before .before .before .before .before .before .pre in (p .0, known-as (p .1) (one-read activateCredential (activate-there _ _ (p .2 ∙ c .before .match .keys2)) (c .before .before .word-at .ensures)), p .5)
 
 learn-requires : tie.Need-learn-requires
-learn-requires c κs = let p = c .before .before .before .before .before .before .pre in let g = made-known (p .1) (omega arith) (omega arith) in (p .0, g .0, rw (c .before .before .word-at .ensures) (g .1))
+learn-requires c κs = let p = c .before .before .before .before .before .before .pre in let g = made-known (p .1) (omega arith) (omega arith) in (p .0, g .0, rw (c .before .before .word-at .ensures) (g .1), p .5)
 
 same-length : tie.Need-same-length
 same-length c = search needs

@@ -28,7 +28,7 @@ cast-t : tie.Need-cast-t
 cast-t c = search needs
 
 learn-requires : tie.Need-learn-requires
-learn-requires c κs = let p = c .before .before .before .before .before .pre in let g = known-as (p .1) (two-read send (send-there _ _ (p .2)) refl (c .before .word-at .ensures)) in (p .0, g .1, g .2)
+learn-requires c κs = let p = c .before .before .before .before .before .pre in let g = known-as (p .1) (two-read send (send-there _ _ (p .2)) refl (c .before .word-at .ensures)) in (p .0, g .1, g .2, p .3)
 
 same-length : tie.Need-same-length
 same-length c = search needs

@@ -37,54 +37,54 @@ ek-of-requires c κs =
 
 learn-requires : tie.Need-learn-requires
 learn-requires c κs =
-    let p = c .before .before .before .before .before .before .before .before .before .before .before .pre in
-    (p .0, p .1 .wellformed .0, kind-declared _ (p .1 .wellformed .1) (λ x. omega arith))
+    let p = c .before .before .before .before .before .before .before .before .before .before .before .before .pre in
+    (p .0, p .1 .wellformed .0, kind-declared _ (p .1 .wellformed .1) (λ x. omega arith), p .1 .finds)
 
 add-append : tie.Need-add-append
 add-append c =
-    let p = c .before .before .before .before .before .before .before .before .before .before .before .before .before .before .before .pre in
-    let t = request-accepted (p .1) in
-    let d = c .before .before .before .before .before .before .before .depth-of .ensures ∙ p .1 .accepts .enters .depth _ in
-    let k = rw (c .before .before .before .before .before .before .before .before .before .ldevid-request-of .ensures .1, c .before .before .before .before .before .before .before .before .before .before .before .pair-of .ensures .0) at d in
-    omega (arith, k, t .depth)
-
-append-requires : tie.Need-append-requires
-append-requires c κs =
-    let p = c .before .before .before .before .before .before .before .before .before .before .before .before .before .before .before .pre in
-    let t = request-accepted (p .1) in
-    let few = checked-here (p .0) .fewTerms in
-    let l = kind-declared _ (p .1 .wellformed .1) (λ x. omega arith) in
-    let m = ldevid-certificate-declared (checked-here (p .0)) (left-declared (checked-here (p .0)) (p .1 .wellformed .2) (t .parent .pair)) (t .parent .body) in
-    (p .1 .finds .words, p .1 .accepts .more, omega (arith, few, l))
-
-cast-t21 : tie.Need-cast-t21
-cast-t21 c =
-    let p = c .before .before .before .before .before .before .before .before .before .before .before .before .before .before .before .before .pre in
-    let few = checked-here (p .0) .fewTerms in
-    let l = kind-declared _ (p .1 .wellformed .1) (λ x. omega arith) in
-    omega (arith, few, l)
-
-cast-t22 : tie.Need-cast-t22
-cast-t22 c =
-    let p = c .before .before .before .before .before .before .before .before .before .before .before .before .before .before .before .before .pre in
-    let t = request-accepted (p .1) in
-    let few = checked-here (p .0) .fewTerms in
-    let m = ldevid-certificate-declared (checked-here (p .0)) (left-declared (checked-here (p .0)) (p .1 .wellformed .2) (t .parent .pair)) (t .parent .body) in
-    rw (c .before .before .before .before .before .before .before .before .before .before .ldevid-request-of .ensures .1, c .before .before .before .before .before .before .before .before .before .before .before .before .pair-of .ensures .0) (omega (arith, few, m))
-
-add-t23 : tie.Need-add-t23
-add-t23 c =
     let p = c .before .before .before .before .before .before .before .before .before .before .before .before .before .before .before .before .pre in
     let t = request-accepted (p .1) in
     let d = c .before .before .before .before .before .before .before .before .depth-of .ensures ∙ p .1 .accepts .enters .depth _ in
     let k = rw (c .before .before .before .before .before .before .before .before .before .before .ldevid-request-of .ensures .1, c .before .before .before .before .before .before .before .before .before .before .before .before .pair-of .ensures .0) at d in
     omega (arith, k, t .depth)
 
+append-requires : tie.Need-append-requires
+append-requires c κs =
+    let p = c .before .before .before .before .before .before .before .before .before .before .before .before .before .before .before .before .pre in
+    let t = request-accepted (p .1) in
+    let few = checked-here (p .0) .fewTerms in
+    let l = kind-declared _ (p .1 .wellformed .1) (λ x. omega arith) in
+    let m = ldevid-certificate-declared (checked-here (p .0)) (left-declared (checked-here (p .0)) (p .1 .wellformed .2) (t .parent .pair)) (t .parent .body) in
+    (p .1 .finds .words, p .1 .accepts .more, omega (arith, few, l))
+
+cast-t22 : tie.Need-cast-t22
+cast-t22 c =
+    let p = c .before .before .before .before .before .before .before .before .before .before .before .before .before .before .before .before .before .pre in
+    let few = checked-here (p .0) .fewTerms in
+    let l = kind-declared _ (p .1 .wellformed .1) (λ x. omega arith) in
+    omega (arith, few, l)
+
+cast-t23 : tie.Need-cast-t23
+cast-t23 c =
+    let p = c .before .before .before .before .before .before .before .before .before .before .before .before .before .before .before .before .before .pre in
+    let t = request-accepted (p .1) in
+    let few = checked-here (p .0) .fewTerms in
+    let m = ldevid-certificate-declared (checked-here (p .0)) (left-declared (checked-here (p .0)) (p .1 .wellformed .2) (t .parent .pair)) (t .parent .body) in
+    rw (c .before .before .before .before .before .before .before .before .before .before .before .ldevid-request-of .ensures .1, c .before .before .before .before .before .before .before .before .before .before .before .before .before .pair-of .ensures .0) (omega (arith, few, m))
+
+add-t24 : tie.Need-add-t24
+add-t24 c =
+    let p = c .before .before .before .before .before .before .before .before .before .before .before .before .before .before .before .before .before .pre in
+    let t = request-accepted (p .1) in
+    let d = c .before .before .before .before .before .before .before .before .before .depth-of .ensures ∙ p .1 .accepts .enters .depth _ in
+    let k = rw (c .before .before .before .before .before .before .before .before .before .before .before .ldevid-request-of .ensures .1, c .before .before .before .before .before .before .before .before .before .before .before .before .before .pair-of .ensures .0) at d in
+    omega (arith, k, t .depth)
+
 same-length : tie.Need-same-length
 same-length c = search needs
 
 returns : tie.Need-returns
-returns c = request-issued (c .before .before .before .before .before .before .before .before .before .before .before .before .before .before .before .before .pre .1) (c .before .before .before .before .before .before .before .before .before .before .before .before .pair-of .ensures .0) (c .before .before .before .before .before .before .before .before .before .before .ldevid-request-of .ensures .1) (c .before .before .before .before .before .before .before .before .depth-of .ensures) (c .before .before .before .before .before .before .ek-of .ensures) (c .before .before .before .before .learn .ensures) (c .append .ensures)
+returns c = request-issued (c .before .before .before .before .before .before .before .before .before .before .before .before .before .before .before .before .before .pre .1) (c .before .before .before .before .before .before .before .before .before .before .before .before .before .pair-of .ensures .0) (c .before .before .before .before .before .before .before .before .before .before .before .ldevid-request-of .ensures .1) (c .before .before .before .before .before .before .before .before .before .depth-of .ensures) (c .before .before .before .before .before .before .before .ek-of .ensures) (c .before .before .before .before .learn .ensures) (c .append .ensures)
 
 pub effect-issue-spec : {M : Type 1} → statement M
-effect-issue-spec = tie.close (tie.spec pair-of-requires ldevid-request-of-requires depth-of-requires ek-of-requires learn-requires add-append append-requires cast-t21 cast-t22 add-t23 same-length returns)
+effect-issue-spec = tie.close (tie.spec pair-of-requires ldevid-request-of-requires depth-of-requires ek-of-requires learn-requires add-append append-requires cast-t22 cast-t23 add-t24 same-length returns)

@@ -8,24 +8,23 @@ use mathlib.Core.List.{[], _∷_}
 use lib.ListN.{length}
 use Prim.Native.Nat.{ℕ, _+_, _*_, _<_}
 use native.Mathlib.Omega.{arith}
-use native.Mathlib.Nat.{le-refl}
 use borrow.Fn.Kinds.{In}
 use borrow.Fn.PlainCycle.{Measures, is, falls, and}
 use Rattle.records.specs.declared.Parts.{Parts}
 use Rattle.records.specs.Parts.{listed}
 use Rattle.state.specs.View.{view}
-use Rattle.learning.specs.There.{partsThere, Ready}
-use Rattle.learning.proofs.Opening.{learned, learn-known, learn-new, parts-none, parts-one, parts-two, lower-one, lower-two, ready-part, ready-granted, ready-learned, seen}
+use Rattle.tables.specs.Regions.{tablesIn}
+use Rattle.learning.specs.Noted.{partsNoted, Ready}
+use Rattle.learning.proofs.Opening.{learned, learn-known, learn-new, parts-none, parts-one, parts-two, lower-one, lower-two, ready-part, ready-after}
 use Rattle.learning.proofs.learn_parts.Reads as learn-parts
 use Rattle.learning.proofs.learn_parts.Kinds as learn-parts-kinds
 use Rattle.learning.proofs.+learn_parts+learn_term.Lts-learn_parts as learn-parts-lts
 use Rattle.learning.proofs.learn_term.Reads as learn-term
 use Rattle.learning.proofs.learn_term.Kinds as learn-term-kinds
 use Rattle.learning.proofs.+learn_parts+learn_term.Lts-learn_term as learn-term-lts
-use Rattle.learning.proofs.parts_at.Reads as parts-at-reads
+use Rattle.learning.proofs.parts_of.Reads as parts-of-reads
 use Rattle.state.proofs.knows.Reads as knows-reads
 use Rattle.state.proofs.note_known.Reads as note-known-reads
-use Rattle.state.proofs.place_of.Reads as place-of-reads
 use Rattle.learning.proofs.+learn_parts+learn_term.{statement}
 use Rattle.learning.proofs.+learn_parts+learn_term.Tie.{close}
 
@@ -54,10 +53,8 @@ learn-term-below t =
 -- what `learn_parts` and `learn_term` are told of their callees
 abbrev P : ℕ → learn-parts-lts.Claims
 P t = (
-  place-of-reads.Asked,
-  place-of-reads.Learnt,
-  parts-at-reads.Asked,
-  parts-at-reads.Learnt,
+  parts-of-reads.Asked,
+  parts-of-reads.Learnt,
   knows-reads.Asked,
   knows-reads.Learnt,
   learn-term-below t,
@@ -75,11 +72,8 @@ T t = (
 )
 
 module _ (t : ℕ) where
-  parts-place-of-requires : learn-parts-lts.Need-place-of-requires (P t) (learn-parts-at t) learn-parts.Post
-  parts-place-of-requires c κs = c .before .before .before .pre .1 .room
-
-  parts-parts-at-requires : learn-parts-lts.Need-parts-at-requires (P t) (learn-parts-at t) learn-parts.Post
-  parts-parts-at-requires c κs = rw (c .place-of .ensures) (c .before .before .before .before .pre .1 .whole _ (le-refl _))
+  parts-parts-of-requires : learn-parts-lts.Need-parts-of-requires (P t) (learn-parts-at t) learn-parts.Post
+  parts-parts-of-requires c κs = c .before .pre .1 .few
 
   parts-enum-told : learn-parts-lts.Need-enum-told (P t) (learn-parts-at t) learn-parts.Post
   parts-enum-told c = search needs
@@ -91,39 +85,39 @@ module _ (t : ℕ) where
   parts-cast-first c = search needs
 
   -- the parts that the match found are those of t
-  found : (b : learn-parts-lts.After-parts-at (P t) (learn-parts-at t) learn-parts.Post) {q : Parts} → b .parts-at .result ≡ q
-      → let a = b .before .before .before .before .before .args in partsThere (a .file .now) (view (a .state .now) .place) (a .t) ≡ listed q
+  found : (b : learn-parts-lts.After-parts-of (P t) (learn-parts-at t) learn-parts.Post) {q : Parts} → b .parts-of .result ≡ q
+      → let a = b .before .before .args in partsNoted (tablesIn (a .tables .now) .terms) (a .t) ≡ listed q
   found b e =
-      seen _ _ _ (b .before .place-of .ensures) (sym (ap listed e) ∙ b .parts-at .ensures)
+      sym (sym (ap listed e) ∙ b .parts-of .ensures)
 
   -- one part, and two
   one : (b : learn-parts-lts.After-a (P t) (learn-parts-at t) learn-parts.Post)
-      → let a = b .before .before .before .before .before .before .before .args in partsThere (a .file .now) (view (a .state .now) .place) (a .t) ≡ b .a .given .0 .0 ∷ []
+      → let a = b .before .before .before .before .args in partsNoted (tablesIn (a .tables .now) .terms) (a .t) ≡ b .a .given .0 .0 ∷ []
   one b = found (b .before .before) (b .a .given .1)
 
   two : (b : learn-parts-lts.After-a2 (P t) (learn-parts-at t) learn-parts.Post)
-      → let a = b .before .before .before .before .before .before .before .args in partsThere (a .file .now) (view (a .state .now) .place) (a .t) ≡ b .a2 .given .0 .0 ∷ b .a2 .given .0 .1 .0 ∷ []
+      → let a = b .before .before .before .before .args in partsNoted (tablesIn (a .tables .now) .terms) (a .t) ≡ b .a2 .given .0 .0 ∷ b .a2 .given .0 .1 .0 ∷ []
   two b = found (b .before .before) (b .a2 .given .1)
 
   -- each can be learnt
   one-ready : (b : learn-parts-lts.After-a (P t) (learn-parts-at t) learn-parts.Post)
-      → let a = b .before .before .before .before .before .before .before .args in (b .a .given .0 .0 < a .t) × Ready (a .file .now) (a .state .now) (a .party) (b .a .given .0 .0)
+      → let a = b .before .before .before .before .args in (b .a .given .0 .0 < a .t) × Ready (tablesIn (a .tables .now) .terms) (a .state .now) (a .party) (b .a .given .0 .0)
   one-ready b =
-      let r = b .before .before .before .before .before .before .before .pre .1 in
+      let r = b .before .before .before .before .pre .1 in
       let l = lower-one r (one b) in
-      (l, ready-part _ r l)
+      (l, ready-part r _ l)
 
   first-ready : (b : learn-parts-lts.After-a2 (P t) (learn-parts-at t) learn-parts.Post)
-      → let a = b .before .before .before .before .before .before .before .args in (b .a2 .given .0 .0 < a .t) × Ready (a .file .now) (a .state .now) (a .party) (b .a2 .given .0 .0)
+      → let a = b .before .before .before .before .args in (b .a2 .given .0 .0 < a .t) × Ready (tablesIn (a .tables .now) .terms) (a .state .now) (a .party) (b .a2 .given .0 .0)
   first-ready b =
-      let r = b .before .before .before .before .before .before .before .pre .1 in
+      let r = b .before .before .before .before .pre .1 in
       let l = lower-two r (two b) .0 in
-      (l, ready-part _ r l)
+      (l, ready-part r _ l)
 
   -- the first of two was known or is learnt
   first-learnt : (b : learn-parts-lts.Joined2 (P t) (learn-parts-at t) learn-parts.Post)
-      → let a = b .before .before .before .before .before .before .before .before .before .before .before .args in
-      (length (b .if2 .state) ≡ length (a .state .now)) × (view (b .if2 .state) ≡ learned (a .file .now) (a .party) (b .before .before .before .before .a2 .given .0 .0) (view (a .state .now)))
+      → let a = b .before .before .before .before .before .before .before .before .args in
+      (length (b .if2 .state) ≡ length (a .state .now)) × (view (b .if2 .state) ≡ learned (tablesIn (a .tables .now) .terms) (a .party) (b .before .before .before .before .a2 .given .0 .0) (view (a .state .now)))
   first-learnt b =
       ⊎-elim
       (λ w. (ap length (w .5) ∙ w .2 .kept .1 .0, ap view (w .5) ∙ w .2 .ensures))
@@ -131,18 +125,18 @@ module _ (t : ℕ) where
       (b .if2 .came)
 
   second-ready : (b : learn-parts-lts.Joined2 (P t) (learn-parts-at t) learn-parts.Post)
-      → let a = b .before .before .before .before .before .before .before .before .before .before .before .args in
-      (b .before .before .before .before .a2 .given .0 .1 .0 < a .t) × Ready (a .file .now) (b .if2 .state) (a .party) (b .before .before .before .before .a2 .given .0 .1 .0)
+      → let a = b .before .before .before .before .before .before .before .before .args in
+      (b .before .before .before .before .a2 .given .0 .1 .0 < a .t) × Ready (tablesIn (a .tables .now) .terms) (b .if2 .state) (a .party) (b .before .before .before .before .a2 .given .0 .1 .0)
   second-ready b =
-      let r = b .before .before .before .before .before .before .before .before .before .before .before .pre .1 in
+      let r = b .before .before .before .before .before .before .before .before .pre .1 in
       let l = lower-two r (two (b .before .before .before .before)) .1 in
-      (l, ready-part _ (ready-learned _ r (first-learnt b .0) (first-learnt b .1)) l)
+      (l, ready-part (ready-after r (first-learnt b .0)) _ l)
 
   parts-knows-requires : learn-parts-lts.Need-knows-requires (P t) (learn-parts-at t) learn-parts.Post
   parts-knows-requires c κs = let r = one-ready (c .before .before) .1 in (r .party, r .room)
 
   parts-learn-term-requires : learn-parts-lts.Need-learn-term-requires (P t) (learn-parts-at t) learn-parts.Post
-  parts-learn-term-requires c κs = let r = one-ready (c .before .before .before .before .before) in (omega (arith, r .0, c .before .before .before .before .before .before .before .before .before .before .before .before .pre .0), r .1)
+  parts-learn-term-requires c κs = let r = one-ready (c .before .before .before .before .before) in (omega (arith, r .0, c .before .before .before .before .before .before .before .before .before .pre .0), r .1)
 
   parts-enum-known-a-2 : learn-parts-lts.Need-enum-known-a-2 (P t) (learn-parts-at t) learn-parts.Post
   parts-enum-known-a-2 c = search needs
@@ -157,40 +151,37 @@ module _ (t : ℕ) where
   parts-knows-requires-2 c κs = let r = first-ready (c .before .before) .1 in (r .party, r .room)
 
   parts-learn-term-requires-2 : learn-parts-lts.Need-learn-term-requires-2 (P t) (learn-parts-at t) learn-parts.Post
-  parts-learn-term-requires-2 c κs = let r = first-ready (c .before .before .before .before .before) in (omega (arith, r .0, c .before .before .before .before .before .before .before .before .before .before .before .before .pre .0), r .1)
+  parts-learn-term-requires-2 c κs = let r = first-ready (c .before .before .before .before .before) in (omega (arith, r .0, c .before .before .before .before .before .before .before .before .before .pre .0), r .1)
 
   parts-knows-requires-3 : learn-parts-lts.Need-knows-requires-3 (P t) (learn-parts-at t) learn-parts.Post
   parts-knows-requires-3 c κs = let r = second-ready (c .before) .1 in (r .party, r .room)
 
   parts-learn-term-requires-3 : learn-parts-lts.Need-learn-term-requires-3 (P t) (learn-parts-at t) learn-parts.Post
-  parts-learn-term-requires-3 c κs = let r = second-ready (c .before .before .before .before) in (omega (arith, r .0, c .before .before .before .before .before .before .before .before .before .before .before .before .before .before .before .pre .0), r .1)
-
-  parts-same-length : learn-parts-lts.Need-same-length (P t) (learn-parts-at t) learn-parts.Post
-  parts-same-length c = search needs
+  parts-learn-term-requires-3 c κs = let r = second-ready (c .before .before .before .before) in (omega (arith, r .0, c .before .before .before .before .before .before .before .before .before .before .before .before .pre .0), r .1)
 
   parts-returns : learn-parts-lts.Need-returns (P t) (learn-parts-at t) learn-parts.Post
   parts-returns c = parts-none _ _ _ _ (found (c .before .before) (c .enum-told .given .1))
 
-  parts-same-length-2 : learn-parts-lts.Need-same-length-2 (P t) (learn-parts-at t) learn-parts.Post
-  parts-same-length-2 c = search needs
+  parts-same-length : learn-parts-lts.Need-same-length (P t) (learn-parts-at t) learn-parts.Post
+  parts-same-length c = search needs
 
   parts-returns-2 : learn-parts-lts.Need-returns-2 (P t) (learn-parts-at t) learn-parts.Post
   parts-returns-2 c = parts-one _ _ _ _ (one (c .before .before .before .before .before .before .before .before)) (c .before .before .learn-term .ensures)
 
-  parts-same-length-3 : learn-parts-lts.Need-same-length-3 (P t) (learn-parts-at t) learn-parts.Post
-  parts-same-length-3 c = search needs
+  parts-same-length-2 : learn-parts-lts.Need-same-length-2 (P t) (learn-parts-at t) learn-parts.Post
+  parts-same-length-2 c = search needs
 
   parts-returns-3 : learn-parts-lts.Need-returns-3 (P t) (learn-parts-at t) learn-parts.Post
   parts-returns-3 c = parts-one _ _ _ _ (one (c .before .before .before .before)) (learn-known _ _ _ _ (sym (c .before .knows .ensures) ∙ not-false _ (c .if1 .left)))
 
-  parts-same-length-4 : learn-parts-lts.Need-same-length-4 (P t) (learn-parts-at t) learn-parts.Post
-  parts-same-length-4 c = c .before .before .learn-term3 .kept .1 .0 ∙ first-learnt (c .before .before .before .before .before .before .before) .0
+  parts-same-length-3 : learn-parts-lts.Need-same-length-3 (P t) (learn-parts-at t) learn-parts.Post
+  parts-same-length-3 c = c .before .before .learn-term3 .kept .1 .0 ∙ first-learnt (c .before .before .before .before .before .before .before) .0
 
   parts-returns-4 : learn-parts-lts.Need-returns-4 (P t) (learn-parts-at t) learn-parts.Post
   parts-returns-4 c = let j = c .before .before .before .before .before .before .before in parts-two _ _ _ _ (two (j .before .before .before .before)) (first-learnt j .1) (c .before .before .learn-term3 .ensures)
 
-  parts-same-length-5 : learn-parts-lts.Need-same-length-5 (P t) (learn-parts-at t) learn-parts.Post
-  parts-same-length-5 c = first-learnt (c .before .before .before) .0
+  parts-same-length-4 : learn-parts-lts.Need-same-length-4 (P t) (learn-parts-at t) learn-parts.Post
+  parts-same-length-4 c = first-learnt (c .before .before .before) .0
 
   parts-returns-5 : learn-parts-lts.Need-returns-5 (P t) (learn-parts-at t) learn-parts.Post
   parts-returns-5 c = let j = c .before .before .before in parts-two _ _ _ _ (two (j .before .before .before .before)) (first-learnt j .1) (learn-known _ _ _ _ (sym (c .before .knows3 .ensures) ∙ not-false _ (c .if3 .left)))
@@ -209,21 +200,21 @@ module _ (t : ℕ) where
 
   term-learn-parts-requires : learn-term-lts.Need-learn-parts-requires (T t) (learn-term-at t) learn-term.Post
   term-learn-parts-requires c κs =
-      let r = c .before .before .before .before .before .before .before .before .before .before .pre in
+      let r = c .before .before .before .before .before .before .before .before .before .pre in
       let n = c .before .before .before .note-known in
-      (omega (arith, r .0), ready-granted (r .1) (n .kept .0) (n .ensures))
+      (omega (arith, r .0), ready-after (r .1) (n .kept .0))
 
   term-same-length-2 : learn-term-lts.Need-same-length-2 (T t) (learn-term-at t) learn-term.Post
   term-same-length-2 c = search needs
 
   term-returns-2 : learn-term-lts.Need-returns-2 (T t) (learn-term-at t) learn-term.Post
   term-returns-2 c =
-      learn-new _ _ _ _ (c .before .before .before .before .before .before .before .before .before .before .before .before .before .pre .1 .lower) (sym (c .before .before .before .before .before .before .before .before .before .knows .ensures) ∙ c .before .before .before .before .before .before .before .before .if1 .left) (c .before .before .before .before .before .before .note-known .ensures) (c .before .before .learn-parts .ensures)
+      learn-new _ _ _ _ (c .before .before .before .before .before .before .before .before .before .before .before .before .pre .1 .lower) (sym (c .before .before .before .before .before .before .before .before .before .knows .ensures) ∙ c .before .before .before .before .before .before .before .before .if1 .left) (c .before .before .before .before .before .before .note-known .ensures) (c .before .before .learn-parts .ensures)
 
 pub +learn-parts+learn-term-spec : {M : Type 1} → statement M
 +learn-parts+learn-term-spec =
     close
     μ-learn-parts
     μ-learn-term
-    (λ t. learn-parts-lts.spec (P t) (learn-parts-at t) learn-parts.Post (parts-place-of-requires t) (parts-parts-at-requires t) (parts-enum-told t) (parts-enum-known-a t) (parts-cast-first t) (parts-knows-requires t) (parts-learn-term-requires t) (parts-enum-known-a-2 t) (parts-cast-first-2 t) (parts-cast-second t) (parts-knows-requires-2 t) (parts-learn-term-requires-2 t) (parts-knows-requires-3 t) (parts-learn-term-requires-3 t) (parts-same-length t) (parts-returns t) (parts-same-length-2 t) (parts-returns-2 t) (parts-same-length-3 t) (parts-returns-3 t) (parts-same-length-4 t) (parts-returns-4 t) (parts-same-length-5 t) (parts-returns-5 t))
+    (λ t. learn-parts-lts.spec (P t) (learn-parts-at t) learn-parts.Post (parts-parts-of-requires t) (parts-enum-told t) (parts-enum-known-a t) (parts-cast-first t) (parts-knows-requires t) (parts-learn-term-requires t) (parts-enum-known-a-2 t) (parts-cast-first-2 t) (parts-cast-second t) (parts-knows-requires-2 t) (parts-learn-term-requires-2 t) (parts-knows-requires-3 t) (parts-learn-term-requires-3 t) (parts-returns t) (parts-same-length t) (parts-returns-2 t) (parts-same-length-2 t) (parts-returns-3 t) (parts-same-length-3 t) (parts-returns-4 t) (parts-same-length-4 t) (parts-returns-5 t))
     (λ t. learn-term-lts.spec (T t) (learn-term-at t) learn-term.Post (term-knows-requires t) (term-same-length t) (term-returns t) (term-note-known-requires t) (term-learn-parts-requires t) (term-same-length-2 t) (term-returns-2 t))

@@ -98,11 +98,12 @@ returns c =
 
 enter-setup-requires : tie.Need-enter-setup-requires
 enter-setup-requires c κs =
-    let s = c .before .before .before .before .before .before .before in
+    let s = c .before .before .before .before .before .before .before .before in
     let p = s .pre .1 in
-    let e = sym (s .pre .0) ∙ c .before .before .if2 .taken in
+    let e = sym (s .pre .0) ∙ c .before .before .before .if2 .taken in
     record {
       there = p .there;
+      noted = s .pre .2 .noted;
       isSetup = e;
       fewParties = p .fewParties;
       partiesWhole = p .partiesWhole;
@@ -117,10 +118,10 @@ same-length-2 c = search needs
 returns-2 : tie.Need-returns-2
 returns-2 c =
     let t = c .before .before .enter-setup in
-    let s = c .before .before .before .before .before .before .before .before .before .before in
+    let s = c .before .before .before .before .before .before .before .before .before .before .before in
     let a = s .args in
     setup-entered (now (a .file)) (view (now (a .state))) (now (a .signers)) (now (a .links)) (now (a .tables)) (a .n) (a .kind) (a .section) (now (a .body)) (a .at) (s .pre .0) _ _ _
-    (c .before .before .before .before .before .if2 .taken) (t .ensures .0) (t .ensures .1 .0) (t .ensures .1 .1) (s .pre .2)
+    (c .before .before .before .before .before .before .if2 .taken) (t .ensures .0) (t .ensures .1 .0) (t .ensures .1 .1) (s .pre .2)
 
 returns-3 : tie.Need-returns-3
 returns-3 c =

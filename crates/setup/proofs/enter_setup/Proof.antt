@@ -4,7 +4,7 @@ use Rattle.rules.specs.Load.{refuseUnless}
 use Rattle.learning.proofs.Opening.{learn-known}
 use Rattle.setup.specs.Allowed.{allowedThere, setupLeaves, signersLeave}
 use Rattle.setup.proofs.Setup.{setup-learns, setup-holds, setup-signs}
-use Rattle.setup.proofs.Terms.{ready}
+use Rattle.setup.proofs.Terms.{ready, learns-there}
 use Rattle.setup.proofs.enter_setup.Statement.{statement}
 use Rattle.setup.proofs.enter_setup.Tie as tie
 
@@ -35,11 +35,12 @@ returns c =
     let w = c .before .before .before .before .before .before .before .before in
     let a = w .before .before .before .before .before .args in
     let e = setup-learns (a .kind) (a .body .now) (c .before .before .before .before .before .before .before .if1 .taken) in
-    (rw (e, ← w .word-at .ensures, ← c .before .before .before .before .may-learn .ensures, c .before .before .before .if2 .taken), (rw (e, ← w .word-at .ensures) (learn-known _ _ _ _ (sym (c .before .knows .ensures) ∙ c .if3 .taken)), rw e refl))
+    (rw (e, ← w .word-at .ensures, ← c .before .before .before .before .may-learn .ensures, c .before .before .before .if2 .taken), (rw (e, ← w .word-at .ensures) (learn-known _ _ _ _ (sym (c .before .knows .ensures) ∙ c .if3 .taken) ∙ learns-there (w .before .before .before .before .before .pre .there) (w .before .before .before .before .before .pre .noted) _ _ (search needs)), rw e refl))
 
 learn-term-requires : tie.Need-learn-term-requires
 learn-term-requires c κs =
-    ready (c .before .before .before .before .before .before .before .before .before .before .before .before .before .before .pre .there) (search needs) (search needs)
+    let r = c .before .before .before .before .before .before .before .before .before .before .before .before .before .before .pre in
+    ready (r .there) (r .noted) (search needs) (search needs)
 
 same-length-2 : tie.Need-same-length-2
 same-length-2 c = search needs
@@ -50,7 +51,7 @@ returns-2 c =
     let w = c .before .before .before .before .before .before .before .before .before .before .before .before in
     let a = w .before .before .before .before .before .args in
     let e = setup-learns (a .kind) (a .body .now) (c .before .before .before .before .before .before .before .before .before .before .before .if1 .taken) in
-    (rw (e, ← w .word-at .ensures, ← c .before .before .before .before .before .before .before .before .may-learn .ensures, c .before .before .before .before .before .before .before .if2 .taken), (rw (e, ← w .word-at .ensures) (c .before .before .learn-term .ensures), rw e refl))
+    (rw (e, ← w .word-at .ensures, ← c .before .before .before .before .before .before .before .before .may-learn .ensures, c .before .before .before .before .before .before .before .if2 .taken), (rw (e, ← w .word-at .ensures) (c .before .before .learn-term .ensures ∙ learns-there (w .before .before .before .before .before .pre .there) (w .before .before .before .before .before .pre .noted) _ _ (search needs)), rw e refl))
 
 same-length-3 : tie.Need-same-length-3
 same-length-3 c = search needs
