@@ -23,7 +23,11 @@ use Rattle.index.specs.Tree.{bucketOf, Met, Tree, Free, Found}
 unfoldable pub keyThere : List ℕ → (ℕ → ℕ) → ℕ → ℕ
 keyThere bs place t = keyOf (fieldsIn (termThere bs (place t)))
 
--- the same by the words that are noted of it
+-- the words that are noted of it
+abbrev pub wordsNoted : Terms → ℕ → Words
+wordsNoted v t = record { first = fieldOf v t 0; second = fieldOf v t 1; third = fieldOf v t 2; fourth = fieldOf v t 3 }
+
+-- its key by them
 unfoldable pub keyNoted : Terms → ℕ → ℕ
 keyNoted v t = keyOf (fieldOf v t 0 ∷ fieldOf v t 1 ∷ fieldOf v t 2 ∷ fieldOf v t 3 ∷ [])
 

@@ -11,7 +11,7 @@ ghost use Rattle.rules.specs.State.{put};
 ghost use Rattle.state.specs.View.{view, withPlace};
 ghost use Rattle.tables.specs.Regions.{tableWords, tablesIn, withTerms};
 ghost use Rattle.checks.specs.There.{anyAlikeThere};
-ghost use Rattle.index.specs.Indexed.{keyNoted, termNoted, otherHalf, Indexed, Reached, SearchResult, EntersTerm};
+ghost use Rattle.index.specs.Indexed.{wordsNoted, keyNoted, termNoted, otherHalf, Indexed, Reached, SearchResult, EntersTerm};
 
 pub const BUCKETS: usize = 1024;
 
@@ -38,15 +38,30 @@ fn other_half(kind: u8) -> u8
     }
 }
 
+// The words that are noted of a term.
+pub fn words_of(tables: &[u16; tables::WORDS], t: usize) -> Words
+    requires { ⌜ t < termLimit ⌝ }
+    ensures { λ r. ⌜ r ≡ wordsNoted (tablesIn (now (tables .entry)) .terms) t ⌝ }
+{
+    let first = tables::field_of(tables, t, 0);
+    let second = tables::field_of(tables, t, 1);
+    let third = tables::field_of(tables, t, 2);
+    let fourth = tables::field_of(tables, t, 3);
+    Words {
+        first: first,
+        second: second,
+        third: third,
+        fourth: fourth,
+    }
+}
+
 // The key of a term, by its words.
 fn key_of(tables: &[u16; tables::WORDS], t: usize) -> u64
     requires { ⌜ t < termLimit ⌝ }
     ensures { λ r. ⌜ r ≡ keyNoted (tablesIn (now (tables .entry)) .terms) t ⌝ }
 {
-    let first = tables::field_of(tables, t, 0);
-    let second = tables::field_of(tables, t, 1);
-    let third = tables::field_of(tables, t, 2);
-    records::key(first, second, third, tables::field_of(tables, t, 3))
+    let words = words_of(tables, t);
+    records::key(words.first, words.second, words.third, words.fourth)
 }
 
 // The kind of a term and its words.

@@ -18,7 +18,8 @@ use Rattle.rules.specs.Attributes.{noAttributes}
 use Rattle.rules.specs.Term.{idevidRequestKind, certificateKind, kindOf, fieldsIn, subjectFields, attributesOf}
 use Rattle.rules.specs.File.{File, term, kind, field, attributes}
 use Rattle.tables.specs.Regions.{Terms, tablesIn, fieldOf}
-use Rattle.index.specs.Indexed.{passes}
+use Rattle.records.specs.declared.Words.{Words}
+use Rattle.index.specs.Indexed.{passes, wordsNoted}
 use Rattle.loaded.specs.Loaded.{fileIn, Finds, TermNoted, subjectBy}
 use Rattle.loaded.specs.Entries.{SameKeys}
 
@@ -106,16 +107,12 @@ certificate-fields (Certificate k (Tpm n) p) e = refl
 certificate-fields (Certificate k (Device n) p) e = refl
 certificate-fields (Pair t u) e = absurd (omega arith)
 
--- what was read of each field, for both
-module _ (f : File) (t : ℕ) {s : Subject} {a b c d : ℕ} where
-  pub request-term :
-      kind f t ≡ idevidRequestKind → s ≡ subjectBy a b → a ≡ field f t 0 → b ≡ field f t 1 → c ≡ field f t 2 → d ≡ field f t 3
-      → IdevidRequest s c d ≡ term f t
+-- what was read of its words, for both
+module _ {bs tables : List ℕ} {t : ℕ} (noted : TermNoted bs tables t) {s : Subject} {w : Words} (read : w ≡ wordsNoted (tablesIn tables .terms) t) where
+  pub request-term : kind (fileIn bs) t ≡ idevidRequestKind → s ≡ subjectBy (w .first) (w .second) → IdevidRequest s (w .third) (w .fourth) ≡ term (fileIn bs) t
   unfolding kind field
-  request-term k e e0 e1 e2 e3 = rw (e, e0, e1, e2, e3) (request-fields (term f t) k)
+  request-term k e = rw (e, read, noted .fieldIs 0 (omega arith), noted .fieldIs 1 (omega arith), noted .fieldIs 2 (omega arith), noted .fieldIs 3 (omega arith)) (request-fields (term (fileIn bs) t) k)
 
-  pub certificate-term :
-      kind f t ≡ certificateKind → s ≡ subjectBy b c → a ≡ field f t 0 → b ≡ field f t 1 → c ≡ field f t 2 → d ≡ field f t 3
-      → Certificate a s d ≡ term f t
+  pub certificate-term : kind (fileIn bs) t ≡ certificateKind → s ≡ subjectBy (w .second) (w .third) → Certificate (w .first) s (w .fourth) ≡ term (fileIn bs) t
   unfolding kind field
-  certificate-term k e e0 e1 e2 e3 = rw (e, e0, e1, e2, e3) (certificate-fields (term f t) k)
+  certificate-term k e = rw (e, read, noted .fieldIs 0 (omega arith), noted .fieldIs 1 (omega arith), noted .fieldIs 2 (omega arith), noted .fieldIs 3 (omega arith)) (certificate-fields (term (fileIn bs) t) k)

@@ -141,11 +141,12 @@ pub fn idevid_request_of(file: &[u8], tables: &[u16; tables::WORDS], t: usize) -
     requires { ⌜ TermNoted (now file) (now tables) t × (kind (fileIn (now file)) t ≡ idevidRequestKind) ⌝ }
     ensures { λ r. ⌜ r ≡ term (fileIn (now (file .entry))) t ⌝ }
 {
-    let tag = tables::field_of(tables, t, 0);
-    let number = tables::field_of(tables, t, 1);
-    let certificate = tables::field_of(tables, t, 2);
-    let key = tables::field_of(tables, t, 3);
-    Term::IdevidRequest(subject_of(tag, number), certificate, key)
+    let words = index::words_of(tables, t);
+    Term::IdevidRequest(
+        subject_of(words.first, words.second),
+        words.third,
+        words.fourth,
+    )
 }
 
 // The message and the certificate of an LDevID request.
@@ -183,11 +184,12 @@ pub fn certificate_of(file: &[u8], tables: &[u16; tables::WORDS], t: usize) -> T
     requires { ⌜ TermNoted (now file) (now tables) t × (kind (fileIn (now file)) t ≡ certificateKind) ⌝ }
     ensures { λ r. ⌜ r ≡ term (fileIn (now (file .entry))) t ⌝ }
 {
-    let key = tables::field_of(tables, t, 0);
-    let tag = tables::field_of(tables, t, 1);
-    let number = tables::field_of(tables, t, 2);
-    let signer = tables::field_of(tables, t, 3);
-    Term::Certificate(key, subject_of(tag, number), signer)
+    let words = index::words_of(tables, t);
+    Term::Certificate(
+        words.first,
+        subject_of(words.second, words.third),
+        words.fourth,
+    )
 }
 
 // The two terms of a pair.

@@ -1,35 +1,19 @@
 use borrow.Author.Needs.{needs}
+use mathlib.Core.Path.{_≡_, ap, _∙_}
 use Rattle.records.specs.Keys.{keyOf}
 use Rattle.index.specs.Indexed.{keyNoted}
 use Rattle.index.proofs.key_of.Statement.{statement}
 use Rattle.index.proofs.key_of.Tie as tie
 
-field-of-requires : tie.Need-field-of-requires
-field-of-requires c κs = search needs
-
-field-of-requires-2 : tie.Need-field-of-requires-2
-field-of-requires-2 c κs = search needs
-
-field-of-requires-3 : tie.Need-field-of-requires-3
-field-of-requires-3 c κs = search needs
-
-field-of-requires-4 : tie.Need-field-of-requires-4
-field-of-requires-4 c κs = search needs
+words-of-requires : tie.Need-words-of-requires
+words-of-requires c κs = search needs
 
 key-requires : tie.Need-key-requires
 key-requires c κs = search needs
 
 returns : tie.Need-returns
 unfolding keyNoted keyOf
-returns c = search needs
+returns c = rw (c .key .ensures, c .before .words-of .ensures)
 
 pub key-of-spec : {M : Type 1} → statement M
-key-of-spec =
-    tie.close
-    (tie.spec
-    field-of-requires
-    field-of-requires-2
-    field-of-requires-3
-    field-of-requires-4
-    key-requires
-    returns)
+key-of-spec = tie.close (tie.spec words-of-requires key-requires returns)
