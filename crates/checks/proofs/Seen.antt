@@ -11,8 +11,9 @@ use Rattle.rules.specs.declared.Field.the-variants.{IdentifierField, Attributes
 use Rattle.rules.specs.Term.{publicKeyKind, privateKeyKind}
 use Rattle.rules.specs.Record.{sectionOf, bodyLength, fieldsOf, width, widths}
 use Rattle.records.proofs.EachKind.{agree}
-use Rattle.checks.specs.There.{fieldFaultThere}
-use Rattle.checks.specs.Plain.{fieldsFaultThere, Right}
+use Rattle.tables.specs.Regions.{Terms}
+use Rattle.checks.specs.There.{fieldFaultNoted}
+use Rattle.checks.specs.Plain.{fieldsFaultNoted, Right}
 use Rattle.checks.proofs.Plain.{both}
 
 module _ (k : ℕ) where
@@ -36,46 +37,46 @@ module _ (k : ℕ) where
   unfolding bodyLength widths width fieldsOf sectionOf
   pair-body d = ap bodyLength d
 
-module _ {bs : List ℕ} {place : ℕ → ℕ} {terms : ℕ} {body : List ℕ} where
-  right : {k : ℕ} (fs : List Field) → fieldsOf k ≡ fs → ((parties : ℕ) → fieldsFaultThere bs place parties terms fs 0 body ≡ 0) → Right bs place terms k body
-  right fs e r = record { fault = λ parties. subst⁻¹ (λ (fs : List Field). fieldsFaultThere bs place parties terms fs 0 body ≡ 0) e (r parties) }
+module _ {v : Terms} {terms : ℕ} {body : List ℕ} where
+  right : {k : ℕ} (fs : List Field) → fieldsOf k ≡ fs → ((parties : ℕ) → fieldsFaultNoted v parties terms fs 0 body ≡ 0) → Right v terms k body
+  right fs e r = record { fault = λ parties. subst⁻¹ (λ (fs : List Field). fieldsFaultNoted v parties terms fs 0 body ≡ 0) e (r parties) }
 
   -- of a kind that a test has told
-  pub right-of : {j k : ℕ} → k ≡ j → Right bs place terms j body → Right bs place terms k body
-  right-of d r = subst⁻¹ (λ (k : ℕ). Right bs place terms k body) d r
+  pub right-of : {j k : ℕ} → k ≡ j → Right v terms j body → Right v terms k body
+  right-of d r = subst⁻¹ (λ (k : ℕ). Right v terms k body) d r
 
-  pub number-seen : Right bs place terms 0x16 body
-  unfolding fieldsFaultThere fieldFaultThere width fieldsOf sectionOf
+  pub number-seen : Right v terms 0x16 body
+  unfolding fieldsFaultNoted fieldFaultNoted width fieldsOf sectionOf
   number-seen = right (IdentifierField ∷ []) refl (λ parties. both refl refl)
 
   module _ {x : ℕ} where
-    pub key-seen : {k : ℕ} → 0x10 ≤ k → k ≤ 0x11 → x ≡ fieldFaultThere bs place 0 terms AttributesField 2 body → x ≡ 0 → Right bs place terms k body
-    unfolding fieldsFaultThere fieldFaultThere width fieldsOf sectionOf
+    pub key-seen : {k : ℕ} → 0x10 ≤ k → k ≤ 0x11 → x ≡ fieldFaultNoted v 0 terms AttributesField 2 body → x ≡ 0 → Right v terms k body
+    unfolding fieldsFaultNoted fieldFaultNoted width fieldsOf sectionOf
     key-seen {k} l m p u =
         right (IdentifierField ∷ AttributesField ∷ []) (agree fieldsOf (λ k. IdentifierField ∷ AttributesField ∷ []) 0x10 2 refl k l (omega arith))
         (λ parties. both refl (both (sym p ∙ u) refl))
 
-    pub hash-seen : x ≡ fieldFaultThere bs place 0 terms AnyTerm 0 body → x ≡ 0 → Right bs place terms 0x12 body
-    unfolding fieldsFaultThere fieldFaultThere width fieldsOf sectionOf
+    pub hash-seen : x ≡ fieldFaultNoted v 0 terms AnyTerm 0 body → x ≡ 0 → Right v terms 0x12 body
+    unfolding fieldsFaultNoted fieldFaultNoted width fieldsOf sectionOf
     hash-seen p u = right (AnyTerm ∷ []) refl (λ parties. both (sym p ∙ u) refl)
 
     module _ {y : ℕ} where
-      pub signature-seen : x ≡ fieldFaultThere bs place 0 terms AnyTerm 0 body → x ≡ 0
-          → y ≡ fieldFaultThere bs place 0 terms (TermOf privateKeyKind) 2 body → y ≡ 0
-          → Right bs place terms 0x13 body
-      unfolding fieldsFaultThere fieldFaultThere width fieldsOf sectionOf
+      pub signature-seen : x ≡ fieldFaultNoted v 0 terms AnyTerm 0 body → x ≡ 0
+          → y ≡ fieldFaultNoted v 0 terms (TermOf privateKeyKind) 2 body → y ≡ 0
+          → Right v terms 0x13 body
+      unfolding fieldsFaultNoted fieldFaultNoted width fieldsOf sectionOf
       signature-seen p u q v = right (AnyTerm ∷ TermOf privateKeyKind ∷ []) refl (λ parties. both (sym p ∙ u) (both (sym q ∙ v) refl))
 
-      pub pair-seen : x ≡ fieldFaultThere bs place 0 terms AnyTerm 0 body → x ≡ 0
-          → y ≡ fieldFaultThere bs place 0 terms AnyTerm 2 body → y ≡ 0
-          → Right bs place terms 0x1A body
-      unfolding fieldsFaultThere fieldFaultThere width fieldsOf sectionOf
+      pub pair-seen : x ≡ fieldFaultNoted v 0 terms AnyTerm 0 body → x ≡ 0
+          → y ≡ fieldFaultNoted v 0 terms AnyTerm 2 body → y ≡ 0
+          → Right v terms 0x1A body
+      unfolding fieldsFaultNoted fieldFaultNoted width fieldsOf sectionOf
       pair-seen p u q v = right (AnyTerm ∷ AnyTerm ∷ []) refl (λ parties. both (sym p ∙ u) (both (sym q ∙ v) refl))
 
-      pub certificate-seen : {z : ℕ} → x ≡ fieldFaultThere bs place 0 terms (TermOf publicKeyKind) 0 body → x ≡ 0
-          → y ≡ fieldFaultThere bs place 0 terms SubjectField 2 body → y ≡ 0
-          → z ≡ fieldFaultThere bs place 0 terms (TermOf privateKeyKind) 5 body → z ≡ 0
-          → Right bs place terms 0x19 body
-      unfolding fieldsFaultThere fieldFaultThere width fieldsOf sectionOf
+      pub certificate-seen : {z : ℕ} → x ≡ fieldFaultNoted v 0 terms (TermOf publicKeyKind) 0 body → x ≡ 0
+          → y ≡ fieldFaultNoted v 0 terms SubjectField 2 body → y ≡ 0
+          → z ≡ fieldFaultNoted v 0 terms (TermOf privateKeyKind) 5 body → z ≡ 0
+          → Right v terms 0x19 body
+      unfolding fieldsFaultNoted fieldFaultNoted width fieldsOf sectionOf
       certificate-seen p u q v r w =
           right (TermOf publicKeyKind ∷ SubjectField ∷ TermOf privateKeyKind ∷ []) refl (λ parties. both (sym p ∙ u) (both (sym q ∙ v) (both (sym r ∙ w) refl)))

@@ -6,20 +6,21 @@ use lib.ListN.{length, getD, take, drop}
 use Rattle.rules.specs.declared.Field.{Field}
 use Rattle.rules.specs.Record.{sectionOf, bodyLength, fieldsOf, width, commandSection}
 use Rattle.rules.specs.Load.{first}
-use Rattle.checks.specs.There.{fieldFaultThere}
+use Rattle.tables.specs.Regions.{Terms}
+use Rattle.checks.specs.There.{fieldFaultNoted}
 
 -- 7, 8: the fields of a body in their order, from an offset on
-unfoldable pub fieldsFaultThere : List ℕ → (ℕ → ℕ) → ℕ → ℕ → List Field → ℕ → List ℕ → ℕ
-fieldsFaultThere bs place parties terms [] i body = 0
-fieldsFaultThere bs place parties terms (x ∷ xs) i body = first (fieldFaultThere bs place parties terms x i body) (fieldsFaultThere bs place parties terms xs (i + width x) body)
+unfoldable pub fieldsFaultNoted : Terms → ℕ → ℕ → List Field → ℕ → List ℕ → ℕ
+fieldsFaultNoted v parties terms [] i body = 0
+fieldsFaultNoted v parties terms (x ∷ xs) i body = first (fieldFaultNoted v parties terms x i body) (fieldsFaultNoted v parties terms xs (i + width x) body)
 
 -- a whole command stands from a place to another, and its fields are right
-pub record Plain (bs : List ℕ) (place : ℕ → ℕ) (parties terms at end : ℕ) : Type 0 where
+pub record Plain (bs : List ℕ) (v : Terms) (parties terms at end : ℕ) : Type 0 where
   pub command : sectionOf (getD bs at 0) ≡ commandSection
   pub ends : end ≡ at + 1 + bodyLength (getD bs at 0)
   pub whole : end ≤ length bs
-  pub right : fieldsFaultThere bs place parties terms (fieldsOf (getD bs at 0)) 0 (take (bodyLength (getD bs at 0)) (drop (at + 1) bs)) ≡ 0
+  pub right : fieldsFaultNoted v parties terms (fieldsOf (getD bs at 0)) 0 (take (bodyLength (getD bs at 0)) (drop (at + 1) bs)) ≡ 0
 
 -- the fields of a body of a kind are right, whatever the parties: that of a term
-pub record Right (bs : List ℕ) (place : ℕ → ℕ) (terms k : ℕ) (body : List ℕ) : Type 0 where
-  pub fault : (parties : ℕ) → fieldsFaultThere bs place parties terms (fieldsOf k) 0 body ≡ 0
+pub record Right (v : Terms) (terms k : ℕ) (body : List ℕ) : Type 0 where
+  pub fault : (parties : ℕ) → fieldsFaultNoted v parties terms (fieldsOf k) 0 body ≡ 0

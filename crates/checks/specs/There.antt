@@ -1,4 +1,4 @@
--- Refusals 3 to 9 by the bytes alone: the file, the places of the terms' records and the counts so far.
+-- Refusals 3 to 9 by the bytes, the counts and the terms so far.
 use mathlib.Core.Bool.{Bool, false, cond, _||_}
 use mathlib.Core.List.{List, List·Memᴰ}
 use Prim.Native.Nat.{ℕ, zero, suc, _+_, _*_, _<_, _≤_}
@@ -13,6 +13,7 @@ use Rattle.rules.specs.Term.{signatureKind, attestKind, credentialKind, certifi
 use Rattle.rules.specs.Record.{partySection, termSection, word}
 use Rattle.rules.specs.Load.{first, refuseUnless, emptyPair}
 use Rattle.state.specs.View.{view}
+use Rattle.tables.specs.Regions.{Terms, fieldOf}
 use Rattle.learning.specs.There.{TermRecord, kindThere, termThere, partsThere}
 
 -- 3 to 6 at a record: its section and the place where it ends, the file's length, the section and the counts so far
@@ -41,25 +42,25 @@ abbrev pub kindOfThere : List ℕ → (ℕ → ℕ) → ℕ → ℕ
 kindOfThere bs place t = kindThere bs (place t)
 
 -- 7, 8: a term number that is not declared, or not of a kind
-abbrev pub kindFaultThere : List ℕ → (ℕ → ℕ) → ℕ → ℕ → ℕ → ℕ
-kindFaultThere bs place terms k t = first (refuseUnless 7 (ltb t terms)) (refuseUnless 8 (eqb (kindOfThere bs place t) k))
+abbrev pub kindFaultNoted : Terms → ℕ → ℕ → ℕ → ℕ
+kindFaultNoted v terms k t = first (refuseUnless 7 (ltb t terms)) (refuseUnless 8 (eqb (v .kind t) k))
 
--- 7, 8: what is wrong with a field at a place of a body
-unfoldable pub fieldFaultThere : List ℕ → (ℕ → ℕ) → ℕ → ℕ → Field → ℕ → List ℕ → ℕ
-fieldFaultThere bs place parties terms RoleField i body = refuseUnless 7 (ltb (getD body i 0) roleCount)
-fieldFaultThere bs place parties terms IdentifierField i body = 0
-fieldFaultThere bs place parties terms AttributesField i body = refuseUnless 7 (ltb (getD body i 0) attributesLimit)
-fieldFaultThere bs place parties terms SubjectField i body = refuseUnless 7 (ltb (getD body i 0) 2)
-fieldFaultThere bs place parties terms PartyField i body = refuseUnless 7 (ltb (getD body i 0) parties)
-fieldFaultThere bs place parties terms AnyTerm i body = refuseUnless 7 (ltb (word body i) terms)
-fieldFaultThere bs place parties terms (TermOf k) i body = kindFaultThere bs place terms k (word body i)
-fieldFaultThere bs place parties terms SignedAttest i body =
+-- 7, 8: what is wrong with a field at a place of a body, by the kinds and fields of the terms so far
+unfoldable pub fieldFaultNoted : Terms → ℕ → ℕ → Field → ℕ → List ℕ → ℕ
+fieldFaultNoted v parties terms RoleField i body = refuseUnless 7 (ltb (getD body i 0) roleCount)
+fieldFaultNoted v parties terms IdentifierField i body = 0
+fieldFaultNoted v parties terms AttributesField i body = refuseUnless 7 (ltb (getD body i 0) attributesLimit)
+fieldFaultNoted v parties terms SubjectField i body = refuseUnless 7 (ltb (getD body i 0) 2)
+fieldFaultNoted v parties terms PartyField i body = refuseUnless 7 (ltb (getD body i 0) parties)
+fieldFaultNoted v parties terms AnyTerm i body = refuseUnless 7 (ltb (word body i) terms)
+fieldFaultNoted v parties terms (TermOf k) i body = kindFaultNoted v terms k (word body i)
+fieldFaultNoted v parties terms SignedAttest i body =
     first (refuseUnless 7 (ltb (word body i) terms))
-    (first (refuseUnless 8 (eqb (kindOfThere bs place (word body i)) signatureKind))
-    (refuseUnless 8 (eqb (kindOfThere bs place (word bs (place (word body i) + 1))) attestKind)))
-fieldFaultThere bs place parties terms IakPairField i body =
+    (first (refuseUnless 8 (eqb (v .kind (word body i)) signatureKind))
+    (refuseUnless 8 (eqb (v .kind (fieldOf v (word body i) 0)) attestKind)))
+fieldFaultNoted v parties terms IakPairField i body =
     cond (emptyPair body i) 0
-    (first (kindFaultThere bs place terms credentialKind (word body i)) (kindFaultThere bs place terms certificateKind (word body (i + 2))))
+    (first (kindFaultNoted v terms credentialKind (word body i)) (kindFaultNoted v terms certificateKind (word body (i + 2))))
 
 -- a term is alike one of the first n
 unfoldable pub anyAlikeThere : List ℕ → (ℕ → ℕ) → Term → ℕ → Bool

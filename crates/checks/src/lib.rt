@@ -13,8 +13,10 @@ ghost use Rattle.rules.specs.Record.{bodyLength, width as widthOf, word};
 ghost use Rattle.rules.specs.Load.{refuseUnless, emptyPair};
 ghost use Rattle.records.specs.Codes.{fieldLimit, FieldRows};
 ghost use Rattle.state.specs.View.{view};
+ghost use Rattle.tables.specs.Regions.{Terms, tablesIn};
 ghost use Rattle.learning.specs.There.{kindThere};
-ghost use Rattle.checks.specs.There.{headFault, roleThere, TermsThere, fieldFaultThere};
+ghost use Rattle.learning.specs.Noted.{TermsNoted};
+ghost use Rattle.checks.specs.There.{headFault, roleThere, fieldFaultNoted};
 ghost use Rattle.checks.specs.Plain.{Plain, Right};
 
 // 3 to 6 at a record, by its kind's section and the place where it ends: 0, or the refusal.
@@ -87,15 +89,15 @@ fn declared_fault(body: &[u8], i: usize, terms: usize) -> u8
 }
 
 // A declared term of a kind in the body: 0, 7 or 8.
-fn kind_fault(file: &[u8], state: &[u8], body: &[u8], i: usize, kind: u8, terms: usize) -> u8
-    requires { ⌜ TermsThere (now file) (now state) terms × (i + 1 < length (now body)) ⌝ }
-    ensures { λ r. ⌜ r ≡ fieldFaultThere (now (file .entry)) (view (now (state .entry)) .place) 0 terms (TermOf kind) i (now (body .entry)) ⌝ }
+fn kind_fault(tables: &[u16; tables::WORDS], body: &[u8], i: usize, kind: u8, terms: usize) -> u8
+    requires { ⌜ TermsNoted (tablesIn (now tables) .terms) terms × (i + 1 < length (now body)) ⌝ }
+    ensures { λ r. ⌜ r ≡ fieldFaultNoted (tablesIn (now (tables .entry)) .terms) 0 terms (TermOf kind) i (now (body .entry)) ⌝ }
 {
     let t = records::word_at(body, i) as usize;
     if terms <= t {
         return 7;
     }
-    if kind_there(file, state, t) == kind {
+    if tables::kind_of(tables, t) == kind as u16 {
         0
     } else {
         8
@@ -103,20 +105,19 @@ fn kind_fault(file: &[u8], state: &[u8], body: &[u8], i: usize, kind: u8, terms:
 }
 
 // A signature over an attest in the body: 0, 7 or 8.
-fn attest_fault(file: &[u8], state: &[u8], body: &[u8], i: usize, terms: usize) -> u8
-    requires { ⌜ TermsThere (now file) (now state) terms × (i + 1 < length (now body)) ⌝ }
-    ensures { λ r. ⌜ r ≡ fieldFaultThere (now (file .entry)) (view (now (state .entry)) .place) 0 terms SignedAttest i (now (body .entry)) ⌝ }
+fn attest_fault(tables: &[u16; tables::WORDS], body: &[u8], i: usize, terms: usize) -> u8
+    requires { ⌜ TermsNoted (tablesIn (now tables) .terms) terms × (i + 1 < length (now body)) ⌝ }
+    ensures { λ r. ⌜ r ≡ fieldFaultNoted (tablesIn (now (tables .entry)) .terms) 0 terms SignedAttest i (now (body .entry)) ⌝ }
 {
     let t = records::word_at(body, i) as usize;
     if terms <= t {
         return 7;
     }
-    if kind_there(file, state, t) != 0x13 {
+    if tables::kind_of(tables, t) != 0x13 {
         return 8;
     }
-    let at = state::place_of(state, t);
-    let message = records::word_at(file, at + 1) as usize;
-    if kind_there(file, state, message) == 0x14 {
+    let message = tables::field_of(tables, t, 0) as usize;
+    if tables::kind_of(tables, message) == 0x14 {
         0
     } else {
         8
@@ -136,33 +137,32 @@ pub fn empty_pair(body: &[u8], i: usize) -> bool
 }
 
 // A credential and a certificate in the body, or an empty pair: 0, 7 or 8.
-fn pair_fault(file: &[u8], state: &[u8], body: &[u8], i: usize, terms: usize) -> u8
-    requires { ⌜ TermsThere (now file) (now state) terms × (i + 3 < length (now body)) ⌝ }
-    ensures { λ r. ⌜ r ≡ fieldFaultThere (now (file .entry)) (view (now (state .entry)) .place) 0 terms IakPairField i (now (body .entry)) ⌝ }
+fn pair_fault(tables: &[u16; tables::WORDS], body: &[u8], i: usize, terms: usize) -> u8
+    requires { ⌜ TermsNoted (tablesIn (now tables) .terms) terms × (i + 3 < length (now body)) ⌝ }
+    ensures { λ r. ⌜ r ≡ fieldFaultNoted (tablesIn (now (tables .entry)) .terms) 0 terms IakPairField i (now (body .entry)) ⌝ }
 {
     let second = i + 2;
     if empty_pair(body, i) {
         return 0;
     }
-    let bad = kind_fault(file, state, body, i, 0x15, terms);
+    let bad = kind_fault(tables, body, i, 0x15, terms);
     if bad != 0 {
         return bad;
     }
-    kind_fault(file, state, body, second, 0x19, terms)
+    kind_fault(tables, body, second, 0x19, terms)
 }
 
 // 7, 8 at a field of a body: 0, or the refusal.
 pub fn field_fault(
-    file: &[u8],
-    state: &[u8],
+    tables: &[u16; tables::WORDS],
     body: &[u8],
     field: Field,
     i: usize,
     parties: usize,
     terms: usize,
 ) -> u8
-    requires { ⌜ TermsThere (now file) (now state) terms × (i + widthOf field ≤ length (now body)) ⌝ }
-    ensures { λ r. ⌜ r ≡ fieldFaultThere (now (file .entry)) (view (now (state .entry)) .place) parties terms field i (now (body .entry)) ⌝ }
+    requires { ⌜ TermsNoted (tablesIn (now tables) .terms) terms × (i + widthOf field ≤ length (now body)) ⌝ }
+    ensures { λ r. ⌜ r ≡ fieldFaultNoted (tablesIn (now (tables .entry)) .terms) parties terms field i (now (body .entry)) ⌝ }
 {
     match field {
         Field::RoleField => byte_fault(body, i, rules::ROLE_COUNT),
@@ -171,48 +171,47 @@ pub fn field_fault(
         Field::SubjectField => byte_fault(body, i, 2),
         Field::PartyField => byte_fault(body, i, parties),
         Field::AnyTerm => declared_fault(body, i, terms),
-        Field::TermOf(kind) => kind_fault(file, state, body, i, kind, terms),
-        Field::SignedAttest => attest_fault(file, state, body, i, terms),
-        Field::IakPairField => pair_fault(file, state, body, i, terms),
+        Field::TermOf(kind) => kind_fault(tables, body, i, kind, terms),
+        Field::SignedAttest => attest_fault(tables, body, i, terms),
+        Field::IakPairField => pair_fault(tables, body, i, terms),
     }
 }
 
 // The same of a command's field: a party and a term of a kind at once, the rest as of any field.
 pub fn command_fault(
-    file: &[u8],
-    state: &[u8],
+    tables: &[u16; tables::WORDS],
     body: &[u8],
     field: Field,
     i: usize,
     parties: usize,
     terms: usize,
 ) -> u8
-    requires { ⌜ TermsThere (now file) (now state) terms × (i + widthOf field ≤ length (now body)) ⌝ }
-    ensures { λ r. ⌜ r ≡ fieldFaultThere (now (file .entry)) (view (now (state .entry)) .place) parties terms field i (now (body .entry)) ⌝ }
+    requires { ⌜ TermsNoted (tablesIn (now tables) .terms) terms × (i + widthOf field ≤ length (now body)) ⌝ }
+    ensures { λ r. ⌜ r ≡ fieldFaultNoted (tablesIn (now (tables .entry)) .terms) parties terms field i (now (body .entry)) ⌝ }
 {
     match field {
-        Field::RoleField => field_fault(file, state, body, field, i, parties, terms),
-        Field::IdentifierField => field_fault(file, state, body, field, i, parties, terms),
-        Field::AttributesField => field_fault(file, state, body, field, i, parties, terms),
-        Field::SubjectField => field_fault(file, state, body, field, i, parties, terms),
+        Field::RoleField => field_fault(tables, body, field, i, parties, terms),
+        Field::IdentifierField => field_fault(tables, body, field, i, parties, terms),
+        Field::AttributesField => field_fault(tables, body, field, i, parties, terms),
+        Field::SubjectField => field_fault(tables, body, field, i, parties, terms),
         Field::PartyField => byte_fault(body, i, parties),
-        Field::AnyTerm => field_fault(file, state, body, field, i, parties, terms),
-        Field::TermOf(kind) => kind_fault(file, state, body, i, kind, terms),
-        Field::SignedAttest => field_fault(file, state, body, field, i, parties, terms),
-        Field::IakPairField => field_fault(file, state, body, field, i, parties, terms),
+        Field::AnyTerm => field_fault(tables, body, field, i, parties, terms),
+        Field::TermOf(kind) => kind_fault(tables, body, i, kind, terms),
+        Field::SignedAttest => field_fault(tables, body, field, i, parties, terms),
+        Field::IakPairField => field_fault(tables, body, field, i, parties, terms),
     }
 }
 
 // 7, 8 at the term that a command from 30 to 37 makes, by its field: 0, or the refusal; 7 where it is no such field.
-fn made_fault(file: &[u8], state: &[u8], body: &[u8], field: Field, terms: usize) -> u8
-    requires { ⌜ TermsThere (now file) (now state) terms × (2 < length (now body)) ⌝ }
-    ensures { λ r. ⌜ (r ≡ 0 → (parties : ℕ) → fieldFaultThere (now (file .entry)) (view (now (state .entry)) .place) parties terms field 1 (now (body .entry)) ≡ 0) ⌝ }
+fn made_fault(tables: &[u16; tables::WORDS], body: &[u8], field: Field, terms: usize) -> u8
+    requires { ⌜ TermsNoted (tablesIn (now tables) .terms) terms × (2 < length (now body)) ⌝ }
+    ensures { λ r. ⌜ (r ≡ 0 → (parties : ℕ) → fieldFaultNoted (tablesIn (now (tables .entry)) .terms) parties terms field 1 (now (body .entry)) ≡ 0) ⌝ }
 {
     if let Field::TermOf(kind) = field {
-        return kind_fault(file, state, body, 1, kind, terms);
+        return kind_fault(tables, body, 1, kind, terms);
     }
     if let Field::SignedAttest = field {
-        return attest_fault(file, state, body, 1, terms);
+        return attest_fault(tables, body, 1, terms);
     }
     7
 }
@@ -221,15 +220,15 @@ fn made_fault(file: &[u8], state: &[u8], body: &[u8], field: Field, terms: usize
 fn made_right(
     table: &[u64; rules::KIND_COUNT],
     file: &[u8],
-    state: &[u8],
+    tables: &[u16; tables::WORDS],
     at: usize,
     end: usize,
     kind: u8,
     parties: usize,
     terms: usize,
 ) -> bool
-    requires { ⌜ FieldRows (now table) × TermsThere (now file) (now state) terms × (at < length (now file)) × (kind ≡ getD (now file) at 0) × (0x30 ≤ kind) × (kind ≤ 0x37) × (end ≡ at + 4) ⌝ }
-    ensures { λ r. ⌜ (r ≡ true → Plain (now (file .entry)) (view (now (state .entry)) .place) parties terms at end) ⌝ }
+    requires { ⌜ FieldRows (now table) × TermsNoted (tablesIn (now tables) .terms) terms × (at < length (now file)) × (kind ≡ getD (now file) at 0) × (0x30 ≤ kind) × (kind ≤ 0x37) × (end ≡ at + 4) ⌝ }
+    ensures { λ r. ⌜ (r ≡ true → Plain (now (file .entry)) (tablesIn (now (tables .entry)) .terms) parties terms at end) ⌝ }
 {
     let start = at + 1;
     if file.len() < end {
@@ -241,23 +240,16 @@ fn made_right(
     }
     let fields = records::fields_in(table, kind);
     let field = records::low_field(fields / 256);
-    if made_fault(file, state, body, field, terms) != 0 {
+    if made_fault(tables, body, field, terms) != 0 {
         return false;
     }
     true
 }
 
 // The same of a 3C.
-fn sent_right(
-    file: &[u8],
-    state: &[u8],
-    at: usize,
-    end: usize,
-    parties: usize,
-    terms: usize,
-) -> bool
+fn sent_right(file: &[u8], at: usize, end: usize, parties: usize, terms: usize) -> bool
     requires { ⌜ (at < length (now file)) × (getD (now file) at 0 ≡ 0x3C) × (end ≡ at + 5) ⌝ }
-    ensures { λ r. ⌜ (r ≡ true → Plain (now (file .entry)) (view (now (state .entry)) .place) parties terms at end) ⌝ }
+    ensures { λ r. ⌜ (r ≡ true → (v : Terms) → Plain (now (file .entry)) v parties terms at end) ⌝ }
 {
     let start = at + 1;
     if file.len() < end {
@@ -279,15 +271,15 @@ fn sent_right(
 // The same of a command from 40 to 42.
 fn issue_right(
     file: &[u8],
-    state: &[u8],
+    tables: &[u16; tables::WORDS],
     at: usize,
     end: usize,
     kind: u8,
     parties: usize,
     terms: usize,
 ) -> bool
-    requires { ⌜ TermsThere (now file) (now state) terms × (at < length (now file)) × (kind ≡ getD (now file) at 0) × (0x40 ≤ kind) × (kind ≤ 0x42) × (end ≡ at + 6) ⌝ }
-    ensures { λ r. ⌜ (r ≡ true → Plain (now (file .entry)) (view (now (state .entry)) .place) parties terms at end) ⌝ }
+    requires { ⌜ TermsNoted (tablesIn (now tables) .terms) terms × (at < length (now file)) × (kind ≡ getD (now file) at 0) × (0x40 ≤ kind) × (kind ≤ 0x42) × (end ≡ at + 6) ⌝ }
+    ensures { λ r. ⌜ (r ≡ true → Plain (now (file .entry)) (tablesIn (now (tables .entry)) .terms) parties terms at end) ⌝ }
 {
     let start = at + 1;
     if file.len() < end {
@@ -300,7 +292,7 @@ fn issue_right(
     if declared_fault(body, 1, terms) != 0 {
         return false;
     }
-    if kind_fault(file, state, body, 3, 0x19, terms) != 0 {
+    if kind_fault(tables, body, 3, 0x19, terms) != 0 {
         return false;
     }
     true
@@ -309,14 +301,14 @@ fn issue_right(
 // The same of a 43.
 fn pairs_right(
     file: &[u8],
-    state: &[u8],
+    tables: &[u16; tables::WORDS],
     at: usize,
     end: usize,
     parties: usize,
     terms: usize,
 ) -> bool
-    requires { ⌜ TermsThere (now file) (now state) terms × (at < length (now file)) × (getD (now file) at 0 ≡ 0x43) × (end ≡ at + 19) ⌝ }
-    ensures { λ r. ⌜ (r ≡ true → Plain (now (file .entry)) (view (now (state .entry)) .place) parties terms at end) ⌝ }
+    requires { ⌜ TermsNoted (tablesIn (now tables) .terms) terms × (at < length (now file)) × (getD (now file) at 0 ≡ 0x43) × (end ≡ at + 19) ⌝ }
+    ensures { λ r. ⌜ (r ≡ true → Plain (now (file .entry)) (tablesIn (now (tables .entry)) .terms) parties terms at end) ⌝ }
 {
     let start = at + 1;
     if file.len() < end {
@@ -329,16 +321,16 @@ fn pairs_right(
     if byte_fault(body, 1, parties) != 0 {
         return false;
     }
-    if pair_fault(file, state, body, 2, terms) != 0 {
+    if pair_fault(tables, body, 2, terms) != 0 {
         return false;
     }
-    if pair_fault(file, state, body, 6, terms) != 0 {
+    if pair_fault(tables, body, 6, terms) != 0 {
         return false;
     }
-    if pair_fault(file, state, body, 10, terms) != 0 {
+    if pair_fault(tables, body, 10, terms) != 0 {
         return false;
     }
-    if pair_fault(file, state, body, 14, terms) != 0 {
+    if pair_fault(tables, body, 14, terms) != 0 {
         return false;
     }
     true
@@ -348,63 +340,63 @@ fn pairs_right(
 pub fn is_plain(
     table: &[u64; rules::KIND_COUNT],
     file: &[u8],
-    state: &[u8],
+    tables: &[u16; tables::WORDS],
     at: usize,
     end: usize,
     parties: usize,
     terms: usize,
 ) -> bool
-    requires { ⌜ FieldRows (now table) × TermsThere (now file) (now state) terms × (at < length (now file)) × (end ≡ at + 1 + bodyLength (getD (now file) at 0)) ⌝ }
-    ensures { λ r. ⌜ (r ≡ true → Plain (now (file .entry)) (view (now (state .entry)) .place) parties terms at end) ⌝ }
+    requires { ⌜ FieldRows (now table) × TermsNoted (tablesIn (now tables) .terms) terms × (at < length (now file)) × (end ≡ at + 1 + bodyLength (getD (now file) at 0)) ⌝ }
+    ensures { λ r. ⌜ (r ≡ true → Plain (now (file .entry)) (tablesIn (now (tables .entry)) .terms) parties terms at end) ⌝ }
 {
     let kind = file[at];
     if kind < 0x30 {
         return false;
     }
     if kind <= 0x37 {
-        return made_right(table, file, state, at, end, kind, parties, terms);
+        return made_right(table, file, tables, at, end, kind, parties, terms);
     }
     if kind == 0x3C {
-        return sent_right(file, state, at, end, parties, terms);
+        return sent_right(file, at, end, parties, terms);
     }
     if kind < 0x40 {
         return false;
     }
     if kind <= 0x42 {
-        return issue_right(file, state, at, end, kind, parties, terms);
+        return issue_right(file, tables, at, end, kind, parties, terms);
     }
     if kind == 0x43 {
-        return pairs_right(file, state, at, end, parties, terms);
+        return pairs_right(file, tables, at, end, parties, terms);
     }
     false
 }
 
 // Whether the fields of a 13 are right.
-fn signature_right(file: &[u8], state: &[u8], body: &[u8], terms: usize) -> bool
-    requires { ⌜ TermsThere (now file) (now state) terms × (3 < length (now body)) ⌝ }
-    ensures { λ r. ⌜ (r ≡ true → Right (now (file .entry)) (view (now (state .entry)) .place) terms 0x13 (now (body .entry))) ⌝ }
+fn signature_right(tables: &[u16; tables::WORDS], body: &[u8], terms: usize) -> bool
+    requires { ⌜ TermsNoted (tablesIn (now tables) .terms) terms × (3 < length (now body)) ⌝ }
+    ensures { λ r. ⌜ (r ≡ true → Right (tablesIn (now (tables .entry)) .terms) terms 0x13 (now (body .entry))) ⌝ }
 {
     if declared_fault(body, 0, terms) != 0 {
         return false;
     }
-    if kind_fault(file, state, body, 2, 0x11, terms) != 0 {
+    if kind_fault(tables, body, 2, 0x11, terms) != 0 {
         return false;
     }
     true
 }
 
 // The same of a 19.
-fn certificate_right(file: &[u8], state: &[u8], body: &[u8], terms: usize) -> bool
-    requires { ⌜ TermsThere (now file) (now state) terms × (6 < length (now body)) ⌝ }
-    ensures { λ r. ⌜ (r ≡ true → Right (now (file .entry)) (view (now (state .entry)) .place) terms 0x19 (now (body .entry))) ⌝ }
+fn certificate_right(tables: &[u16; tables::WORDS], body: &[u8], terms: usize) -> bool
+    requires { ⌜ TermsNoted (tablesIn (now tables) .terms) terms × (6 < length (now body)) ⌝ }
+    ensures { λ r. ⌜ (r ≡ true → Right (tablesIn (now (tables .entry)) .terms) terms 0x19 (now (body .entry))) ⌝ }
 {
-    if kind_fault(file, state, body, 0, 0x10, terms) != 0 {
+    if kind_fault(tables, body, 0, 0x10, terms) != 0 {
         return false;
     }
     if byte_fault(body, 2, 2) != 0 {
         return false;
     }
-    if kind_fault(file, state, body, 5, 0x11, terms) != 0 {
+    if kind_fault(tables, body, 5, 0x11, terms) != 0 {
         return false;
     }
     true
@@ -412,9 +404,9 @@ fn certificate_right(file: &[u8], state: &[u8], body: &[u8], terms: usize) -> bo
 
 // How many fields of a body need no look: all where it is a term's of a frequent kind and they are seen to be right
 // at once, else 0, which says nothing.
-pub fn seen_right(file: &[u8], state: &[u8], body: &[u8], kind: u8, terms: usize) -> usize
-    requires { ⌜ TermsThere (now file) (now state) terms × (bodyLength kind ≤ length (now body)) ⌝ }
-    ensures { λ r. ⌜ (r ≡ 0) ⊎ ((r ≡ fieldLimit) × Right (now (file .entry)) (view (now (state .entry)) .place) terms kind (now (body .entry))) ⌝ }
+pub fn seen_right(tables: &[u16; tables::WORDS], body: &[u8], kind: u8, terms: usize) -> usize
+    requires { ⌜ TermsNoted (tablesIn (now tables) .terms) terms × (bodyLength kind ≤ length (now body)) ⌝ }
+    ensures { λ r. ⌜ (r ≡ 0) ⊎ ((r ≡ fieldLimit) × Right (tablesIn (now (tables .entry)) .terms) terms kind (now (body .entry))) ⌝ }
 {
     if kind < 0x10 {
         return 0;
@@ -432,7 +424,7 @@ pub fn seen_right(file: &[u8], state: &[u8], body: &[u8], kind: u8, terms: usize
         return records::FIELD_LIMIT;
     }
     if kind == 0x13 {
-        if signature_right(file, state, body, terms) {
+        if signature_right(tables, body, terms) {
             return records::FIELD_LIMIT;
         }
         return 0;
@@ -441,7 +433,7 @@ pub fn seen_right(file: &[u8], state: &[u8], body: &[u8], kind: u8, terms: usize
         return records::FIELD_LIMIT;
     }
     if kind == 0x19 {
-        if certificate_right(file, state, body, terms) {
+        if certificate_right(tables, body, terms) {
             return records::FIELD_LIMIT;
         }
         return 0;

@@ -1,8 +1,9 @@
 -- The terms of the tables are those of the file.
 --     parts-by        the parts of a term, by its kind and its fields
 --     parts-there     those of a term that the tables have as its record stands
---     ready-noted     such a term can be learnt
---     learn-there     and learning it is learning by the records
+--     terms-noted     such terms can be looked up
+--     learn-there     and learning one is learning by the records
+--     ready-noted     a term that can be looked up can be learnt
 -- Assumes nothing.
 use mathlib.Core.Path.{_≡_, refl, sym, subst, _∙_}
 use mathlib.Core.List.{List, List·Memᴰ}
@@ -18,7 +19,7 @@ use Rattle.rules.specs.Learning.{Knowledge}
 use Rattle.records.proofs.Keys.{term-kind}
 use Rattle.tables.specs.Regions.{Terms, fieldWords, fieldOf}
 use Rattle.learning.specs.There.{kindThere, termThere, TermRecord, partsThere, learnThere}
-use Rattle.learning.specs.Noted.{partsBy, partsNoted, learnNoted, Ready, Noted}
+use Rattle.learning.specs.Noted.{partsBy, partsNoted, learnNoted, Ready, TermsNoted, Noted}
 use Rattle.learning.proofs.Opening.{opened-same}
 
 -- the parts of a term of a kind, with its first fields
@@ -44,18 +45,17 @@ module _ {bs : List ℕ} {place : ℕ → ℕ} {v : Terms} {n : ℕ} (noted : No
   parts-there t l =
       parts-by (v .kind t) (fieldOf v t) (termThere bs (place t)) (noted .kinds t l ∙ sym (term-kind (kindThere bs (place t)) _ (whole t l .isTerm))) (λ i h. noted .fields t i l h)
 
-  module _ (lower : (t u : ℕ) → t < n → List·Memᴰ u (partsThere bs place t) → u < t) where
-    lower-there : (t u : ℕ) → t < n → List·Memᴰ u (partsNoted v t) → u < t
-    lower-there t u l m = lower t u l (subst (List·Memᴰ u) (parts-there t l) m)
+  pub terms-noted : n ≤ termLimit → ((t u : ℕ) → t < n → List·Memᴰ u (partsThere bs place t) → u < t) → TermsNoted v n
+  terms-noted few lower = record { few = few; lower = λ t u l m. lower t u l (subst (List·Memᴰ u) (parts-there t l) m) }
 
-    pub ready-noted : {s : List ℕ} {p t : ℕ} → p < partyLimit → n ≤ termLimit → rowWidth * n ≤ length s → t < n → Ready v s p t
-    ready-noted h few room l = record {
-      party = h;
-      few = (omega (arith, l, few));
-      room = (omega (arith, l, room));
-      lower = λ u w m. lower-there u w (omega (arith, m, l));
-    }
+  pub learn-there : TermsNoted v n → (p t : ℕ) → t < n → (known : Knowledge) → learnNoted v p t known ≡ learnThere bs place p t known
+  unfolding learnNoted learnThere
+  learn-there terms p t l known = opened-same (partsNoted v) (partsThere bs place) n parts-there (terms .lower) p (suc t) t l known
 
-    pub learn-there : (p t : ℕ) → t < n → (known : Knowledge) → learnNoted v p t known ≡ learnThere bs place p t known
-    unfolding learnNoted learnThere
-    learn-there p t l known = opened-same (partsNoted v) (partsThere bs place) n parts-there lower-there p (suc t) t l known
+pub ready-noted : {v : Terms} {n p t : ℕ} {s : List ℕ} → TermsNoted v n → p < partyLimit → rowWidth * n ≤ length s → t < n → Ready v s p t
+ready-noted terms h room l = record {
+  party = h;
+  few = (omega (arith, l, terms .few));
+  room = (omega (arith, l, room));
+  lower = λ u w m. terms .lower u w (omega (arith, m, l));
+}

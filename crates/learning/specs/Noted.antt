@@ -37,6 +37,11 @@ pub record Ready (v : Terms) (s : List ℕ) (p t : ℕ) : Type 0 where
   pub room : rowWidth * t + rowWidth ≤ length s
   pub lower : (u w : ℕ) → u ≤ t → List·Memᴰ w (partsNoted v u) → w < u
 
+-- the first n terms can be looked up, and have lower parts
+pub record TermsNoted (v : Terms) (n : ℕ) : Type 0 where
+  pub few : n ≤ termLimit
+  pub lower : (t u : ℕ) → t < n → List·Memᴰ u (partsNoted v t) → u < t
+
 -- the kinds and the fields of the first n terms, as their records stand in the file
 pub record Noted (bs : List ℕ) (place : ℕ → ℕ) (v : Terms) (n : ℕ) : Type 0 where
   pub kinds : (t : ℕ) → t < n → v .kind t ≡ kindThere bs (place t)

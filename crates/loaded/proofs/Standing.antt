@@ -11,7 +11,6 @@ use Rattle.state.specs.View.{view}
 use Rattle.learning.specs.There.{termThere, TermRecord, partsThere}
 use Rattle.theorems.proofs.Loading.{Checked, checked}
 use Rattle.theorems.proofs.Terms.{declared}
-use Rattle.checks.proofs.Records.{row}
 use Rattle.loaded.specs.Loaded.{fileIn, Holds, PartyHere, TermHere}
 
 pub party-here : {bs s : List ℕ} {p : ℕ} → Holds bs s → p < length (fileIn bs .roles) → PartyHere bs p
@@ -27,7 +26,7 @@ module _ {bs s : List ℕ} (h : Holds bs s) where
 
 module _ {bs s : List ℕ} {t : ℕ} (h : Holds bs s) (l : t < length (fileIn bs .terms)) where
   pub term-here : TermHere bs s t
-  term-here = record { row = row (h .there) t l; whole = h .there .whole t l; same = h .termIs t l }
+  term-here = record { row = omega (arith, l, h .there .few, h .there .room); whole = h .there .whole t l; same = h .termIs t l }
 
 -- a command keeps all of it: it writes no place
 pub holds-kept : {bs s s′ : List ℕ} → Holds bs s → length s′ ≡ length s → view s′ .place ≡ view s .place → Holds bs s′

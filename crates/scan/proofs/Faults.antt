@@ -13,8 +13,8 @@ use Prim.Native.Nat.{ℕ, zero, suc, _+_, _<_, _≤_}
 use native.Mathlib.Omega.{arith}
 use native.Mathlib.Numerals.{add-one}
 use lib.Dec.{eqb, ltb, leb}
-use lib.ListN.{length, getD, take, drop}
-use lib.Seq.{drop-cons, getD-take, getD-drop}
+use lib.ListN.{length, getD, drop}
+use lib.Seq.{drop-cons}
 use borrow.Author.Tests.{ltb-true, ltb-false, eqb-true, eqb-false, eq-eqb, ne-eqb, lt-leb, le-leb}
 use Rattle.rules.specs.declared.Field.{Field}
 use Rattle.rules.specs.declared.Field.the-variants.{RoleField, IdentifierField, AttributesField, SubjectField, PartyField, AnyTerm, TermOf, SignedAttest, IakPairField}
@@ -23,14 +23,17 @@ use Rattle.rules.specs.declared.Term.the-variants.{Hash}
 use Rattle.rules.specs.Limits.{partyLimit, tpmMaker}
 use Rattle.rules.specs.Attributes.{has, fixedTpm}
 use Rattle.rules.specs.Term.{publicKeyKind, privateKeyKind, signatureKind, credentialKind, numberKind, certificateKind, kindOf, fieldsIn, attributesOf, alike, anyAlike}
-use Rattle.rules.specs.Record.{lastKind, width, widths, fieldsOf, sectionOf, bodyLength, termSection, setupSection, word}
+use Rattle.rules.specs.Record.{width, fieldsOf, sectionOf, bodyLength, termSection, setupSection, word}
 use Rattle.rules.specs.File.{File, Setup, learns, holds, signsWith, isRole, term, kind, isKind, field, message, signer, subject, attributes, parts, someSetup, isOtherHold, isSigner, isSigningKeyFor, holdsKey, signsForRole}
 use Rattle.rules.specs.Load.{first, refuseUnless, termAt, setupAt, emptyPair, sectionFault, countFault, declaredFault, kindFault, fieldFault, fieldsFault, alikeFault, mayLearn, mayHold, maySign, allowedFault, setupFault, recordFault, enter, loaded, refused, feed}
+use Rattle.records.proofs.Keys.{term-kind}
 use Rattle.state.specs.View.{view, inOther}
+use Rattle.tables.specs.Regions.{Terms, fieldOf}
 use Rattle.learning.specs.There.{termThere}
-use Rattle.checks.specs.There.{headFault, roleThere, kindFaultThere, fieldFaultThere, anyAlikeThere}
+use Rattle.learning.specs.Noted.{Noted}
+use Rattle.checks.specs.There.{headFault, roleThere, kindFaultNoted, fieldFaultNoted, anyAlikeThere}
 use Rattle.setup.specs.Allowed.{noKey, signsThere, mayLearnThere, mayHoldThere, maySignThere, allowedThere}
-use Rattle.theorems.proofs.LoadingFields.{SetupFields, first-zero, Each, each, second, within, setup-passed}
+use Rattle.theorems.proofs.LoadingFields.{SetupFields, first-zero, setup-passed}
 use Rattle.theorems.proofs.Loading.{Checked, Good, good-checked}
 use Rattle.theorems.proofs.Terms.{parts-signature, private-declared, setup-found, setup-finds, holds-given, given-holds, signs-role-given}
 use Rattle.theorems.proofs.Pieces.{from, bodyAt, feed-unknown, feed-short, feed-refusal, feed-taken}
@@ -175,36 +178,6 @@ module _ (f : File) (xs : List Field) (i offset : ℕ) (body : List ℕ) (l : i 
   one-field = rw (add-one, drop-cons xs i AnyTerm)
 
 -- Terms.
--- a term record's term has the record's kind
-abbrev KindAt : List ℕ → ℕ → Type 0
-KindAt body k = kindOf (termAt k body) ≡ k
-
-each-kind : (body : List ℕ) → Each (KindAt body) 11 0x10
-unfolding kindOf termAt
-each-kind body = (refl, (refl, (refl, (refl, (refl, (refl, (refl, (refl, (refl, (refl, (refl, tt)))))))))))
-
-kind-at : (k : ℕ) (body : List ℕ) → sectionOf k ≡ termSection → kindOf (termAt k body) ≡ k
-unfolding sectionOf
-kind-at k body e =
-    let r = within 0x10 k 0x1A (second (eqb k 1) _ (leb 0x20 k && leb k 0x22) (leb 0x30 k && leb k lastKind) e) in
-    each (KindAt body) 11 0x10 (each-kind body) k (r .0) (omega arith)
-
-first-word : (m : ℕ) (l : List ℕ) (i : ℕ) → 2 ≤ m → word (take m (drop i l)) 0 ≡ word l i
-unfolding word
-first-word m l i h =
-    let a : getD (take m (drop i l)) 0 0 ≡ getD l i 0 = getD-take m (drop i l) 0 0 (omega arith) ∙ getD-drop i l 0 0 ∙ ap (λ (j : ℕ). getD l j 0) (omega arith) in
-    let b : getD (take m (drop i l)) 1 0 ≡ getD l (i + 1) 0 = getD-take m (drop i l) 1 0 (omega arith) ∙ getD-drop i l 1 0 in
-    rw (a, b)
-
-signature-long : 2 ≤ bodyLength signatureKind
-unfolding bodyLength widths width fieldsOf sectionOf
-signature-long = omega arith
-
--- the message of a signature stands after its kind byte
-message-there : (bs : List ℕ) (at k : ℕ) → k ≡ signatureKind → getD (fieldsIn (termAt k (take (bodyLength k) (drop (at + 1) bs)))) 0 0 ≡ word bs (at + 1)
-unfolding termAt fieldsIn
-message-there bs at k e = rw e (first-word (bodyLength signatureKind) bs (at + 1) signature-long)
-
 -- The signing key of a party: that of its 22, or none where it has none.
 abbrev Signer : List Setup → ℕ → ℕ → Type 0
 Signer xs p k = List·Memᴰ (signsWith p k) xs ⊎ ((k ≡ noKey) × ((j : ℕ) → List·Memᴰ (signsWith p j) xs → ⊥))
@@ -245,14 +218,9 @@ SetupRight f n (signsWith p k) = (p < n .parties) × (k < n .terms) × (kind f k
 module _ (f : File) (bs s signers : List ℕ) (n : Tally) (at : ℕ) (d : Describes f bs s signers n at) (g : Good f) where
   kind-same : (t : ℕ) → t < n .terms → getD bs (view s .place t) 0 ≡ kind f t
   unfolding kind termThere
-  kind-same t h = sym (kind-at (getD bs (view s .place t) 0) _ (d .there .whole t h .isTerm)) ∙ ap kindOf (d .termIs t h)
+  kind-same t h = sym (term-kind (getD bs (view s .place t) 0) _ (d .there .whole t h .isTerm)) ∙ ap kindOf (d .termIs t h)
 
   -- the message of a declared signature is declared
-  message-same : (t : ℕ) → t < n .terms → kind f t ≡ signatureKind → word bs (view s .place t + 1) ≡ message f t
-  unfolding termThere message field
-  message-same t h e =
-      sym (message-there bs (view s .place t) (getD bs (view s .place t) 0) (kind-same t h ∙ e)) ∙ ap (λ (x : Term). getD (fieldsIn x) 0 0) (d .termIs t h)
-
   message-declared : (t : ℕ) → t < n .terms → kind f t ≡ signatureKind → message f t < n .terms
   message-declared t h e =
       let m : List·Memᴰ (message f t) (parts f t) = rw (parts-signature f t e) (List·Memᴰ·head refl) in
@@ -264,27 +232,35 @@ module _ (f : File) (bs s signers : List ℕ) (n : Tally) (at : ℕ) (d : Descri
   declared-same : (t : ℕ) → ltb t (n .terms) ≡ ltb t (length (f .terms))
   declared-same t = rw (d .termsAre)
 
-  kind-fault-same : (k t : ℕ) → kindFaultThere bs (view s .place) (n .terms) k t ≡ kindFault f k t
-  unfolding declaredFault isKind
-  kind-fault-same k t = then-same 6 _ _ _ _ (declared-same t) (λ h. rw (kind-same t (declared-below t h)))
+  -- a field's fault by the tables is the rules'
+  module _ {v : Terms} (noted : Noted bs (view s .place) v (n .terms)) where
+    kind-noted : (t : ℕ) → t < n .terms → v .kind t ≡ kind f t
+    kind-noted t h = noted .kinds t h ∙ kind-same t h
 
-  -- a field's fault by the bytes is the rules'
-  pub field-same : (x : Field) (i : ℕ) (body : List ℕ) → fieldFaultThere bs (view s .place) (n .parties) (n .terms) x i body ≡ fieldFault f x i body
-  unfolding fieldFaultThere fieldFault declaredFault isKind
-  field-same RoleField i body = refl
-  field-same IdentifierField i body = refl
-  field-same AttributesField i body = refl
-  field-same SubjectField i body = refl
-  field-same PartyField i body = rw (d .partiesAre)
-  field-same AnyTerm i body = rw (d .termsAre)
-  field-same (TermOf k) i body = kind-fault-same k (word body i)
-  field-same SignedAttest i body = then-same 6 _ _ _ _ (declared-same (word body i)) (λ h.
-      let b = declared-below (word body i) h in
-      then-same 7 _ _ _ _ (rw (kind-same (word body i) b)) (λ e.
-      let k = eqb-true (kind f (word body i)) signatureKind e in
-      rw (message-same (word body i) b k, kind-same (message f (word body i)) (message-declared (word body i) b k))))
-  field-same IakPairField i body =
-      ap₂ (λ a b. cond (emptyPair body i) 0 (first a b)) (kind-fault-same credentialKind (word body i)) (kind-fault-same certificateKind (word body (i + 2)))
+    message-noted : (t : ℕ) → t < n .terms → fieldOf v t 0 ≡ message f t
+    unfolding message field
+    message-noted t h = noted .fields t 0 h (omega arith) ∙ ap (λ (x : Term). getD (fieldsIn x) 0 0) (d .termIs t h)
+
+    kind-fault-same : (k t : ℕ) → kindFaultNoted v (n .terms) k t ≡ kindFault f k t
+    unfolding declaredFault isKind
+    kind-fault-same k t = then-same 6 _ _ _ _ (declared-same t) (λ h. rw (kind-noted t (declared-below t h)))
+
+    pub field-same : (x : Field) (i : ℕ) (body : List ℕ) → fieldFaultNoted v (n .parties) (n .terms) x i body ≡ fieldFault f x i body
+    unfolding fieldFaultNoted fieldFault declaredFault isKind
+    field-same RoleField i body = refl
+    field-same IdentifierField i body = refl
+    field-same AttributesField i body = refl
+    field-same SubjectField i body = refl
+    field-same PartyField i body = rw (d .partiesAre)
+    field-same AnyTerm i body = rw (d .termsAre)
+    field-same (TermOf k) i body = kind-fault-same k (word body i)
+    field-same SignedAttest i body = then-same 6 _ _ _ _ (declared-same (word body i)) (λ h.
+        let b = declared-below (word body i) h in
+        then-same 7 _ _ _ _ (rw (kind-noted (word body i) b)) (λ e.
+        let k = eqb-true (kind f (word body i)) signatureKind e in
+        rw (message-noted (word body i) b, kind-noted (message f (word body i)) (message-declared (word body i) b k))))
+    field-same IakPairField i body =
+        ap₂ (λ a b. cond (emptyPair body i) 0 (first a b)) (kind-fault-same credentialKind (word body i)) (kind-fault-same certificateKind (word body (i + 2)))
 
   -- the keys of the 22s are declared terms
   key-declared : (p k : ℕ) → List·Memᴰ (signsWith p k) (f .setup) → k < noKey

@@ -17,8 +17,10 @@ use Rattle.rules.specs.Record.{sectionOf, bodyLength, fieldsOf, width, widths, 
 use Rattle.rules.specs.File.{Setup, learns, holds, signsWith}
 use Rattle.rules.specs.Load.{fieldsFault, enter, setupAt, feed, loaded, refused, emptyFile}
 use Rattle.state.specs.View.{view}
-use Rattle.checks.specs.There.{headFault, fieldFaultThere}
-use Rattle.checks.specs.Plain.{fieldsFaultThere, Right}
+use Rattle.tables.specs.Regions.{Terms}
+use Rattle.learning.specs.Noted.{Noted}
+use Rattle.checks.specs.There.{headFault, fieldFaultNoted}
+use Rattle.checks.specs.Plain.{fieldsFaultNoted, Right}
 use Rattle.setup.specs.Allowed.{signersLeave}
 use Rattle.records.specs.Codes.{fieldLimit, packed}
 use Rattle.records.proofs.Lengths.{section-most, few-fields}
@@ -144,17 +146,17 @@ module _ (bs s signers : List ℕ) (n : Tally) (at : ℕ) (a : At bs s signers n
       fields-start body = record { offsetIs = λ _. refl; rest = refl }
 
       -- the same faults by the bytes alone
-      fields-same : (fs : List Field) (i : ℕ) (body : List ℕ) → fieldsFaultThere bs (view s .place) (n .parties) (n .terms) fs i body ≡ fieldsFault (a .file) fs i body
-      unfolding fieldsFaultThere fieldsFault
-      fields-same [] i body = refl
-      fields-same (x ∷ xs) i body = rw (field-same (a .file) bs s signers n at (a .describes) (a .good) x i body, fields-same xs (i + width x) body) refl
+      fields-same : {v : Terms} → Noted bs (view s .place) v (n .terms) → (fs : List Field) (i : ℕ) (body : List ℕ) → fieldsFaultNoted v (n .parties) (n .terms) fs i body ≡ fieldsFault (a .file) fs i body
+      unfolding fieldsFaultNoted fieldsFault
+      fields-same noted [] i body = refl
+      fields-same noted (x ∷ xs) i body = rw (field-same (a .file) bs s signers n at (a .describes) (a .good) noted x i body, fields-same noted xs (i + width x) body) refl
 
       -- no field is left where all of them are seen to be right
-      pub fields-seen : (body : List ℕ) (i offset : ℕ) → length (fieldsOf (getD bs at 0)) ≤ i → Right bs (view s .place) (n .terms) (getD bs at 0) body → Fields body i offset
+      pub fields-seen : {v : Terms} → Noted bs (view s .place) v (n .terms) → (body : List ℕ) (i offset : ℕ) → length (fieldsOf (getD bs at 0)) ≤ i → Right v (n .terms) (getD bs at 0) body → Fields body i offset
       unfolding fieldsFault
-      fields-seen body i offset l r = record {
+      fields-seen noted body i offset l r = record {
         offsetIs = λ m. absurd (omega arith);
-        rest = rw (lib.ListN.drop-of-length-le (fieldsOf (getD bs at 0)) l) (sym (r .fault (n .parties)) ∙ fields-same (fieldsOf (getD bs at 0)) 0 body);
+        rest = rw (lib.ListN.drop-of-length-le (fieldsOf (getD bs at 0)) l) (sym (r .fault (n .parties)) ∙ fields-same noted (fieldsOf (getD bs at 0)) 0 body);
       }
 
       -- a field lies in the body
@@ -167,28 +169,28 @@ module _ (bs s signers : List ℕ) (n : Tally) (at : ℕ) (a : At bs s signers n
           let o = w .offsetIs l in
           omega arith
 
-      pub fields-more : (body : List ℕ) (i offset : ℕ) → Fields body i offset → i < length (fieldsOf (getD bs at 0))
-          → fieldFaultThere bs (view s .place) (n .parties) (n .terms) (getD (fieldsOf (getD bs at 0)) i AnyTerm) offset body ≡ 0
+      pub fields-more : {v : Terms} → Noted bs (view s .place) v (n .terms) → (body : List ℕ) (i offset : ℕ) → Fields body i offset → i < length (fieldsOf (getD bs at 0))
+          → fieldFaultNoted v (n .parties) (n .terms) (getD (fieldsOf (getD bs at 0)) i AnyTerm) offset body ≡ 0
           → Fields body (i + 1) (offset + width (getD (fieldsOf (getD bs at 0)) i AnyTerm))
-      fields-more body i offset w l e = record {
+      fields-more noted body i offset w l e = record {
         offsetIs = λ _. let p = widths-next (fieldsOf (getD bs at 0)) i l in let o = w .offsetIs l in omega arith;
         rest =
             sym (fields-next (a .file) bs s signers n at (a .describes) (a .good) (getD bs at 0) i offset body l
-            (sym (field-same (a .file) bs s signers n at (a .describes) (a .good) (getD (fieldsOf (getD bs at 0)) i AnyTerm) offset body) ∙ e))
+            (sym (field-same (a .file) bs s signers n at (a .describes) (a .good) noted (getD (fieldsOf (getD bs at 0)) i AnyTerm) offset body) ∙ e))
             ∙ w .rest;
       }
 
       -- 7, 8
-      pub at-field : (body : List ℕ) (i offset x : ℕ) → body ≡ bodyAt bs at → Fields body i offset → i < length (fieldsOf (getD bs at 0))
-          → x ≡ fieldFaultThere bs (view s .place) (n .parties) (n .terms) (getD (fieldsOf (getD bs at 0)) i AnyTerm) offset body
+      pub at-field : {v : Terms} → Noted bs (view s .place) v (n .terms) → (body : List ℕ) (i offset x : ℕ) → body ≡ bodyAt bs at → Fields body i offset → i < length (fieldsOf (getD bs at 0))
+          → x ≡ fieldFaultNoted v (n .parties) (n .terms) (getD (fieldsOf (getD bs at 0)) i AnyTerm) offset body
           → (x ≡ 0 → ⊥) → ScanResult bs s signers (refusal x at n)
-      at-field body i offset x b w l e z =
+      at-field noted body i offset x b w l e z =
           refuses x z
           (λ r q. refuse-fields (a .file) bs s signers n at (a .describes) (a .good) h head r
           (subst (λ (y : List ℕ). fieldsFault (a .file) (fieldsOf (getD bs at 0)) 0 y ≡ suc r) b
           (sym (w .rest)
           ∙ fields-stop (a .file) bs s signers n at (a .describes) (a .good) (getD bs at 0) i offset body r l
-          (sym (field-same (a .file) bs s signers n at (a .describes) (a .good) (getD (fieldsOf (getD bs at 0)) i AnyTerm) offset body) ∙ sym e ∙ q))))
+          (sym (field-same (a .file) bs s signers n at (a .describes) (a .good) noted (getD (fieldsOf (getD bs at 0)) i AnyTerm) offset body) ∙ sym e ∙ q))))
           s signers
 
       all-right : (body : List ℕ) (i offset : ℕ) → body ≡ bodyAt bs at → Fields body i offset → length (fieldsOf (getD bs at 0)) ≤ i → fieldsFault (a .file) (fieldsOf (getD bs at 0)) 0 (bodyAt bs at) ≡ 0
@@ -262,14 +264,14 @@ abbrev pub Walks : List ℕ → List ℕ → List ℕ → Tally → ℕ → List
 Walks bs s signers n at body fields i offset = InFields bs s signers n at body i offset × (i < fieldLimit → fields ≡ packed (drop i (fieldsOf (getD bs at 0))))
 
 module _ {bs s signers : List ℕ} {n : Tally} {at : ℕ} (a : At bs s signers n at) (h : at < length bs) (z : headFault (sectionOf (getD bs at 0)) (at + 1 + bodyLength (getD bs at 0)) (length bs) (n .section) (n .parties) (n .terms) ≡ 0) where
-  pub fields-begin : {body : List ℕ} {fields i : ℕ} → body ≡ bodyAt bs at → fields ≡ packed (fieldsOf (getD bs at 0))
-      → (i ≡ 0) ⊎ ((i ≡ fieldLimit) × Right bs (view s .place) (n .terms) (getD bs at 0) body) → Walks bs s signers n at body fields i 0
-  fields-begin {body} {fields} b f (inl e) =
+  pub fields-begin : {v : Terms} → Noted bs (view s .place) v (n .terms) → {body : List ℕ} {fields i : ℕ} → body ≡ bodyAt bs at → fields ≡ packed (fieldsOf (getD bs at 0))
+      → (i ≡ 0) ⊎ ((i ≡ fieldLimit) × Right v (n .terms) (getD bs at 0) body) → Walks bs s signers n at body fields i 0
+  fields-begin noted {body} {fields} b f (inl e) =
       subst⁻¹ (λ (i : ℕ). Walks bs s signers n at body fields i 0) e
       (record { here = a; more = h; head = z; bodyIs = b; fields = fields-start bs s signers n at a h z body }, λ _. f)
-  fields-begin {body} {fields} b f (inr (e, r)) =
+  fields-begin noted {body} {fields} b f (inr (e, r)) =
       subst⁻¹ (λ (i : ℕ). Walks bs s signers n at body fields i 0) e
-      (record { here = a; more = h; head = z; bodyIs = b; fields = fields-seen bs s signers n at a h z body fieldLimit 0 (few-fields (getD bs at 0)) r }, λ m. absurd (omega arith))
+      (record { here = a; more = h; head = z; bodyIs = b; fields = fields-seen bs s signers n at a h z noted body fieldLimit 0 (few-fields (getD bs at 0)) r }, λ m. absurd (omega arith))
 
 -- no signing key is added or lost
 leave-length : (signers : List ℕ) (x : Setup) → length (signersLeave signers x) ≡ length signers
@@ -303,24 +305,24 @@ module _ (bs s signers : List ℕ) (n : Tally) (at : ℕ) (body : List ℕ) (i o
         let o = field-ready in
         omega arith
 
-    abbrev Fault : ℕ → Type 0
-    Fault y = y ≡ fieldFaultThere bs (view s .place) (n .parties) (n .terms) x offset body
+    abbrev Fault : Terms → ℕ → Type 0
+    Fault v y = y ≡ fieldFaultNoted v (n .parties) (n .terms) x offset body
 
-    pub field-refused : (y : ℕ) → Fault y → (y ≡ 0 → ⊥) → ScanResult bs s signers (refusal y at n)
-    field-refused y f z =
-        at-field bs s signers n at (w .here) (w .more) (w .head) body i offset y (w .bodyIs) (w .fields) declared
-        (f ∙ ap (λ (v : Field). fieldFaultThere bs (view s .place) (n .parties) (n .terms) v offset body) q) z
+    pub field-refused : {v : Terms} → Noted bs (view s .place) v (n .terms) → (y : ℕ) → Fault v y → (y ≡ 0 → ⊥) → ScanResult bs s signers (refusal y at n)
+    field-refused {v} noted y f z =
+        at-field bs s signers n at (w .here) (w .more) (w .head) noted body i offset y (w .bodyIs) (w .fields) declared
+        (f ∙ ap (λ (x : Field). fieldFaultNoted v (n .parties) (n .terms) x offset body) q) z
 
-    pub field-passed : (y : ℕ) → Fault y → y ≡ 0 → (v : ℕ) → v ≡ width x → InFields bs s signers n at body (i + 1) (offset + v)
-    field-passed y f z v r = record {
+    pub field-passed : {v : Terms} → Noted bs (view s .place) v (n .terms) → (y : ℕ) → Fault v y → y ≡ 0 → (m : ℕ) → m ≡ width x → InFields bs s signers n at body (i + 1) (offset + m)
+    field-passed {v} noted y f z m r = record {
       here = w .here;
       more = w .more;
       head = w .head;
       bodyIs = w .bodyIs;
       fields =
           subst⁻¹ (λ (u : ℕ). Fields bs s signers n at (w .here) (w .more) (w .head) body (i + 1) (offset + u)) (r ∙ ap width q)
-          (fields-more bs s signers n at (w .here) (w .more) (w .head) body i offset (w .fields) declared
-          (sym (ap (λ (v : Field). fieldFaultThere bs (view s .place) (n .parties) (n .terms) v offset body) q) ∙ sym f ∙ z));
+          (fields-more bs s signers n at (w .here) (w .more) (w .head) noted body i offset (w .fields) declared
+          (sym (ap (λ (x : Field). fieldFaultNoted v (n .parties) (n .terms) x offset body) q) ∙ sym f ∙ z));
     }
 
   module _ (l : m ≤ i) where

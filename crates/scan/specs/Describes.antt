@@ -13,7 +13,9 @@ use Rattle.rules.specs.Load.{refuseUnless, termAt, setupAt, feed, load, loaded,
 use Rattle.rules.specs.State.{taught, put}
 use Rattle.records.specs.Codes.{FieldRows}
 use Rattle.state.specs.View.{Columns, view, withPlace}
+use Rattle.tables.specs.Regions.{Terms}
 use Rattle.learning.specs.There.{termThere}
+use Rattle.learning.specs.Noted.{Noted}
 use Rattle.checks.specs.There.{TermsThere, roleThere, anyAlikeThere}
 use Rattle.setup.specs.Allowed.{noKey, allowedThere, setupLeaves, signersLeave}
 use Rattle.theorems.proofs.Loading.{Good}
@@ -114,14 +116,16 @@ ScanResult bs s signers r =
     ((r .number ≡ 0) × ((f : File) × (load bs ≡ loaded f) × (length signers ≡ partyLimit) × Describes f bs s signers (r .tally) (length bs)))
     ⊎ ((m : ℕ) × (r .number ≡ suc m) × (load bs ≡ refused (suc m) (r .place)))
 
--- what the scan of the commands starts from: the first of them, whatever the signing keys
-pub record CommandsReady (bs s table : List ℕ) (n : Tally) (at : ℕ) : Type 0 where
+-- what the scan of the commands starts from: the first of them, whatever the state and the signing keys; the tables have the terms
+pub record CommandsReady (bs table : List ℕ) (v : Terms) (n : Tally) (at : ℕ) : Type 0 where
   pub rows : FieldRows table
+  pub state : List ℕ
   pub signers : List ℕ
-  pub here : At bs s signers n at
+  pub here : At bs state signers n at
+  pub noted : Noted bs (view state .place) v (n .terms)
   pub more : at < length bs
   pub command : sectionOf (getD bs at 0) ≡ commandSection
 
--- what it leaves, whatever the signing keys
-abbrev pub CommandsResult : List ℕ → List ℕ → Tally → ℕ → Scanned → Type 0
-CommandsResult bs s n at r = (signers : List ℕ) → At bs s signers n at → ScanResult bs s signers r
+-- what it leaves, whatever they are
+abbrev pub CommandsResult : List ℕ → Terms → Tally → ℕ → Scanned → Type 0
+CommandsResult bs v n at r = (s signers : List ℕ) → At bs s signers n at → Noted bs (view s .place) v (n .terms) → ScanResult bs s signers r

@@ -7,6 +7,7 @@ ghost use lib.ListN.{length, getD};
 ghost use Rattle.rules.specs.Record.{sectionOf};
 ghost use Rattle.rules.specs.Load.{termAt};
 ghost use Rattle.state.specs.View.{view};
+ghost use Rattle.tables.specs.Regions.{tablesIn};
 ghost use Rattle.learning.specs.There.{termThere};
 ghost use Rattle.index.specs.Indexed.{Indexed};
 ghost use Rattle.lookup.specs.Commands.{commandsFrom};
@@ -100,12 +101,12 @@ fn enter(
 fn scan_commands(
     table: &[u64; rules::KIND_COUNT],
     file: &[u8],
-    state: &[u8],
+    tables: &[u16; tables::WORDS],
     from: usize,
     n: Tally,
 ) -> Scanned
-    requires { ⌜ CommandsReady (now file) (now state) (now table) n from ⌝ }
-    ensures result { λ r. ⌜ CommandsResult (now (file .entry)) (now (state .entry)) n from r ⌝ }
+    requires { ⌜ CommandsReady (now file) (now table) (tablesIn (now tables) .terms) n from ⌝ }
+    ensures result { λ r. ⌜ CommandsResult (now (file .entry)) (tablesIn (now (tables .entry)) .terms) n from r ⌝ }
     ensures first { λ r. ⌜ r .first ≡ from ⌝ }
     ensures terms { λ r. ⌜ r .tally .terms ≡ n .terms ⌝ }
 {
@@ -128,7 +129,7 @@ fn scan_commands(
             };
         }
         let end = reader::next_place(file, at);
-        if checks::is_plain(table, file, state, at, end, parties, terms) {
+        if checks::is_plain(table, file, tables, at, end, parties, terms) {
             commands += 1;
             at = end;
         } else {
@@ -153,7 +154,7 @@ fn scan_commands(
                     break;
                 }
                 let field = records::low_field(fields);
-                let bad = checks::command_fault(file, state, body, field, offset, parties, terms);
+                let bad = checks::command_fault(tables, body, field, offset, parties, terms);
                 if bad != 0 {
                     break 'records Scanned {
                         number: bad,
@@ -207,7 +208,7 @@ pub fn scan(
         let start = at + 1;
         let own = records::section_of(kind);
         if own == 4 {
-            break 'records scan_commands(&table, file, state, at, n);
+            break 'records scan_commands(&table, file, tables, at, n);
         }
         let section = n.section;
         let parties = n.parties;
@@ -224,14 +225,14 @@ pub fn scan(
         }
         let body = &file[start..end];
         let mut fields = records::fields_in(&table, kind);
-        let mut i = checks::seen_right(file, state, body, kind, terms);
+        let mut i = checks::seen_right(tables, body, kind, terms);
         let mut offset = 0;
         while i < records::FIELD_LIMIT {
             if fields == 0 {
                 break;
             }
             let field = records::low_field(fields);
-            let bad = checks::field_fault(file, state, body, field, offset, parties, terms);
+            let bad = checks::field_fault(tables, body, field, offset, parties, terms);
             if bad != 0 {
                 break 'records Scanned {
                     number: bad,

@@ -2,8 +2,8 @@ use mathlib.Core.Path.{sym, _∙_}
 use native.Mathlib.Omega.{arith}
 use borrow.Author.Needs.{needs}
 use Rattle.rules.specs.Load.{first, refuseUnless}
-use Rattle.checks.specs.There.{fieldFaultThere}
-use Rattle.checks.proofs.Records.{stands, message-inside, message-declared}
+use Rattle.checks.specs.There.{fieldFaultNoted}
+use Rattle.checks.proofs.Records.{message-lower}
 use Rattle.checks.proofs.Tests.{tests}
 use Rattle.checks.proofs.attest_fault.Statement.{statement}
 use Rattle.checks.proofs.attest_fault.Tie as tie
@@ -15,50 +15,41 @@ cast-t : tie.Need-cast-t
 cast-t c = search needs
 
 returns : tie.Need-returns
-unfolding fieldFaultThere first refuseUnless
+unfolding fieldFaultNoted first refuseUnless
 returns c = rw (← c .before .word-at .ensures) (search tests)
 
-kind-there-requires : tie.Need-kind-there-requires
-kind-there-requires c κs = stands (c .before .before .before .before .before .pre .0) _ (search needs)
+kind-of-requires : tie.Need-kind-of-requires
+kind-of-requires c κs = omega (arith, c .before .before .before .pre .0 .few, c .if1 .left)
 
 returns-2 : tie.Need-returns-2
-unfolding fieldFaultThere first refuseUnless
-returns-2 c = rw (← c .before .before .before .word-at .ensures, ← c .before .kind-there .ensures) (search tests)
+unfolding fieldFaultNoted first refuseUnless
+returns-2 c = rw (← c .before .before .before .word-at .ensures, ← c .before .kind-of .ensures) (search tests)
 
-place-of-requires : tie.Need-place-of-requires
-place-of-requires c κs = search needs
-
-add-word-at : tie.Need-add-word-at
-add-word-at c =
-    let signature = sym (c .before .before .kind-there .ensures) ∙ c .before .if2 .left in
-    omega (arith, message-inside (c .before .before .before .before .before .before .before .before .pre .0) _ (search needs) signature, c .place-of .ensures)
-
-word-at-requires-2 : tie.Need-word-at-requires-2
-word-at-requires-2 c κs =
-    let signature = sym (c .before .before .kind-there .ensures) ∙ c .before .if2 .left in
-    rw (c .place-of .ensures) (message-inside (c .before .before .before .before .before .before .before .before .pre .0) _ (search needs) signature)
+field-of-requires : tie.Need-field-of-requires
+field-of-requires c κs = (omega (arith, c .before .before .before .before .before .pre .0 .few, c .before .before .if1 .left), omega arith)
 
 cast-message : tie.Need-cast-message
 cast-message c = search needs
 
-kind-there-requires-2 : tie.Need-kind-there-requires-2
-kind-there-requires-2 c κs =
-    let terms = c .before .before .before .before .before .before .before .before .before .pre .0 in
-    let signature = sym (c .before .before .before .kind-there .ensures) ∙ c .before .before .if2 .left in
-    stands terms _ (rw (c .word-at2 .ensures, c .before .place-of .ensures) (message-declared terms _ (search needs) signature))
+kind-of-requires-2 : tie.Need-kind-of-requires-2
+kind-of-requires-2 c κs =
+    let terms = c .before .before .before .before .before .before .pre .0 in
+    let l = c .before .before .before .if1 .left in
+    let m = message-lower terms _ (omega (arith, l)) (sym (c .before .before .kind-of .ensures) ∙ c .before .if2 .left) in
+    omega (arith, terms .few, l, m, c .field-of .ensures)
 
 returns-3 : tie.Need-returns-3
-unfolding fieldFaultThere first refuseUnless
+unfolding fieldFaultNoted first refuseUnless
 returns-3 c =
     rw
-    (← c .before .before .before .before .before .before .before .word-at .ensures, ← c .before .before .before .before .before .kind-there .ensures, ← c .before .before .before .place-of .ensures, ← c .before .before .word-at2 .ensures, ← c .before .kind-there2 .ensures)
+    (← c .before .before .before .before .before .before .word-at .ensures, ← c .before .before .before .before .kind-of .ensures, ← c .before .before .field-of .ensures, ← c .before .kind-of2 .ensures)
     (search tests)
 
 returns-4 : tie.Need-returns-4
-unfolding fieldFaultThere first refuseUnless
+unfolding fieldFaultNoted first refuseUnless
 returns-4 c =
     rw
-    (← c .before .before .before .before .before .before .before .word-at .ensures, ← c .before .before .before .before .before .kind-there .ensures, ← c .before .before .before .place-of .ensures, ← c .before .before .word-at2 .ensures, ← c .before .kind-there2 .ensures)
+    (← c .before .before .before .before .before .before .word-at .ensures, ← c .before .before .before .before .kind-of .ensures, ← c .before .before .field-of .ensures, ← c .before .kind-of2 .ensures)
     (search tests)
 
 pub attest-fault-spec : {M : Type 1} → statement M
@@ -68,12 +59,10 @@ attest-fault-spec =
     word-at-requires
     cast-t
     returns
-    kind-there-requires
+    kind-of-requires
     returns-2
-    place-of-requires
-    add-word-at
-    word-at-requires-2
+    field-of-requires
     cast-message
-    kind-there-requires-2
+    kind-of-requires-2
     returns-3
     returns-4)

@@ -1,6 +1,6 @@
 use borrow.Author.Needs.{needs}
 use mathlib.Core.Bool.{false≢true}
-use Rattle.checks.specs.There.{fieldFaultThere}
+use Rattle.checks.specs.There.{fieldFaultNoted}
 use Rattle.checks.proofs.Seen.{certificate-seen}
 use Rattle.checks.proofs.certificate_right.Statement.{statement}
 use Rattle.checks.proofs.certificate_right.Tie as tie
@@ -24,7 +24,7 @@ returns-3 : tie.Need-returns-3
 returns-3 c l = absurd (false≢true l)
 
 returns-4 : tie.Need-returns-4
-unfolding fieldFaultThere
+unfolding fieldFaultNoted
 returns-4 c l =
     certificate-seen (c .before .before .before .before .before .kind-fault .ensures) (c .before .before .before .before .if1 .left)
     (c .before .before .before .byte-fault .ensures) (c .before .before .if2 .left)

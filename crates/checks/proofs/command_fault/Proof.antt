@@ -2,7 +2,7 @@ use mathlib.Core.Path.{ap}
 use native.Mathlib.Omega.{arith}
 use borrow.Author.Needs.{needs}
 use Rattle.rules.specs.Record.{width}
-use Rattle.checks.specs.There.{fieldFaultThere}
+use Rattle.checks.specs.There.{fieldFaultNoted}
 use Rattle.checks.proofs.command_fault.Statement.{statement}
 use Rattle.checks.proofs.command_fault.Tie as tie
 
@@ -48,7 +48,7 @@ enum-known-field c = search needs
 
 kind-fault-requires : tie.Need-kind-fault-requires
 unfolding width
-kind-fault-requires c κs = (c .before .before .before .before .before .before .pre .0, omega (arith, ap width (c .before .field .given .1)))
+kind-fault-requires c κs = (c .before .before .before .before .pre .0, omega (arith, ap width (c .before .field .given .1)))
 
 enum-told-7 : tie.Need-enum-told-7
 enum-told-7 c = search needs
@@ -75,14 +75,14 @@ returns-4 : tie.Need-returns-4
 returns-4 c = search needs
 
 returns-5 : tie.Need-returns-5
-unfolding fieldFaultThere
+unfolding fieldFaultNoted
 returns-5 c = rw (c .before .enum-told5 .given .1) (c .byte-fault .ensures)
 
 returns-6 : tie.Need-returns-6
 returns-6 c = search needs
 
 returns-7 : tie.Need-returns-7
-unfolding fieldFaultThere
+unfolding fieldFaultNoted
 returns-7 c = rw (c .before .before .field .given .1) (c .kind-fault .ensures)
 
 returns-8 : tie.Need-returns-8

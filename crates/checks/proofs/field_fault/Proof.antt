@@ -2,7 +2,7 @@ use mathlib.Core.Path.{ap}
 use native.Mathlib.Omega.{arith}
 use borrow.Author.Needs.{needs}
 use Rattle.rules.specs.Record.{width}
-use Rattle.checks.specs.There.{fieldFaultThere}
+use Rattle.checks.specs.There.{fieldFaultNoted}
 use Rattle.checks.proofs.field_fault.Statement.{statement}
 use Rattle.checks.proofs.field_fault.Tie as tie
 
@@ -49,56 +49,56 @@ enum-known-field c = search needs
 
 kind-fault-requires : tie.Need-kind-fault-requires
 unfolding width
-kind-fault-requires c κs = (c .before .before .before .before .before .before .pre .0, omega (arith, ap width (c .before .field .given .1)))
+kind-fault-requires c κs = (c .before .before .before .before .pre .0, omega (arith, ap width (c .before .field .given .1)))
 
 enum-told-7 : tie.Need-enum-told-7
 enum-told-7 c = search needs
 
 attest-fault-requires : tie.Need-attest-fault-requires
 unfolding width
-attest-fault-requires c κs = (c .before .before .before .before .before .pre .0, omega (arith, ap width (c .enum-told7 .given .1)))
+attest-fault-requires c κs = (c .before .before .before .pre .0, omega (arith, ap width (c .enum-told7 .given .1)))
 
 enum-told-8 : tie.Need-enum-told-8
 enum-told-8 c = search needs
 
 pair-fault-requires : tie.Need-pair-fault-requires
 unfolding width
-pair-fault-requires c κs = (c .before .before .before .before .before .pre .0, omega (arith, ap width (c .enum-told8 .given .1)))
+pair-fault-requires c κs = (c .before .before .before .pre .0, omega (arith, ap width (c .enum-told8 .given .1)))
 
 returns : tie.Need-returns
-unfolding fieldFaultThere
+unfolding fieldFaultNoted
 returns c = rw (c .before .enum-told .given .1) (c .byte-fault .ensures)
 
 returns-2 : tie.Need-returns-2
-unfolding fieldFaultThere
+unfolding fieldFaultNoted
 returns-2 c = rw (c .enum-told2 .given .1)
 
 returns-3 : tie.Need-returns-3
-unfolding fieldFaultThere
+unfolding fieldFaultNoted
 returns-3 c = rw (c .before .enum-told3 .given .1) (c .byte-fault2 .ensures)
 
 returns-4 : tie.Need-returns-4
-unfolding fieldFaultThere
+unfolding fieldFaultNoted
 returns-4 c = rw (c .before .enum-told4 .given .1) (c .byte-fault3 .ensures)
 
 returns-5 : tie.Need-returns-5
-unfolding fieldFaultThere
+unfolding fieldFaultNoted
 returns-5 c = rw (c .before .enum-told5 .given .1) (c .byte-fault4 .ensures)
 
 returns-6 : tie.Need-returns-6
-unfolding fieldFaultThere
+unfolding fieldFaultNoted
 returns-6 c = rw (c .before .enum-told6 .given .1) (c .declared-fault .ensures)
 
 returns-7 : tie.Need-returns-7
-unfolding fieldFaultThere
+unfolding fieldFaultNoted
 returns-7 c = rw (c .before .before .field .given .1) (c .kind-fault .ensures)
 
 returns-8 : tie.Need-returns-8
-unfolding fieldFaultThere
+unfolding fieldFaultNoted
 returns-8 c = rw (c .before .enum-told7 .given .1) (c .attest-fault .ensures)
 
 returns-9 : tie.Need-returns-9
-unfolding fieldFaultThere
+unfolding fieldFaultNoted
 returns-9 c = rw (c .before .enum-told8 .given .1) (c .pair-fault .ensures)
 
 pub field-fault-spec : {M : Type 1} → statement M

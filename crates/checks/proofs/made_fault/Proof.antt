@@ -5,19 +5,20 @@ use Prim.Native.Nat.{ℕ}
 use native.Mathlib.Omega.{arith}
 use Rattle.rules.specs.declared.Field.{Field}
 use Rattle.rules.specs.declared.Field.the-variants.{TermOf, SignedAttest}
-use Rattle.checks.specs.There.{fieldFaultThere}
+use Rattle.tables.specs.Regions.{Terms}
+use Rattle.checks.specs.There.{fieldFaultNoted}
 use Rattle.checks.proofs.made_fault.Statement.{statement}
 use Rattle.checks.proofs.made_fault.Tie as tie
 
 -- what these fields take does not hang on the parties
-module _ (bs : List ℕ) (place : ℕ → ℕ) (terms i : ℕ) (body : List ℕ) (parties : ℕ) {y : ℕ} {x : Field} where
-  attests : x ≡ SignedAttest → y ≡ fieldFaultThere bs place 0 terms SignedAttest i body → y ≡ 0 → fieldFaultThere bs place parties terms x i body ≡ 0
-  unfolding fieldFaultThere
-  attests e q z = subst⁻¹ (λ (x : Field). fieldFaultThere bs place parties terms x i body ≡ 0) e (sym q ∙ z)
+module _ (v : Terms) (terms i : ℕ) (body : List ℕ) (parties : ℕ) {y : ℕ} {x : Field} where
+  attests : x ≡ SignedAttest → y ≡ fieldFaultNoted v 0 terms SignedAttest i body → y ≡ 0 → fieldFaultNoted v parties terms x i body ≡ 0
+  unfolding fieldFaultNoted
+  attests e q z = subst⁻¹ (λ (x : Field). fieldFaultNoted v parties terms x i body ≡ 0) e (sym q ∙ z)
 
-  kinds : {k : ℕ} → x ≡ TermOf k → y ≡ fieldFaultThere bs place 0 terms (TermOf k) i body → y ≡ 0 → fieldFaultThere bs place parties terms x i body ≡ 0
-  unfolding fieldFaultThere
-  kinds e q z = subst⁻¹ (λ (x : Field). fieldFaultThere bs place parties terms x i body ≡ 0) e (sym q ∙ z)
+  kinds : {k : ℕ} → x ≡ TermOf k → y ≡ fieldFaultNoted v 0 terms (TermOf k) i body → y ≡ 0 → fieldFaultNoted v parties terms x i body ≡ 0
+  unfolding fieldFaultNoted
+  kinds e q z = subst⁻¹ (λ (x : Field). fieldFaultNoted v parties terms x i body ≡ 0) e (sym q ∙ z)
 
 enum-known-field : tie.Need-enum-known-field
 enum-known-field c = search needs
@@ -26,7 +27,7 @@ kind-fault-requires : tie.Need-kind-fault-requires
 kind-fault-requires c κs = search needs
 
 returns : tie.Need-returns
-returns c z parties = kinds _ _ _ _ _ parties (c .before .before .field .given .1) (c .kind-fault .ensures) z
+returns c z parties = kinds _ _ _ _ parties (c .before .before .field .given .1) (c .kind-fault .ensures) z
 
 enum-told : tie.Need-enum-told
 enum-told c = search needs
@@ -35,7 +36,7 @@ attest-fault-requires : tie.Need-attest-fault-requires
 attest-fault-requires c κs = search needs
 
 returns-2 : tie.Need-returns-2
-returns-2 c z parties = attests _ _ _ _ _ parties (c .before .enum-told .given .1) (c .attest-fault .ensures) z
+returns-2 c z parties = attests _ _ _ _ parties (c .before .enum-told .given .1) (c .attest-fault .ensures) z
 
 returns-3 : tie.Need-returns-3
 returns-3 c z = absurd (omega (arith, z))

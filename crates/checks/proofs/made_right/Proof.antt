@@ -8,8 +8,8 @@ use lib.ListN.{take, drop}
 use denote.Ref.{now}
 use Rattle.rules.specs.declared.Field.{Field}
 use Rattle.records.specs.Codes.{lowField}
-use Rattle.state.specs.View.{view}
-use Rattle.checks.specs.There.{fieldFaultThere}
+use Rattle.tables.specs.Regions.{tablesIn}
+use Rattle.checks.specs.There.{fieldFaultNoted}
 use Rattle.checks.proofs.Plain.{made-second, made-plain}
 use Rattle.checks.proofs.made_right.Statement.{statement}
 use Rattle.checks.proofs.made_right.Tie as tie
@@ -48,9 +48,9 @@ returns-3 : tie.Need-returns-3
 returns-3 c l = absurd (false≢true l)
 
 returns-4 : tie.Need-returns-4
-unfolding fieldFaultThere
+unfolding fieldFaultNoted
 returns-4 c l =
-    let o = c .before .before .before .before .before .before .before .before .before .before in
+    let o = c .before .before .before .before .before .before .before .before .before in
     let file : List ℕ = o .args .file .now in
     let at : ℕ = o .args .at in
     let end : ℕ = o .args .end in
@@ -60,7 +60,7 @@ returns-4 c l =
     let x = c .before .before .low-field .ensures ∙ ap (λ (n : ℕ). lowField (n / 256)) (c .before .before .before .fields-in .ensures) ∙ made-second _ (o .pre .4) (o .pre .5) in
     made-plain (o .pre .3) (omega (arith, h)) (o .pre .4) (o .pre .5) q (ap (λ (n : ℕ). take n (drop (at + 1) file)) r)
     (c .before .before .before .before .before .byte-fault .ensures) (c .before .before .before .before .if2 .left)
-    (subst (λ (x : Field). fieldFaultThere file (view (now (o .args .state)) .place) (o .args .parties) (o .args .terms) x 1 (take (end - (at + 1)) (drop (at + 1) file)) ≡ 0) x (c .before .made-fault .ensures (c .if3 .left) (o .args .parties)))
+    (subst (λ (x : Field). fieldFaultNoted (tablesIn (now (o .args .tables)) .terms) (o .args .parties) (o .args .terms) x 1 (take (end - (at + 1)) (drop (at + 1) file)) ≡ 0) x (c .before .made-fault .ensures (c .if3 .left) (o .args .parties)))
 
 pub made-right-spec : {M : Type 1} → statement M
 made-right-spec = tie.close (tie.spec add-start returns sub-body part-body-start part-body-end byte-fault-requires returns-2 fields-in-requires low-field-requires made-fault-requires returns-3 returns-4)

@@ -4,7 +4,7 @@ use mathlib.Core.List.{List}
 use Prim.Native.Nat.{ℕ, zero, suc}
 use borrow.Author.Needs.{needs}
 use Rattle.rules.specs.Load.{first, emptyPair}
-use Rattle.checks.specs.There.{fieldFaultThere}
+use Rattle.checks.specs.There.{fieldFaultNoted}
 use Rattle.checks.proofs.pair_fault.Statement.{statement}
 use Rattle.checks.proofs.pair_fault.Tie as tie
 
@@ -29,21 +29,21 @@ empty-pair-requires : tie.Need-empty-pair-requires
 empty-pair-requires c κs = search needs
 
 returns : tie.Need-returns
-unfolding fieldFaultThere
+unfolding fieldFaultNoted
 returns c = rw (← c .before .empty-pair .ensures, c .if1 .taken)
 
 kind-fault-requires : tie.Need-kind-fault-requires
 kind-fault-requires c κs = search needs
 
 returns-2 : tie.Need-returns-2
-unfolding fieldFaultThere
+unfolding fieldFaultNoted
 returns-2 c = of-credential _ _ (sym (c .before .before .before .empty-pair .ensures) ∙ c .before .before .if1 .left) _ (c .before .kind-fault .ensures) (c .if2 .taken)
 
 kind-fault-requires-2 : tie.Need-kind-fault-requires-2
 kind-fault-requires-2 c κs = search needs
 
 returns-3 : tie.Need-returns-3
-unfolding fieldFaultThere
+unfolding fieldFaultNoted
 returns-3 c =
     of-certificate _ _ (sym (c .before .before .before .before .empty-pair .ensures) ∙ c .before .before .before .if1 .left) _ (c .before .before .kind-fault .ensures) (c .before .if2 .left) (c .kind-fault2 .ensures)
 

@@ -5,7 +5,7 @@ use mathlib.Core.Bool.{false≢true}
 use Prim.Native.Nat.{ℕ, _+_, _-_}
 use native.Mathlib.Omega.{arith}
 use lib.ListN.{take, drop}
-use Rattle.checks.specs.There.{fieldFaultThere}
+use Rattle.checks.specs.There.{fieldFaultNoted}
 use Rattle.checks.proofs.Plain.{pairs-plain}
 use Rattle.checks.proofs.pairs_right.Statement.{statement}
 use Rattle.checks.proofs.pairs_right.Tie as tie
@@ -50,21 +50,21 @@ returns-5 : tie.Need-returns-5
 returns-5 c l = absurd (false≢true l)
 
 pair-fault-requires-3 : tie.Need-pair-fault-requires-3
-pair-fault-requires-3 c κs = (c .before .before .before .before .before .before .before .before .before .before .before .before .pre .0, search needs)
+pair-fault-requires-3 c κs = (c .before .before .before .before .before .before .before .before .before .before .before .pre .0, search needs)
 
 returns-6 : tie.Need-returns-6
 returns-6 c l = absurd (false≢true l)
 
 pair-fault-requires-4 : tie.Need-pair-fault-requires-4
-pair-fault-requires-4 c κs = (c .before .before .before .before .before .before .before .before .before .before .before .before .before .before .pre .0, search needs)
+pair-fault-requires-4 c κs = (c .before .before .before .before .before .before .before .before .before .before .before .before .before .pre .0, search needs)
 
 returns-7 : tie.Need-returns-7
 returns-7 c l = absurd (false≢true l)
 
 returns-8 : tie.Need-returns-8
-unfolding fieldFaultThere
+unfolding fieldFaultNoted
 returns-8 c l =
-    let o = c .before .before .before .before .before .before .before .before .before .before .before .before .before .before .before .before in
+    let o = c .before .before .before .before .before .before .before .before .before .before .before .before .before .before .before in
     let file : List ℕ = o .args .file .now in
     let at : ℕ = o .args .at in
     let end : ℕ = o .args .end in

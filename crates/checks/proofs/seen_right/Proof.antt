@@ -2,7 +2,7 @@
 use mathlib.Core.Path.{refl}
 use mathlib.Core.Logic.{inl, inr}
 use native.Mathlib.Omega.{arith}
-use Rattle.checks.specs.There.{fieldFaultThere}
+use Rattle.checks.specs.There.{fieldFaultNoted}
 use Rattle.checks.proofs.Seen.{key-body, hash-body, signature-body, certificate-body, pair-body, right-of, key-seen, hash-seen, number-seen, pair-seen}
 use Rattle.checks.proofs.seen_right.Statement.{statement}
 use Rattle.checks.proofs.seen_right.Tie as tie
@@ -17,7 +17,7 @@ returns-2 : tie.Need-returns-2
 returns-2 c = inl refl
 
 returns-3 : tie.Need-returns-3
-unfolding fieldFaultThere
+unfolding fieldFaultNoted
 returns-3 c = inr (refl, key-seen (c .before .before .before .if1 .left) (c .before .before .if2 .taken) (c .before .byte-fault .ensures) (c .if3 .left))
 
 declared-fault-requires : tie.Need-declared-fault-requires
@@ -27,11 +27,11 @@ returns-4 : tie.Need-returns-4
 returns-4 c = inl refl
 
 returns-5 : tie.Need-returns-5
-unfolding fieldFaultThere
+unfolding fieldFaultNoted
 returns-5 c = inr (refl, right-of (c .before .before .if4 .taken) (hash-seen (c .before .declared-fault .ensures) (c .if5 .left)))
 
 signature-right-requires : tie.Need-signature-right-requires
-signature-right-requires c κs = (c .before .before .before .before .before .before .before .pre .0, omega (arith, signature-body _ (c .if6 .taken)))
+signature-right-requires c κs = (c .before .before .before .before .before .pre .0, omega (arith, signature-body _ (c .if6 .taken)))
 
 returns-6 : tie.Need-returns-6
 returns-6 c = inr (refl, right-of (c .before .before .if6 .taken) (c .before .signature-right .ensures (c .if7 .taken)))
@@ -43,7 +43,7 @@ returns-8 : tie.Need-returns-8
 returns-8 c = inr (refl, right-of (c .if8 .taken) number-seen)
 
 certificate-right-requires : tie.Need-certificate-right-requires
-certificate-right-requires c κs = (c .before .before .before .before .before .before .before .before .before .pre .0, omega (arith, certificate-body _ (c .if9 .taken)))
+certificate-right-requires c κs = (c .before .before .before .before .before .before .before .pre .0, omega (arith, certificate-body _ (c .if9 .taken)))
 
 returns-9 : tie.Need-returns-9
 returns-9 c = inr (refl, right-of (c .before .before .if9 .taken) (c .before .certificate-right .ensures (c .if10 .taken)))
@@ -64,7 +64,7 @@ returns-12 : tie.Need-returns-12
 returns-12 c = inl refl
 
 returns-13 : tie.Need-returns-13
-unfolding fieldFaultThere
+unfolding fieldFaultNoted
 returns-13 c = inr (refl, right-of (c .before .before .before .before .if11 .taken) (pair-seen (c .before .before .before .declared-fault2 .ensures) (c .before .before .if12 .left) (c .before .declared-fault3 .ensures) (c .if13 .left)))
 
 returns-14 : tie.Need-returns-14

@@ -5,7 +5,7 @@ use mathlib.Core.Bool.{false≢true}
 use Prim.Native.Nat.{ℕ, _+_, _-_}
 use native.Mathlib.Omega.{arith}
 use lib.ListN.{take, drop}
-use Rattle.checks.specs.There.{fieldFaultThere}
+use Rattle.checks.specs.There.{fieldFaultNoted}
 use Rattle.checks.proofs.Plain.{sent-plain}
 use Rattle.checks.proofs.sent_right.Statement.{statement}
 use Rattle.checks.proofs.sent_right.Tie as tie
@@ -44,9 +44,9 @@ returns-4 : tie.Need-returns-4
 returns-4 c l = absurd (false≢true l)
 
 returns-5 : tie.Need-returns-5
-unfolding fieldFaultThere
-returns-5 c l =
-    let o = c .before .before .before .before .before .before .before .before .before .before in
+unfolding fieldFaultNoted
+returns-5 c l v =
+    let o = c .before .before .before .before .before .before .before .before .before in
     let file : List ℕ = o .args .file .now in
     let at : ℕ = o .args .at in
     let end : ℕ = o .args .end in

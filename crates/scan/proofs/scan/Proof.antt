@@ -24,6 +24,7 @@ use Rattle.lookup.specs.Commands.{commandsFrom}
 use Rattle.lookup.proofs.Commands.{commands-end, commands-here, commands-later}
 use Rattle.scan.specs.declared.Tally.{Tally}
 use Rattle.scan.specs.Describes.{counted, At}
+use Rattle.setup.proofs.Terms.{looked-up}
 use Rattle.scan.proofs.Scanning.{head-is, at-start, at-end, at-head, fits, Walks, body-same, body-whole, fields-begin, field-ready, field-small, field-refused, field-passed, enter-asks, last-refused, record-taken, counts-small}
 use Rattle.scan.proofs.scan.Statement.{statement}
 use Rattle.scan.proofs.scan.Tie as tie
@@ -83,7 +84,7 @@ section-of-requires c κs = search needs
 scan-commands-requires : tie.Need-scan-commands-requires Inv-loop μ-loop Inv-records μ-records
 scan-commands-requires c κs =
     let i = c .before .before .before .before .before .before .records .inv in
-    record { rows = c .before .before .before .before .before .before .before .field-table .ensures; signers = _; here = i .1; more = c .before .before .before .before .before .if1 .left; command = sym (c .before .before .before .section-of .ensures) ∙ c .before .before .if2 .taken }
+    record { rows = c .before .before .before .before .before .before .before .field-table .ensures; state = _; signers = _; here = i .1; noted = i .2 .noted; more = c .before .before .before .before .before .if1 .left; command = sym (c .before .before .before .section-of .ensures) ∙ c .before .before .if2 .taken }
 
 next-place-requires : tie.Need-next-place-requires Inv-loop μ-loop Inv-records μ-records
 next-place-requires c κs = search needs
@@ -111,7 +112,7 @@ seen-right-requires c κs =
     let l = c .before .before .before .before .before .before .before .before .before .before .if1 .left in
     let e = c .before .before .before .before .before .before .next-place .ensures in
     let z = sym (head-is _ _ _ _ _ (c .before .before .before .before .before .before .before .before .section-of .ensures) e (c .before .before .before .before .before .head-fault .ensures)) ∙ c .before .before .before .before .if3 .left in
-    (a .describes .there, body-whole _ _ _ (body-same _ _ _ e) (fits _ _ _ _ _ a l z))
+    (looked-up (a .describes .there) (c .before .before .before .before .before .before .before .before .before .before .before .records .inv .2 .noted), body-whole _ _ _ (body-same _ _ _ e) (fits _ _ _ _ _ a l z))
 
 loop-holds : tie.Need-loop-holds Inv-loop μ-loop Inv-records μ-records
 loop-holds c =
@@ -119,7 +120,7 @@ loop-holds c =
     let l = c .before .before .before .before .before .before .before .before .before .before .before .if1 .left in
     let e = c .before .before .before .before .before .before .before .next-place .ensures in
     let z = sym (head-is _ _ _ _ _ (c .before .before .before .before .before .before .before .before .before .section-of .ensures) e (c .before .before .before .before .before .before .head-fault .ensures)) ∙ c .before .before .before .before .before .if3 .left in
-    fields-begin a l z (body-same _ _ _ e) (c .before .before .fields-in .ensures) (c .seen-right .ensures)
+    fields-begin a l z (c .before .before .before .before .before .before .before .before .before .before .before .before .records .inv .2 .noted) (body-same _ _ _ e) (c .before .before .fields-in .ensures) (c .seen-right .ensures)
 
 low-field-requires : tie.Need-low-field-requires Inv-loop μ-loop Inv-records μ-records
 low-field-requires c κs = search needs
@@ -128,7 +129,7 @@ field-fault-requires : tie.Need-field-fault-requires Inv-loop μ-loop Inv-record
 field-fault-requires c κs =
     let w = c .before .before .before .before .loop .inv .0 in
     let l = field-left _ _ _ (c .before .before .before .before .loop .inv .1 (c .before .before .before .loop-test .taken)) (c .before .before .before .loop-test .taken) (c .before .before .if4 .left) in
-    (w .here .describes .there, field-ready _ _ _ _ _ _ _ _ w _ refl (l .0) _ (c .before .low-field .ensures ∙ l .1))
+    (looked-up (w .here .describes .there) (c .before .before .before .before .before .before .before .before .before .before .before .before .before .before .before .before .before .records .inv .2 .noted), field-ready _ _ _ _ _ _ _ _ w _ refl (l .0) _ (c .before .low-field .ensures ∙ l .1))
 
 width-requires : tie.Need-width-requires Inv-loop μ-loop Inv-records μ-records
 width-requires c κs = search needs
@@ -149,7 +150,7 @@ loop-again : tie.Need-loop-again Inv-loop μ-loop Inv-records μ-records
 loop-again c =
     let w = c .before .before .before .before .before .before .before .loop .inv in
     let l = field-left _ _ _ (c .before .before .before .before .before .before .before .loop .inv .1 (c .before .before .before .before .before .before .loop-test .taken)) (c .before .before .before .before .before .before .loop-test .taken) (c .before .before .before .before .before .if4 .left) in
-    (field-passed _ _ _ _ _ _ _ _ (w .0) _ refl (l .0) _ (c .before .before .before .before .low-field .ensures ∙ l .1) _ (c .before .before .field-fault .ensures) (c .before .if5 .left) _ (c .width .ensures), λ _. field-next _ _ _ (w .1 (c .before .before .before .before .before .before .loop-test .taken)) (c .before .before .before .before .before .before .loop-test .taken))
+    (field-passed _ _ _ _ _ _ _ _ (w .0) _ refl (l .0) _ (c .before .before .before .before .low-field .ensures ∙ l .1) (c .before .before .before .before .before .before .before .before .before .before .before .before .before .before .before .before .before .before .before .before .records .inv .2 .noted) _ (c .before .before .field-fault .ensures) (c .before .if5 .left) _ (c .width .ensures), λ _. field-next _ _ _ (w .1 (c .before .before .before .before .before .before .loop-test .taken)) (c .before .before .before .before .before .before .loop-test .taken))
 
 enter-requires : tie.Need-enter-requires Inv-loop μ-loop Inv-records μ-records
 enter-requires c κs =
@@ -188,7 +189,7 @@ returns-2 : tie.Need-returns-2 Inv-loop μ-loop Inv-records μ-records
 returns-2 c =
     let bs = c .before .before .before .before .before .before .before .before .before .before .before .args .file .now in
     let place = c .before .before .before .before .before .before .before .records .at in (
-      c .scan-commands .ensures .0 _ (c .before .before .before .before .before .before .before .records .inv .1),
+      c .scan-commands .ensures .0 _ _ (c .before .before .before .before .before .before .before .records .inv .1) (c .before .before .before .before .before .before .before .records .inv .2 .noted),
       (
         λ _. c .scan-commands .ensures .1 .0 ∙ sym (commands-here bs place (c .before .before .before .before .before .before .if1 .left) (sym (c .before .before .before .before .section-of .ensures) ∙ c .before .before .before .if2 .taken)) ∙ c .before .before .before .before .before .before .before .records .inv .3,
         λ _. indexed-terms (c .scan-commands .ensures .1 .1) (c .before .before .before .before .before .before .before .records .inv .2),
@@ -208,7 +209,7 @@ returns-4 : tie.Need-returns-4 Inv-loop μ-loop Inv-records μ-records
 returns-4 c =
     let w = c .before .before .before .before .before .before .loop .inv .0 in
     let l = field-left _ _ _ (c .before .before .before .before .before .before .loop .inv .1 (c .before .before .before .before .before .loop-test .taken)) (c .before .before .before .before .before .loop-test .taken) (c .before .before .before .before .if4 .left) in
-    (field-refused _ _ _ _ _ _ _ _ w _ refl (l .0) _ (c .before .before .before .low-field .ensures ∙ l .1) _ (c .before .field-fault .ensures) (c .if5 .taken), (λ z. absurd (c .if5 .taken z), λ z. absurd (c .if5 .taken z)))
+    (field-refused _ _ _ _ _ _ _ _ w _ refl (l .0) _ (c .before .before .before .low-field .ensures ∙ l .1) (c .before .before .before .before .before .before .before .before .before .before .before .before .before .before .before .before .before .before .before .records .inv .2 .noted) _ (c .before .field-fault .ensures) (c .if5 .taken), (λ z. absurd (c .if5 .taken z), λ z. absurd (c .if5 .taken z)))
 
 same-length-5 : tie.Need-same-length-5 Inv-loop μ-loop Inv-records μ-records
 same-length-5 c = c .before .before .before .enter .kept .1 .0 ∙ c .before .before .before .before .before .before .before .before .before .before .before .before .before .before .before .before .before .before .before .before .before .before .records .inv .0
