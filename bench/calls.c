@@ -5,6 +5,7 @@
 #include <stdlib.h>
 
 static uint8_t file[BIRDWEEKLY_FILE_BYTES], state[BIRDWEEKLY_STATE_BYTES], outcomes[BIRDWEEKLY_OUTCOME_BYTES];
+static uint8_t registers[BIRDWEEKLY_REGISTER_BYTES];
 static birdweekly_entry ledger[BIRDWEEKLY_LEDGER_ENTRIES];
 
 int main(int count, char **words) {
@@ -14,8 +15,9 @@ int main(int count, char **words) {
     uint32_t sum = 0;
     for (int left = atoi(words[2]); left; left--)
         sum += words[3][0] == 'l' ? birdweekly_load(file, length, state, sizeof state).commands
-                                  : birdweekly_run(file, length, SIZE_MAX, state, sizeof state, ledger, BIRDWEEKLY_LEDGER_ENTRIES,
-                                                   outcomes, sizeof outcomes)
+                                  : birdweekly_run(file, length, SIZE_MAX, state, sizeof state, ledger,
+                                                   BIRDWEEKLY_LEDGER_ENTRIES, outcomes, sizeof outcomes, registers,
+                                                   sizeof registers)
                                         .accepted;
     printf("%u\n", sum);
     return 0;

@@ -1,12 +1,12 @@
-/* An engine for scenario files in plain C, the speed baseline of the proved one. Written from the papers (document 01 and,
-   of document 02, requests 1 to 5 and 12) and the readings in docs/DECISIONS.md and reading/READINGS.md, so that it is no
-   third reading of the papers. peer_load, peer_run and peer_path are birdweekly_load, birdweekly_run and birdweekly_path by
-   another name; the stock of request 12 is left out.
+/* An engine for scenario files in plain C, the speed baseline of the proved one. Written from the papers (document 01
+   and, of document 02, requests 1 to 6 and 12) and the readings in docs/DECISIONS.md and reading/READINGS.md, so that
+   it is no third reading of the papers. peer_load, peer_run and peer_path are birdweekly_load, birdweekly_run and
+   birdweekly_path by another name; the stock of request 12 is left out.
 
        gcc -std=c11 -O3 -c peer.c
 
-   A file is gone through twice: `load` checks every record and keeps the terms as words, `execute` runs the commands. Lent
-   first parts are written in place, and what is left of them is cleared at the end. */
+   A file is gone through twice: `load` checks every record and keeps the terms as words, `execute` runs the commands.
+   Lent first parts are written in place, and what is left of them is cleared at the end. */
 #include <stddef.h>
 #include <stdint.h>
 #include <string.h>
@@ -34,6 +34,8 @@ enum {
     STATE_BYTES = 8192,
     ENTRIES = 1024,
     OUTCOMES = 8192,
+    REGISTERS = 24,
+    REGISTER_BYTES = PARTIES * REGISTERS * 2,
     PLACES = 9,
     BUCKETS = 128, /* a file has terms for some 146 IAK certificates at most */
     NONE = 0xFFFF, /* no term has this number */
@@ -41,15 +43,18 @@ enum {
 
 enum { DEVICE, MAKER, OEM, OWNER };
 enum { RESTRICTED = 1, SIGN = 2, DECRYPT = 4, FIXED = 8 };
-enum { AK = RESTRICTED | SIGN | FIXED, EK = RESTRICTED | DECRYPT | FIXED, DEVID = SIGN | FIXED, DESK_KEY = SIGN | FIXED };
+enum {
+    AK = RESTRICTED | SIGN | FIXED, EK = RESTRICTED | DECRYPT | FIXED, DEVID = SIGN | FIXED, DESK_KEY = SIGN | FIXED,
+};
 enum { USED = 1, OPEN = 2, CLOSED = 3 };
 
 enum {
     PUBLIC = 0x10, PRIVATE, HASH, SIGNATURE, ATTEST, CREDENTIAL, NUMBER, IDEVID, LDEVID, CERTIFICATE, PAIR,
+    REGISTER, QUOTE,
 };
 
-/* A term is one word: kind, attributes or first byte of the Subject, and up to three more fields. Two terms are alike where
-   their words are equal. The parts of a term stand first.
+/* A term is one word: kind, attributes, first byte of the Subject or register, and up to three more fields. Two terms
+   are alike where their words are equal. The parts of a term stand first.
 
        kind          8..15        16..31       32..47       48..63
        PUBLIC        attributes   id
@@ -62,7 +67,9 @@ enum {
        IDEVID        Subject      certificate  public key   serial number
        LDEVID                     message      certificate
        CERTIFICATE   Subject      public key   private key  serial number
-       PAIR                       first        second */
+       PAIR                       first        second
+       REGISTER      register
+       QUOTE         register     value        number */
 static inline uint64_t word(unsigned kind, unsigned x, unsigned a, unsigned b, unsigned c)
 {
     return (uint64_t)kind | (uint64_t)x << 8 | (uint64_t)a << 16 | (uint64_t)b << 32 | (uint64_t)c << 48;
@@ -75,7 +82,8 @@ static inline unsigned b_of(uint64_t w) { return (uint16_t)(w >> 32); }
 static inline unsigned c_of(uint64_t w) { return (uint16_t)(w >> 48); }
 
 static const uint8_t parts_of[16] = {
-    [SIGNATURE & 15] = 1, [ATTEST & 15] = 1, [CERTIFICATE & 15] = 1, [IDEVID & 15] = 2, [LDEVID & 15] = 2, [PAIR & 15] = 2,
+    [SIGNATURE & 15] = 1, [ATTEST & 15] = 1, [CERTIFICATE & 15] = 1,
+    [IDEVID & 15] = 2, [LDEVID & 15] = 2, [PAIR & 15] = 2, [QUOTE & 15] = 2,
 };
 
 /* What is found out about a term beside its fields. */
@@ -94,12 +102,14 @@ typedef struct {
     uint16_t stack[TERMS];     /* terms still to be opened */
     uint16_t bucket[BUCKETS];  /* the first IAK certificate of each Subject, by serial number; term plus 1, or 0 */
     uint16_t sign[PARTIES];    /* signing keys, or NONE */
+    uint16_t start[REGISTERS]; /* starting values of the registers, or NONE */
     uint8_t role[PARTIES];
     uint32_t parties, terms, commands;
     uint32_t first; /* where the first command stands */
 } engine;
 
 static inline unsigned be16(const uint8_t *p) { return (unsigned)p[0] << 8 | p[1]; }
+static inline void put16(uint8_t *p, unsigned t) { p[0] = (uint8_t)(t >> 8); p[1] = (uint8_t)t; }
 
 /* The state of a term: known by, TPM table, mark, desk, request, place. */
 static inline uint8_t *row(uint8_t *state, unsigned t) { return state + 8 * (size_t)t; }
@@ -130,16 +140,17 @@ static inline void learn(engine *restrict e, uint8_t *restrict state, unsigned t
     }
 }
 
-/* ------------------------------------------------------------------------------------------------------------ loading */
+/* ---------------------------------------------------------------------------------------------------------- loading */
 
 /* The length of a kind's record, 0 for an unknown kind. */
 static unsigned record_length(unsigned kind)
 {
-    static const uint8_t length[0x44] = {
+    static const uint8_t length[0x46] = {
         [0x01] = 2, [0x10] = 4, [0x11] = 4, [0x12] = 3, [0x13] = 5, [0x14] = 3, [0x15] = 7, [0x16] = 3, [0x17] = 8,
-        [0x18] = 5, [0x19] = 8, [0x1A] = 5, [0x20] = 4, [0x21] = 4, [0x22] = 4, [0x30] = 4, [0x31] = 4, [0x32] = 4,
-        [0x33] = 4, [0x34] = 4, [0x35] = 4, [0x36] = 4, [0x37] = 4, [0x38] = 6, [0x39] = 6, [0x3A] = 6, [0x3B] = 5,
-        [0x3C] = 5, [0x3D] = 4, [0x3E] = 6, [0x3F] = 7, [0x40] = 6, [0x41] = 6, [0x42] = 6, [0x43] = 19,
+        [0x18] = 5, [0x19] = 8, [0x1A] = 5, [0x1B] = 2, [0x1C] = 6, [0x20] = 4, [0x21] = 4, [0x22] = 4, [0x30] = 4,
+        [0x31] = 4, [0x32] = 4, [0x33] = 4, [0x34] = 4, [0x35] = 4, [0x36] = 4, [0x37] = 4, [0x38] = 6, [0x39] = 6,
+        [0x3A] = 6, [0x3B] = 5, [0x3C] = 5, [0x3D] = 4, [0x3E] = 6, [0x3F] = 7, [0x40] = 6, [0x41] = 6, [0x42] = 6,
+        [0x43] = 19, [0x44] = 5, [0x45] = 4,
     };
     return kind < sizeof length ? length[kind] : 0;
 }
@@ -152,12 +163,16 @@ static unsigned record_length(unsigned kind)
 #define ANY(t, at) do { (t) = be16(p + (at)); if ((t) >= terms) REFUSE(7); } while (0)
 #define OF(t, at, kind) do { ANY(t, at); if (kind_of(e->term[t]) != (kind)) REFUSE(8); } while (0)
 #define PARTY(at) do { if (p[at] >= parties) REFUSE(7); } while (0)
+#define REGISTER_BYTE(at) do { if (p[at] >= REGISTERS) REFUSE(7); } while (0)
 
 /* The kind of a command's r, and of the first term of 39 and 3A, by the kind of the command less 30 hex. */
 static const uint8_t result[] = {
-    HASH, SIGNATURE, SIGNATURE, CREDENTIAL, CREDENTIAL, IDEVID, LDEVID, PAIR, 0, SIGNATURE, CERTIFICATE, 0, 0, CERTIFICATE,
-    CREDENTIAL, 0, CERTIFICATE, CERTIFICATE, CERTIFICATE,
+    HASH, SIGNATURE, SIGNATURE, CREDENTIAL, CREDENTIAL, IDEVID, LDEVID, PAIR, 0, SIGNATURE, CERTIFICATE, 0, 0,
+    CERTIFICATE, CREDENTIAL, 0, CERTIFICATE, CERTIFICATE, CERTIFICATE, 0, HASH, SIGNATURE,
 };
+
+/* The kind of what is in a command's r: its content or message. */
+static inline unsigned inner_kind(const engine *e, unsigned r) { return kind_of(e->term[a_of(e->term[r])]); }
 
 /* Checks the file and leaves what its set-up leaves. 0, or the refusal; its place is in e->first then. */
 static unsigned load(engine *restrict e, const uint8_t *restrict file, size_t len, uint8_t *restrict state)
@@ -165,12 +180,13 @@ static unsigned load(engine *restrict e, const uint8_t *restrict file, size_t le
     const uint8_t *p = file, *const end = file + len;
     unsigned number, parties = 0, terms = 0, commands = 0, a, b, c;
 
-    /* A term has 3 bytes or more: the index is at most half full. */
-    unsigned bits = 4, most = len / 3 < TERMS ? (unsigned)(len / 3) : TERMS;
+    /* A term has 3 bytes or more, but for 24 of 2 bytes: the index is at most half full. */
+    unsigned bits = 4, most = (len + REGISTERS) / 3 < TERMS ? (unsigned)((len + REGISTERS) / 3) : TERMS;
     while (1u << bits < 2 * most)
         bits++;
     const unsigned shift = 64 - bits, mask = (1u << bits) - 1;
     memset(e->index, 0, sizeof e->index[0] << bits);
+    memset(e->start, 0xFF, sizeof e->start);
 
     for (; p < end && *p == 0x01; p += 2) {
         WHOLE(2);
@@ -248,6 +264,19 @@ static unsigned load(engine *restrict e, const uint8_t *restrict file, size_t le
             ANY(b, 3);
             w = word(PAIR, 0, a, b, 0);
             break;
+        case REGISTER:
+            WHOLE_TERM(2);
+            REGISTER_BYTE(1);
+            w = word(REGISTER, p[1], 0, 0, 0);
+            e->start[p[1]] = (uint16_t)terms;
+            break;
+        case QUOTE:
+            WHOLE_TERM(6);
+            REGISTER_BYTE(1);
+            ANY(a, 2);
+            OF(b, 4, NUMBER);
+            w = word(QUOTE, p[1], a, b, 0);
+            break;
         default:
             goto set_up;
         }
@@ -324,7 +353,7 @@ last:
             WHOLE(4);
             PARTY(1);
             OF(a, 2, result[*p - 0x30]);
-            if (*p == 0x32 && kind_of(e->term[a_of(e->term[a])]) != ATTEST)
+            if (*p == 0x32 && inner_kind(e, a) != ATTEST)
                 REFUSE(8);
             p += 4;
             break;
@@ -384,6 +413,23 @@ last:
             }
             p += 19;
             break;
+        case 0x44:
+            WHOLE(5);
+            PARTY(1);
+            REGISTER_BYTE(2);
+            OF(a, 3, result[*p - 0x30]);
+            if (inner_kind(e, a) != PAIR)
+                REFUSE(8);
+            p += 5;
+            break;
+        case 0x45:
+            WHOLE(4);
+            PARTY(1);
+            OF(a, 2, result[*p - 0x30]);
+            if (inner_kind(e, a) != QUOTE)
+                REFUSE(8);
+            p += 4;
+            break;
         default: {
             unsigned length = record_length(*p);
             REFUSE(length == 0 ? 3 : end - p < (ptrdiff_t)length ? 4 : 5);
@@ -403,7 +449,7 @@ refused:
     return number;
 }
 
-/* ---------------------------------------------------------------------------------------------------------- executing */
+/* -------------------------------------------------------------------------------------------------------- executing */
 
 /* A certificate that an OEM desk is asked for, and what it is issued on. */
 typedef struct {
@@ -420,7 +466,8 @@ static inline unsigned carrier(const engine *e, unsigned serial)
 }
 
 /* The refusals of a 3F after 13. The request of an open credential has the form: its 3E saw to that. */
-static inline unsigned judge(const engine *restrict e, const uint8_t *restrict state, unsigned desk, unsigned returning, iak *k)
+static inline unsigned judge(const engine *restrict e, const uint8_t *restrict state, unsigned desk, unsigned returning,
+                             iak *k)
 {
     const uint8_t *opened = state + 8 * (size_t)k->credential;
     if (opened[2] != OPEN || opened[3] != desk)
@@ -439,8 +486,8 @@ static inline unsigned judge(const engine *restrict e, const uint8_t *restrict s
 }
 
 /* The ledger gains a certificate, and the desk learns it: it has no parts but its public key, which has none. */
-static inline void enter(engine *restrict e, uint8_t *restrict state, peer_entry *restrict entry, unsigned desk, unsigned r,
-                         unsigned parent, unsigned ek, unsigned depth)
+static inline void enter(engine *restrict e, uint8_t *restrict state, peer_entry *restrict entry, unsigned desk,
+                         unsigned r, unsigned parent, unsigned ek, unsigned depth)
 {
     side_info *side = &e->side[r];
     side->ek = (uint16_t)ek;
@@ -451,7 +498,8 @@ static inline void enter(engine *restrict e, uint8_t *restrict state, peer_entry
     *row(state, a_of(e->term[r])) |= 1u << desk;
 }
 
-static inline void issue(engine *restrict e, uint8_t *restrict state, peer_entry *restrict entry, unsigned desk, const iak *k)
+static inline void issue(engine *restrict e, uint8_t *restrict state, peer_entry *restrict entry, unsigned desk,
+                         const iak *k)
 {
     unsigned r = k->certificate, serial = c_of(e->term[r]);
     if (carrier(e, serial) == 0) {
@@ -462,11 +510,26 @@ static inline void issue(engine *restrict e, uint8_t *restrict state, peer_entry
     enter(e, state, entry, desk, r, k->parent, k->ek, 1);
 }
 
+/* A register's two bytes: the term that it shows, or NONE. */
+static inline uint8_t *shown(uint8_t *registers, unsigned party, unsigned i)
+{
+    return registers + 2 * (REGISTERS * (size_t)party + i);
+}
+
+/* Each register of a device shows its starting value; all others are empty. */
+static void start_registers(const engine *restrict e, uint8_t *restrict registers)
+{
+    memset(registers, 0xFF, REGISTER_BYTES);
+    for (unsigned party = 0; party < e->parties; party++)
+        for (unsigned i = 0; e->role[party] == DEVICE && i < REGISTERS; i++)
+            put16(shown(registers, party, i), e->start[i]);
+}
+
 #define NO(n) do { outcome = (n); goto done; } while (0)
 
 /* Executes the first n commands of a file that is loaded. */
 static peer_run_numbers execute(engine *restrict e, const uint8_t *restrict file, size_t n, uint8_t *restrict state,
-                                peer_entry *restrict ledger, uint8_t *restrict outcomes)
+                                peer_entry *restrict ledger, uint8_t *restrict outcomes, uint8_t *restrict registers)
 {
     const uint8_t *p = file + e->first;
     const size_t count = n < e->commands ? n : e->commands;
@@ -474,6 +537,7 @@ static peer_run_numbers execute(engine *restrict e, const uint8_t *restrict file
     const uint64_t *const term = e->term;
     const side_info *const side = e->side;
     memset(e->bucket, 0, sizeof e->bucket);
+    start_registers(e, registers);
 
     for (size_t i = 0; i < count; i++) {
         const uint8_t *const body = p + 1;
@@ -489,7 +553,7 @@ static peer_run_numbers execute(engine *restrict e, const uint8_t *restrict file
             if (!knows(state, content, bit))
                 NO(14);
             row(state, r)[0] |= bit;
-            if (kind_of(term[content]) != ATTEST)
+            if (kind_of(term[content]) != ATTEST && kind_of(term[content]) != QUOTE)
                 row(state, r)[1] |= bit;
             break;
         }
@@ -660,8 +724,7 @@ static peer_run_numbers execute(engine *restrict e, const uint8_t *restrict file
             opened[0] |= bit;
             opened[2] = OPEN;
             opened[3] = (uint8_t)party;
-            opened[4] = (uint8_t)(asked >> 8);
-            opened[5] = (uint8_t)asked;
+            put16(opened + 4, asked);
             break;
         }
         case 0x3F: { /* IssueIAK */
@@ -715,6 +778,37 @@ static peer_run_numbers execute(engine *restrict e, const uint8_t *restrict file
             enter(e, state, &ledger[issued++], party, r, parent, side[parent].ek, side[parent].depth + 1u);
             break;
         }
+        case 0x44: { /* Extend */
+            p += 5;
+            unsigned r = be16(body + 2);
+            uint64_t pair = term[a_of(term[r])];
+            if (role != DEVICE)
+                NO(13);
+            if (!knows(state, b_of(pair), bit))
+                NO(14);
+            uint8_t *value = shown(registers, party, body[1]);
+            if (be16(value) != a_of(pair))
+                NO(33);
+            put16(value, r);
+            break;
+        }
+        case 0x45: { /* Quote */
+            p += 4;
+            unsigned r = be16(body + 1), key = b_of(term[r]);
+            uint64_t quote = term[a_of(term[r])];
+            if (role != DEVICE)
+                NO(13);
+            if (!knows(state, b_of(quote), bit))
+                NO(14);
+            if (!holds(state, key, bit))
+                NO(15);
+            if ((x_of(term[key]) & (SIGN | RESTRICTED)) != (SIGN | RESTRICTED))
+                NO(16);
+            if (be16(shown(registers, party, x_of(quote))) != a_of(quote))
+                NO(33);
+            learn(e, state, r, bit);
+            break;
+        }
         default: { /* 43: all IAKs of a board */
             p += 19;
             iak k[4];
@@ -760,19 +854,21 @@ static peer_run_numbers execute(engine *restrict e, const uint8_t *restrict file
 }
 
 /* Loads and executes; buffers are long enough. */
-static peer_run_numbers run(engine *restrict e, const uint8_t *restrict file, size_t len, size_t n, uint8_t *restrict state,
-                            peer_entry *restrict ledger, uint8_t *restrict outcomes)
+static peer_run_numbers run(engine *restrict e, const uint8_t *restrict file, size_t len, size_t n,
+                            uint8_t *restrict state, peer_entry *restrict ledger, uint8_t *restrict outcomes,
+                            uint8_t *restrict registers)
 {
     unsigned number = load(e, file, len, state);
     if (number != 0) {
         memset(ledger, 0, ENTRIES * sizeof *ledger);
         memset(outcomes, 0, OUTCOMES);
+        memset(registers, 0, REGISTER_BYTES);
         return (peer_run_numbers){.number = number, .place = e->first};
     }
-    return execute(e, file, n, state, ledger, outcomes);
+    return execute(e, file, n, state, ledger, outcomes, registers);
 }
 
-/* -------------------------------------------------------------------------------------------------------------- calls */
+/* ------------------------------------------------------------------------------------------------------------ calls */
 
 peer_load_numbers peer_load(const uint8_t *file, size_t file_len, uint8_t *state, size_t state_len)
 {
@@ -787,27 +883,29 @@ peer_load_numbers peer_load(const uint8_t *file, size_t file_len, uint8_t *state
     return (peer_load_numbers){.parties = e.parties, .terms = e.terms, .commands = e.commands};
 }
 
-peer_run_numbers peer_run(const uint8_t *file, size_t file_len, size_t n, uint8_t *state, size_t state_len, peer_entry *ledger,
-                          size_t ledger_len, uint8_t *outcomes, size_t outcomes_len)
+peer_run_numbers peer_run(const uint8_t *file, size_t file_len, size_t n, uint8_t *state, size_t state_len,
+                          peer_entry *ledger, size_t ledger_len, uint8_t *outcomes, size_t outcomes_len,
+                          uint8_t *registers, size_t registers_len)
 {
     engine e;
-    if (state_len < STATE_BYTES || ledger_len < ENTRIES || outcomes_len < OUTCOMES)
+    if (state_len < STATE_BYTES || ledger_len < ENTRIES || outcomes_len < OUTCOMES || registers_len < REGISTER_BYTES)
         return (peer_run_numbers){.number = 1};
     if (file_len > FILE_BYTES)
         return (peer_run_numbers){.number = 2};
-    return run(&e, file, file_len, n, state, ledger, outcomes);
+    return run(&e, file, file_len, n, state, ledger, outcomes, registers);
 }
 
 peer_path_numbers peer_path(const uint8_t *file, size_t file_len, size_t n, uint8_t *state, size_t state_len,
-                            peer_entry *ledger, size_t ledger_len, uint8_t *outcomes, size_t outcomes_len, uint16_t t,
-                            uint16_t *list, size_t list_len)
+                            peer_entry *ledger, size_t ledger_len, uint8_t *outcomes, size_t outcomes_len,
+                            uint8_t *registers, size_t registers_len, uint16_t t, uint16_t *list, size_t list_len)
 {
     engine e;
-    if (state_len < STATE_BYTES || ledger_len < ENTRIES || outcomes_len < OUTCOMES || list_len < PLACES)
+    if (state_len < STATE_BYTES || ledger_len < ENTRIES || outcomes_len < OUTCOMES || registers_len < REGISTER_BYTES
+        || list_len < PLACES)
         return (peer_path_numbers){.number = 1};
     if (file_len > FILE_BYTES)
         return (peer_path_numbers){.number = 2};
-    peer_run_numbers ran = run(&e, file, file_len, n, state, ledger, outcomes);
+    peer_run_numbers ran = run(&e, file, file_len, n, state, ledger, outcomes, registers);
     if (ran.number != 0)
         return (peer_path_numbers){.number = ran.number, .place = ran.place};
     if (t >= e.terms || e.side[t].depth == 0)

@@ -1,7 +1,8 @@
 /* The bytes of stack that a run of standard input takes: how much deeper a thread writes into its stack that runs.
 
        rt staticlib birdweekly
-       gcc -O2 -pthread -Ibind/c bench/stack.c target/staticlib/libbirdweekly.a -o target/stack && target/stack < crates/cases/data/s_nested_pairs */
+       gcc -O2 -pthread -Ibind/c bench/stack.c target/staticlib/libbirdweekly.a -o target/stack
+       target/stack < crates/cases/data/s_nested_pairs */
 #include <pthread.h>
 #include <stdint.h>
 #include <stdio.h>
@@ -11,6 +12,7 @@
 enum { SIZE = 1 << 20 };
 static uint8_t stack[SIZE] __attribute__((aligned(4096)));
 static uint8_t file[BIRDWEEKLY_FILE_BYTES + 1], state[BIRDWEEKLY_STATE_BYTES], outcomes[BIRDWEEKLY_OUTCOME_BYTES];
+static uint8_t registers[BIRDWEEKLY_REGISTER_BYTES];
 static birdweekly_entry ledger[BIRDWEEKLY_LEDGER_ENTRIES];
 static uint16_t list[BIRDWEEKLY_PATH_PLACES];
 static size_t length;
@@ -23,21 +25,23 @@ static void *loads(void *answer) {
 }
 
 static void *runs(void *answer) {
-    *(uint32_t *)answer =
-        birdweekly_run(file, length, SIZE_MAX, state, sizeof state, ledger, BIRDWEEKLY_LEDGER_ENTRIES, outcomes, sizeof outcomes).number;
+    *(uint32_t *)answer = birdweekly_run(file, length, SIZE_MAX, state, sizeof state, ledger, BIRDWEEKLY_LEDGER_ENTRIES,
+                                         outcomes, sizeof outcomes, registers, sizeof registers)
+                              .number;
     return answer;
 }
 
 static void *paths(void *answer) {
-    *(uint32_t *)answer = birdweekly_path(file, length, SIZE_MAX, state, sizeof state, ledger, BIRDWEEKLY_LEDGER_ENTRIES, outcomes,
-                                          sizeof outcomes, 0, list, BIRDWEEKLY_PATH_PLACES)
+    *(uint32_t *)answer = birdweekly_path(file, length, SIZE_MAX, state, sizeof state, ledger,
+                                          BIRDWEEKLY_LEDGER_ENTRIES, outcomes, sizeof outcomes, registers,
+                                          sizeof registers, 0, list, BIRDWEEKLY_PATH_PLACES)
                               .number;
     return answer;
 }
 
 static void *stocks(void *answer) {
-    *(uint32_t *)answer = birdweekly_stock(file, length, state, sizeof state, ledger, BIRDWEEKLY_LEDGER_ENTRIES, outcomes,
-                                           sizeof outcomes, 2, 4)
+    *(uint32_t *)answer = birdweekly_stock(file, length, state, sizeof state, ledger, BIRDWEEKLY_LEDGER_ENTRIES,
+                                           outcomes, sizeof outcomes, registers, sizeof registers, 2, 4)
                               .number;
     return answer;
 }
@@ -49,7 +53,9 @@ static size_t written(void *(*what)(void *), void *answer) {
     size_t untouched = 0;
     memset(stack, 0xA5, SIZE);
     pthread_attr_init(&own);
-    if (pthread_attr_setstack(&own, stack, SIZE) || pthread_create(&thread, &own, what, answer) || pthread_join(thread, NULL)) return 0;
+    if (pthread_attr_setstack(&own, stack, SIZE) || pthread_create(&thread, &own, what, answer)
+        || pthread_join(thread, NULL))
+        return 0;
     while (untouched < SIZE && stack[untouched] == 0xA5) untouched++;
     return SIZE - untouched;
 }

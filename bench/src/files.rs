@@ -1,6 +1,7 @@
 //! The files that are timed, the same at every run.
 
 use crate::walk;
+use birdweekly::{LEDGER_ENTRIES, OUTCOME_BYTES, REGISTER_BYTES, STATE_BYTES};
 use worlds::Rng;
 
 const FILE_LIMIT: usize = 32_768;
@@ -9,7 +10,8 @@ const TERM_LIMIT: u16 = 1_024;
 const DEVICE: u8 = 0;
 const MAKER: u8 = 1;
 
-/// Attributes of an attestation key, an endorsement key, a key that signs anything, and a signing key of a desk or maker.
+/// Attributes of an attestation key, an endorsement key, a key that signs anything, and a signing key of a desk or
+/// maker.
 const AK: u8 = 0x0B;
 const EK: u8 = 0x0D;
 const SIGN: u8 = 0x02;
@@ -339,7 +341,8 @@ fn again(file: &[u8], length: usize) -> Draft {
     f
 }
 
-/// Four pairs, the last of which is refused for those before it (31), again and again. The stored file goes on after that 43: 31 bytes.
+/// Four pairs, the last of which is refused for those before it (31), again and again. The stored file goes on after
+/// that 43: 31 bytes.
 fn refused_together() -> Draft {
     let file = include_bytes!("../../crates/cases/data/c43_31_by_three_pairs_before");
     again(&file[..file.len() - 31], 19)
@@ -363,8 +366,8 @@ fn in_one_bucket(i: u16) -> u16 {
     100 + 1_024 * (i % 64) + i / 64
 }
 
-/// As many IAK certificates as a file has terms for: of Subjects with these serial numbers, each by so many OEM desks, all on one EK. Then
-/// the first Subject is asked for on another EK, again and again (31).
+/// As many IAK certificates as a file has terms for: of Subjects with these serial numbers, each by so many OEM desks,
+/// all on one EK. Then the first Subject is asked for on another EK, again and again (31).
 fn subjects(serial: fn(u16) -> u16, desks: u8) -> Draft {
     const OEM: u8 = 2;
     let (maker, device, first) = (0, 1, 2);
@@ -441,11 +444,18 @@ fn keys() -> Draft {
     f
 }
 
-/// The first of the worlds made from seeds that fills a file with commands: enrolments of several boards, honest and hostile, mixed.
+/// The first of the worlds made from seeds that fills a file with commands and issues fifty certificates: enrolments of
+/// several boards, honest and hostile, mixed.
 fn world() -> Draft {
-    let full = |file: &Vec<u8>| match reading::load(file, &mut [0; birdweekly::STATE_BYTES]) {
-        reading::LoadAnswer::Loaded { commands, .. } => file.len() + 768 >= FILE_LIMIT && commands >= 4_500,
-        reading::LoadAnswer::Refused { .. } => false,
+    let (mut state, mut ledger) = ([0; STATE_BYTES], [reading::Entry::default(); LEDGER_ENTRIES]);
+    let (mut outcomes, mut registers) = ([0; OUTCOME_BYTES], [0; REGISTER_BYTES]);
+    let full = |file: &Vec<u8>| {
+        match reading::run(file, usize::MAX, &mut state, &mut ledger, &mut outcomes, &mut registers) {
+            reading::RunAnswer::Ran { accepted, refused, issued } => {
+                file.len() + 768 >= FILE_LIMIT && accepted + refused >= 4_500 && issued >= 50
+            }
+            reading::RunAnswer::Refused { .. } => false,
+        }
     };
     Draft { bytes: (0..).map(worlds::world).find(full).unwrap(), terms: 0 }
 }
@@ -461,6 +471,37 @@ fn nested_and_sent() -> Draft {
         f.bytes.extend([0x3C, 0, receiver]);
         f.word(pairs[1_022]);
     }
+    f
+}
+
+/// A register extended as often as a file has terms for, and its last value quoted again and again.
+fn extended_and_quoted() -> Draft {
+    let register = 0;
+    let mut f = Draft::default();
+    f.party(DEVICE);
+    let key_ = f.private(0, AK);
+    let number = f.number(0);
+    f.bytes.extend([0x1B, register]);
+    let mut value = f.terms;
+    f.terms += 1;
+    let mut extends = Vec::new();
+    while f.terms + 2 + 2 <= TERM_LIMIT {
+        let pair = f.pair(value, number);
+        value = f.hash(pair);
+        extends.push(value);
+    }
+    f.bytes.extend([0x1C, register]);
+    [value, number].into_iter().for_each(|word| f.word(word));
+    let body = f.terms;
+    f.terms += 1;
+    let quote = f.term(0x13, &[body, key_]);
+    f.act(0x21, 0, key_);
+    f.act(0x20, 0, number);
+    for r in extends {
+        f.bytes.extend([0x44, 0, register]);
+        f.word(r);
+    }
+    f.fill(|_| (0x45, 0, quote));
     f
 }
 
@@ -535,5 +576,6 @@ pub fn run() -> Vec<File> {
         ("commands 43, refused at the fourth pair", refused_together()),
         ("a world: enrolments mixed", world()),
         ("1,023 pairs inside each other, sent to seven parties", nested_and_sent()),
+        ("a register extended and quoted", extended_and_quoted()),
     ])
 }

@@ -1,15 +1,17 @@
-//! `bench/run`: loading, runs and stocks of numbers, timed beside a C implementation (peer.c, -O3) in one process. What is timed is compared
-//! with the second reading first: answers and every byte and entry.
+//! `bench/run`: loading, runs and stocks of numbers, timed beside a C implementation (peer.c, -O3) in one process. What
+//! is timed is compared with the second reading first: answers and every byte and entry.
 //!
-//! The two are called in turn on one file, and the shortest of all timings of each counts; these come in rounds over all
-//! files, so that a busy second of the machine does not fall on one row. The buffers are those that the call before
+//! The two are called in turn on one file, and the shortest of all timings of each counts; these come in rounds over
+//! all files, so that a busy second of the machine does not fall on one row. The buffers are those that the call before
 //! has written; nobody clears them in between, since each call clears what it has to itself.
 
 mod files;
 mod peer;
 mod walk;
 
-use birdweekly::{Entry, LoadAnswer, Refusal, RunAnswer, StockAnswer, LEDGER_ENTRIES, OUTCOME_BYTES, STATE_BYTES};
+use birdweekly::{
+    Entry, LoadAnswer, Refusal, RunAnswer, StockAnswer, LEDGER_ENTRIES, OUTCOME_BYTES, REGISTER_BYTES, STATE_BYTES,
+};
 use std::hint::black_box;
 use std::time::Instant;
 
@@ -23,6 +25,7 @@ const TIMING_NS: f64 = 4_000.0;
 struct Buffers {
     state: Vec<u8>,
     outcomes: Vec<u8>,
+    registers: Vec<u8>,
     ledger: Vec<Entry>,
 }
 
@@ -31,6 +34,7 @@ impl Buffers {
         Buffers {
             state: vec![0xA5; STATE_BYTES],
             outcomes: vec![0xA5; OUTCOME_BYTES],
+            registers: vec![0xA5; REGISTER_BYTES],
             ledger: vec![Entry::default(); LEDGER_ENTRIES],
         }
     }
@@ -62,19 +66,19 @@ fn read_load(file: &[u8], b: &mut Buffers) -> [u32; 3] {
 }
 
 fn run(file: &[u8], b: &mut Buffers) -> [u32; 3] {
-    match birdweekly::run(file, usize::MAX, &mut b.state, &mut b.ledger, &mut b.outcomes) {
+    match birdweekly::run(file, usize::MAX, &mut b.state, &mut b.ledger, &mut b.outcomes, &mut b.registers) {
         RunAnswer::Ran { accepted, refused, issued } => [accepted, refused, issued],
         RunAnswer::Refused(refusal) => refused(refusal),
     }
 }
 
 fn peer_run(file: &[u8], b: &mut Buffers) -> [u32; 3] {
-    peer::run(file, &mut b.state, &mut b.ledger, &mut b.outcomes)
+    peer::run(file, &mut b.state, &mut b.ledger, &mut b.outcomes, &mut b.registers)
 }
 
 fn read_run(file: &[u8], b: &mut Buffers) -> [u32; 3] {
     let mut ledger = vec![reading::Entry::default(); LEDGER_ENTRIES];
-    let answer = reading::run(file, usize::MAX, &mut b.state, &mut ledger, &mut b.outcomes);
+    let answer = reading::run(file, usize::MAX, &mut b.state, &mut ledger, &mut b.outcomes, &mut b.registers);
     for (ours, e) in b.ledger.iter_mut().zip(ledger) {
         *ours = Entry { certificate: e.certificate, parent: e.parent, depth: e.depth };
     }
@@ -88,7 +92,7 @@ fn read_run(file: &[u8], b: &mut Buffers) -> [u32; 3] {
 const STOCK: (u8, u32) = (2, 4);
 
 fn stock(file: &[u8], b: &mut Buffers) -> [u32; 3] {
-    match birdweekly::stock(file, &mut b.state, &mut b.ledger, &mut b.outcomes, STOCK.0, STOCK.1) {
+    match birdweekly::stock(file, &mut b.state, &mut b.ledger, &mut b.outcomes, &mut b.registers, STOCK.0, STOCK.1) {
         StockAnswer::Boards { boards, rest } => [boards, rest, 0],
         StockAnswer::Refused(refusal) => refused(refusal),
     }
@@ -97,7 +101,7 @@ fn stock(file: &[u8], b: &mut Buffers) -> [u32; 3] {
 fn read_stock(file: &[u8], b: &mut Buffers) -> [u32; 3] {
     read_run(file, b);
     let mut ledger = vec![reading::Entry::default(); LEDGER_ENTRIES];
-    match reading::stock(file, &mut b.state, &mut ledger, &mut b.outcomes, STOCK.0, STOCK.1) {
+    match reading::stock(file, &mut b.state, &mut ledger, &mut b.outcomes, &mut b.registers, STOCK.0, STOCK.1) {
         reading::StockAnswer::Boards { boards, rest } => [boards, rest, 0],
         reading::StockAnswer::Refused { number, place } => refused(Refusal { number, place }),
     }
@@ -167,7 +171,8 @@ fn table(title: &str, other: &str, rows: Vec<Row>, answer: fn([u32; 3]) -> Strin
     for row in rows {
         let [theirs, ours] = row.shortest.map(microseconds);
         let ratio = row.shortest[1] / row.shortest[0];
-        println!("| {} | {} | {} | {theirs} | {ours} | {ratio:.2} |", row.file.name, row.file.bytes.len(), answer(row.answer));
+        let (name, bytes) = (row.file.name, row.file.bytes.len());
+        println!("| {name} | {bytes} | {} | {theirs} | {ours} | {ratio:.2} |", answer(row.answer));
     }
     println!();
 }

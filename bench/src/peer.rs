@@ -32,6 +32,8 @@ extern "C" {
         ledger_len: usize,
         outcomes: *mut u8,
         outcomes_len: usize,
+        registers: *mut u8,
+        registers_len: usize,
     ) -> RunNumbers;
 }
 
@@ -44,7 +46,13 @@ pub fn load(file: &[u8], state: &mut [u8]) -> [u32; 3] {
 }
 
 /// Accepted, refused and issued of all commands of a file that loads.
-pub fn run(file: &[u8], state: &mut [u8], ledger: &mut [Entry], outcomes: &mut [u8]) -> [u32; 3] {
+pub fn run(
+    file: &[u8],
+    state: &mut [u8],
+    ledger: &mut [Entry],
+    outcomes: &mut [u8],
+    registers: &mut [u8],
+) -> [u32; 3] {
     // SAFETY: each pointer has its slice's length.
     let a = unsafe {
         peer_run(
@@ -57,6 +65,8 @@ pub fn run(file: &[u8], state: &mut [u8], ledger: &mut [Entry], outcomes: &mut [
             ledger.len(),
             outcomes.as_mut_ptr(),
             outcomes.len(),
+            registers.as_mut_ptr(),
+            registers.len(),
         )
     };
     assert_eq!((a.number, a.place), (0, 0), "a timed file loads");

@@ -27,6 +27,8 @@ fn keys(file: &[u8]) -> Vec<u64> {
             0x15 => (6, Some([word(0), word(2), word(4), 0])),
             0x17 => (7, Some([byte(0), word(1), word(3), word(5)])),
             0x19 => (7, Some([word(0), byte(2), word(3), word(5)])),
+            0x1B => (1, Some([byte(0), 0, 0, 0])),
+            0x1C => (5, Some([byte(0), word(1), word(3), 0])),
             _ => break,
         };
         keys.extend(fields.map(key));

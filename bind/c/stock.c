@@ -4,8 +4,8 @@
        gcc -O2 -Ibind/c bind/c/stock.c target/staticlib/libbirdweekly.a -o target/stock
        target/stock crates/cases/data/s_stock_of_a_line 2 4
 
-   The second argument is the desk, by its number in the file; the third the IAKs per board. Exit status 0 with an answer,
-   1 where the engine refuses, 2 where it could not be asked. */
+   The second argument is the desk, by its number in the file; the third the IAKs per board. Exit status 0 with an
+   answer, 1 where the engine refuses, 2 where it could not be asked. */
 #include "birdweekly.h"
 #include <errno.h>
 #include <stdio.h>
@@ -14,6 +14,7 @@
 static uint8_t file[BIRDWEEKLY_FILE_BYTES + 1];
 static uint8_t state[BIRDWEEKLY_STATE_BYTES];
 static uint8_t outcomes[BIRDWEEKLY_OUTCOME_BYTES];
+static uint8_t registers[BIRDWEEKLY_REGISTER_BYTES];
 static birdweekly_entry ledger[BIRDWEEKLY_LEDGER_ENTRIES];
 
 /* A word of the command line as a number up to a limit; nothing is cut off to make it fit. */
@@ -42,8 +43,9 @@ int main(int count, char **words) {
         return 2;
     }
     fclose(input);
-    birdweekly_stock_numbers stock = birdweekly_stock(file, length, state, sizeof state, ledger, BIRDWEEKLY_LEDGER_ENTRIES,
-                                                      outcomes, sizeof outcomes, desk, iaks_per_board);
+    birdweekly_stock_numbers stock =
+        birdweekly_stock(file, length, state, sizeof state, ledger, BIRDWEEKLY_LEDGER_ENTRIES, outcomes,
+                         sizeof outcomes, registers, sizeof registers, desk, iaks_per_board);
     if (stock.number) {
         printf("refused with %u at %u\n", stock.number, stock.place);
         return 1;

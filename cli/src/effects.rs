@@ -17,6 +17,8 @@ pub enum Effect {
     Opens,
     /// A certificate is in the ledger then.
     Issues,
+    /// A party's register shows it then.
+    Shows(u8, u8),
 }
 
 /// The ordinals of the commands with an effect on a term, in order.
@@ -43,8 +45,10 @@ impl Effects {
 fn effects(scenario: &Scenario, command: &Record) -> Vec<(Effect, u16)> {
     let (p, r) = (command.party(0), command.term(1));
     match command.kind {
+        0x30 if scenario.gets_no_ticket(r) => vec![(Effect::Teaches(p), r)],
         0x30 => vec![(Effect::Teaches(p), r), (Effect::Tickets(p), r)],
-        0x31..=0x33 | 0x35..=0x37 | 0x3D => vec![(Effect::Teaches(p), r)],
+        0x31..=0x33 | 0x35..=0x37 | 0x3D | forms::QUOTE => vec![(Effect::Teaches(p), r)],
+        forms::EXTEND => vec![(Effect::Shows(p, command.register()), command.term(2))],
         0x34 => {
             scenario.named(r, forms::CREDENTIAL, 1).into_iter().map(|number| (Effect::Teaches(p), number)).collect()
         }

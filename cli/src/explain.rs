@@ -1,4 +1,5 @@
-//! Every command with its outcome and the reason of a refusal, then the certificates with their paths.
+//! Every command with its outcome and the reason of a refusal, then the certificates with their paths, then what
+//! registers show.
 
 use std::fmt::Write;
 
@@ -7,7 +8,7 @@ use crate::reasons::meaning;
 use crate::rehearsal::Rehearsal;
 use crate::scenario::Scenario;
 use crate::source::Source;
-use crate::words::{count, sentence};
+use crate::words::{count, known_to, sentence};
 
 /// Escapes for a terminal, or none.
 pub struct Colours {
@@ -73,6 +74,9 @@ pub fn explain(source: &Source, rehearsal: &Rehearsal, refused_alone: bool, colo
         let _ = writeln!(text, "      path: {}", names.join(" -> "));
         let _ = writeln!(text, "      keys on the path: {}", held(scenario, &one.path));
     }
+    if scenario.has_registers() {
+        registers(&mut text, scenario, rehearsal, colours);
+    }
     let (accepted, refused) = (count(rehearsal.accepted, "command"), rehearsal.refused);
     let colour = if refused == 0 { good } else { bad };
     let _ = writeln!(
@@ -81,6 +85,29 @@ pub fn explain(source: &Source, rehearsal: &Rehearsal, refused_alone: bool, colo
         count(issued.len(), "certificate")
     );
     text
+}
+
+/// What registers show at the end, and what they showed before.
+fn registers(text: &mut String, scenario: &Scenario, rehearsal: &Rehearsal, colours: &Colours) {
+    let (Colours { bold, plain, .. }, after) = (colours, rehearsal.after());
+    let _ = writeln!(text, "\n{bold}Registers: what they show at the end{plain}");
+    let all = (0..scenario.parties.len() as u8).flat_map(|p| (0..forms::REGISTERS).map(move |register| (p, register)));
+    let mut empty = true;
+    for (p, register, shown) in all.filter_map(|(p, register)| Some((p, register, after.register(p, register)?))) {
+        empty = false;
+        let (party, name) = (scenario.party_name(p), scenario.term_name_of(shown));
+        let known = known_to(scenario, after, shown);
+        let _ = writeln!(text, "  {bold}register {register} of {party}{plain}: {name} (term {shown}), {known}");
+        let mut values = scenario.register_values(shown);
+        values.reverse();
+        if let [_, _, ..] = values[..] {
+            let names: Vec<&str> = values.iter().map(|t| scenario.term_name_of(*t)).collect();
+            let _ = writeln!(text, "      extended: {}", names.join(" -> "));
+        }
+    }
+    if empty {
+        let _ = writeln!(text, "  all are empty");
+    }
 }
 
 /// Whose TPM holds all keys that the certificates of a path certify.

@@ -146,22 +146,28 @@ impl<'a> Before<'a> {
             Field::Party if first as usize >= self.parties() => {
                 Some((7, format!("party {first} is not declared; there are {}", self.parties())))
             }
-            Field::Role | Field::Attributes | Field::Subject | Field::Party | Field::Identifier => None,
+            Field::Register if first >= forms::REGISTERS => {
+                Some((7, format!("{first} is no register; registers are 0 to {}", forms::REGISTERS - 1)))
+            }
+            Field::Role | Field::Attributes | Field::Subject | Field::Party | Field::Register | Field::Identifier => {
+                None
+            }
             Field::AnyTerm => self.declared(word(body)),
             Field::Term(called_for) => self.of_kind(word(body), called_for),
-            Field::SignedAttest => {
+            Field::Over(called_for, over) => {
                 let t = word(body);
-                let message = || self.scenario.term(t).map_or(0, |record| record.term(0));
-                self.of_kind(t, forms::SIGNATURE).or_else(|| {
-                    let signed = message();
-                    let kind = self.scenario.term(signed)?.kind;
+                self.of_kind(t, called_for).or_else(|| {
+                    let content = self.scenario.term(t)?.term(0);
+                    let kind = self.scenario.term(content)?.kind;
                     let words = format!(
-                        "{} is a signature of {}, {}; a signature of an attest is called for",
+                        "{} is {} of {}, {}; {} is called for",
                         self.term(t),
-                        self.term(signed),
-                        term_words(kind)
+                        term_words(called_for),
+                        self.term(content),
+                        term_words(kind),
+                        field.words()
                     );
-                    (kind != forms::ATTEST).then_some((8, words))
+                    (kind != over).then_some((8, words))
                 })
             }
             Field::Pairs => (0..forms::PAIRS).find_map(|i| {

@@ -13,6 +13,8 @@ pub const IDEVID_REQUEST: u8 = 0x17;
 pub const LDEVID_REQUEST: u8 = 0x18;
 pub const CERTIFICATE: u8 = 0x19;
 pub const PAIR: u8 = 0x1A;
+pub const REGISTER: u8 = 0x1B;
+pub const QUOTE_BODY: u8 = 0x1C;
 pub const LEARNS: u8 = 0x20;
 pub const HOLDS: u8 = 0x21;
 pub const SIGNS_WITH: u8 = 0x22;
@@ -22,10 +24,18 @@ pub const ISSUE_LAK: u8 = 0x40;
 pub const ISSUE_IDEVID: u8 = 0x41;
 pub const ISSUE_LDEVID: u8 = 0x42;
 pub const ISSUE_IAKS: u8 = 0x43;
+pub const EXTEND: u8 = 0x44;
+pub const QUOTE: u8 = 0x45;
 
 /// Pairs of a 43, and what stands in both fields of an empty one.
 pub const PAIRS: usize = 4;
 pub const EMPTY: u16 = 0xFFFF;
+
+/// Registers of a TPM.
+pub const REGISTERS: u8 = birdweekly::REGISTERS as u8;
+
+/// What a TPM makes by itself; a hash of it gets no ticket.
+pub const TPM_GENERATED: [u8; 2] = [ATTEST, QUOTE_BODY];
 
 /// Sections of a file, in their order.
 #[derive(Clone, Copy, Debug, PartialEq, Eq, PartialOrd, Ord)]
@@ -53,8 +63,10 @@ pub enum Field {
     AnyTerm,
     /// A term of one kind alone.
     Term(u8),
-    /// A signature of an attest.
-    SignedAttest,
+    /// A term of one kind whose first field is a term of another.
+    Over(u8, u8),
+    /// One of a TPM's registers.
+    Register,
     /// The pairs of credential and certificate of a 43.
     Pairs,
 }
@@ -63,8 +75,8 @@ impl Field {
     /// Bytes of the field.
     pub fn width(self) -> usize {
         match self {
-            Field::Role | Field::Attributes | Field::Party => 1,
-            Field::Identifier | Field::AnyTerm | Field::Term(_) | Field::SignedAttest => 2,
+            Field::Role | Field::Attributes | Field::Party | Field::Register => 1,
+            Field::Identifier | Field::AnyTerm | Field::Term(_) | Field::Over(..) => 2,
             Field::Subject => 3,
             Field::Pairs => 4 * PAIRS,
         }
@@ -84,7 +96,8 @@ impl Field {
             Field::Party => "the name of a party".into(),
             Field::AnyTerm => "the name of a term".into(),
             Field::Term(kind) => term_words(kind).into(),
-            Field::SignedAttest => "a signature of an attest".into(),
+            Field::Over(kind, over) => format!("{} of {}", term_words(kind), term_words(over)),
+            Field::Register => format!("a register from 0 to {}", REGISTERS - 1),
             Field::Pairs => "a certificate and its credential, or -".into(),
         }
     }
@@ -104,7 +117,7 @@ const fn kind(byte: u8, name: &'static str, fields: &'static [Field], line: &'st
     Kind { byte, name, fields, line }
 }
 
-pub const KINDS: [Kind; 35] = [
+pub const KINDS: [Kind; 39] = [
     kind(PARTY, "party", &[Role], "party @ {0}"),
     kind(PUBLIC_KEY, "public-key", &[Identifier, Attributes], "@ = public-key {0} {1}"),
     kind(PRIVATE_KEY, "private-key", &[Identifier, Attributes], "@ = private-key {0} {1}"),
@@ -132,12 +145,19 @@ pub const KINDS: [Kind; 35] = [
         "@ = certificate of {0} for {1} by {2}",
     ),
     kind(PAIR, "pair", &[AnyTerm, AnyTerm], "@ = pair of {0} and {1}"),
+    kind(REGISTER, "register", &[Register], "@ = register {0}"),
+    kind(
+        QUOTE_BODY,
+        "quote-body",
+        &[Register, AnyTerm, Term(NUMBER)],
+        "@ = quote-body of {1} in register {0} with {2}",
+    ),
     kind(LEARNS, "learns", &[Party, AnyTerm], "{0} learns {1}"),
     kind(HOLDS, "holds", &[Party, Term(PRIVATE_KEY)], "{0} holds {1}"),
     kind(SIGNS_WITH, "signs-with", &[Party, Term(PRIVATE_KEY)], "{0} signs-with {1}"),
     kind(0x30, "hash", &[Party, Term(HASH)], "{0}: hash {1}"),
     kind(0x31, "sign", &[Party, Term(SIGNATURE)], "{0}: sign {1}"),
-    kind(0x32, "certify", &[Party, SignedAttest], "{0}: certify {1}"),
+    kind(0x32, "certify", &[Party, Over(SIGNATURE, ATTEST)], "{0}: certify {1}"),
     kind(0x33, "make-credential", &[Party, Term(CREDENTIAL)], "{0}: make-credential {1}"),
     kind(0x34, "activate-credential", &[Party, Term(CREDENTIAL)], "{0}: activate-credential {1}"),
     kind(0x35, "make-idevid-request", &[Party, Term(IDEVID_REQUEST)], "{0}: make-idevid-request {1}"),
@@ -165,13 +185,15 @@ pub const KINDS: [Kind; 35] = [
     kind(ISSUE_IDEVID, "issue-idevid", &[Party, AnyTerm, Term(CERTIFICATE)], "{0}: issue-idevid {2} for {1}"),
     kind(ISSUE_LDEVID, "issue-ldevid", &[Party, AnyTerm, Term(CERTIFICATE)], "{0}: issue-ldevid {2} for {1}"),
     kind(ISSUE_IAKS, "issue-iaks", &[Party, Party, Pairs], "{0}: issue-iaks {2} returned-by {1}"),
+    kind(EXTEND, "extend", &[Party, Register, Over(HASH, PAIR)], "{0}: extend register {1} to {2}"),
+    kind(QUOTE, "quote", &[Party, Over(SIGNATURE, QUOTE_BODY)], "{0}: quote {1}"),
 ];
 
 impl Kind {
     pub fn section(&self) -> Section {
         match self.byte {
             PARTY => Section::Parties,
-            PUBLIC_KEY..=PAIR => Section::Terms,
+            PUBLIC_KEY..=QUOTE_BODY => Section::Terms,
             LEARNS..=SIGNS_WITH => Section::SetUp,
             _ => Section::Commands,
         }
@@ -210,7 +232,10 @@ fn placeholder(field: Field) -> &'static str {
         Field::Term(LDEVID_REQUEST) => "LDEVID-REQUEST",
         Field::Term(CERTIFICATE) => "CERTIFICATE",
         Field::Term(_) => "PAIR",
-        Field::SignedAttest => "SIGNED-ATTEST",
+        Field::Over(_, ATTEST) => "SIGNED-ATTEST",
+        Field::Over(_, QUOTE_BODY) => "SIGNED-QUOTE",
+        Field::Over(..) => "HASH-OF-PAIR",
+        Field::Register => "INDEX",
         Field::Pairs => "PAIRS",
     }
 }
@@ -232,7 +257,9 @@ pub fn term_words(kind: u8) -> &'static str {
         IDEVID_REQUEST => "an IDevID request",
         LDEVID_REQUEST => "an LDevID request",
         CERTIFICATE => "a certificate",
-        _ => "a pair",
+        PAIR => "a pair",
+        REGISTER => "a register",
+        _ => "a quote body",
     }
 }
 

@@ -21,7 +21,8 @@ const HELP: &str = "\
 birdweekly: rehearses DevID enrolment procedures and tells what came of them
 
   birdweekly explain FILE [--refused]  every command in words with its outcome and, where it is refused, what is missing;
-                                       then the certificates with their paths (--refused: the refused commands alone)
+                                       then the certificates with their paths, and what registers show (--refused:
+                                       the refused commands alone)
   birdweekly draw FILE [-o OUT]        the certificates as a graph for Graphviz (dot -Tpng)
   birdweekly check FILES... [--json]   many files, or folders of them, on all processors: a line each, and a summary
   birdweekly assemble FILE [-o OUT]    a scenario's text as the bytes that the engine takes

@@ -6,6 +6,7 @@ use birdweekly::{Buffers, Entry, Mark};
 use crate::effects::{Effect, Effects};
 use crate::forms::{self, attributes_text, role_words, term_words, DEVICE, OEM_DESK, OWNER_DESK, TPM_MAKER};
 use crate::scenario::{subject_text, Record, Scenario, Subject};
+use crate::words::known_to;
 
 /// A refusal's number, and each thing that it is about.
 #[derive(Clone, Debug, PartialEq, Eq)]
@@ -14,8 +15,9 @@ pub struct Reason {
     pub details: Vec<String>,
 }
 
-/// The order in which refusals are looked for: 32 after 13, 31 between 28 and 29, else by number; 22 is not used.
-const ORDER: [u8; 18] = [13, 32, 14, 15, 16, 17, 18, 19, 20, 21, 23, 24, 25, 26, 27, 28, 31, 29];
+/// The order in which refusals are looked for: 32 after 13, 33 after 17, 31 between 28 and 29, else by number; 22 is
+/// not used.
+const ORDER: [u8; 19] = [13, 32, 14, 15, 16, 17, 33, 18, 19, 20, 21, 23, 24, 25, 26, 27, 28, 31, 29];
 
 /// The most steps from a certificate to an endorsement certificate.
 const DEPTH: u16 = 8;
@@ -42,6 +44,7 @@ pub fn meaning(number: u8) -> &'static str {
         29 => "depth over 8",
         31 => "another endorsement key carries this Subject",
         32 => "all pairs empty, or two certificates alike",
+        33 => "old or quoted value is not what the register shows",
         _ => "refused",
     }
 }
@@ -126,6 +129,14 @@ impl Tests<'_> {
                 self.role(p, &[OEM_DESK], name);
                 self.issue_iaks(p, command.party(1), &command.pairs());
             }
+            forms::EXTEND => {
+                self.role(p, &[DEVICE], name);
+                self.extend(p, command.register(), command.term(2));
+            }
+            forms::QUOTE => {
+                self.role(p, &[DEVICE], name);
+                self.quote(p, r);
+            }
             kind => {
                 let family = family(kind);
                 self.role(p, &[family.desk], name);
@@ -178,8 +189,11 @@ impl Tests<'_> {
             return "nobody ever knows a private key".into();
         }
         let knowers = self.those(|q| self.before.knows(q, t));
-        let who =
+        let mut who =
             if knowers.is_empty() { "nobody does".into() } else { format!("known to {}", self.parties(&knowers)) };
+        if let Some(register) = (0..forms::REGISTERS).find(|register| self.before.register(p, *register) == Some(t)) {
+            who.push_str(&format!("; its register {register} shows it, and a quote would tell it"));
+        }
         // Whoever learns a term keeps it, so that a command before this one that would have taught it was refused.
         match self.earlier(Effect::Teaches(p), t) {
             [.., i] => format!("{who}; command {i}, which would have told it, was refused"),
@@ -281,8 +295,9 @@ impl Tests<'_> {
         self.need(17, !hash || self.before.in_table(p, message), |this| {
             let content = this.scenario.named(message, forms::HASH, 0).unwrap_or(forms::EMPTY);
             let others = this.those(|q| this.before.in_table(q, message));
-            let why = if this.scenario.is_kind(content, forms::ATTEST) {
-                "; the hash of an attest gets none".to_string()
+            let why = if this.scenario.gets_no_ticket(message) {
+                let kind = this.scenario.term(content).map_or(0, |record| record.kind);
+                format!("; the hash of {} gets none", term_words(kind))
             } else if let [.., i] = this.earlier(Effect::Tickets(p), message) {
                 format!("; command {i}, which would have made one, was refused")
             } else if others.is_empty() {
@@ -308,6 +323,52 @@ impl Tests<'_> {
         }
         self.has(key, forms::RESTRICTED);
         self.has(key, forms::DECRYPT);
+    }
+
+    fn extend(&mut self, p: u8, register: u8, r: u16) {
+        let Some((old, added)) = self.scenario.extended(r) else { return };
+        self.known(p, added);
+        self.shows(p, register, old, &format!("{} extends", self.name(r)));
+    }
+
+    fn quote(&mut self, p: u8, r: u16) {
+        let Some((register, value, number)) = self.scenario.quoted(r) else { return };
+        let key = self.scenario.named(r, forms::SIGNATURE, 1).unwrap_or(forms::EMPTY);
+        self.known(p, number);
+        self.held(p, key);
+        self.has(key, forms::SIGN);
+        self.has(key, forms::RESTRICTED);
+        self.shows(p, register, value, &format!("{} quotes", self.name(r)));
+    }
+
+    /// A party's register shows a value; what takes it to be so is told before it.
+    fn shows(&mut self, p: u8, register: u8, value: u16, by: &str) {
+        let now = self.before.register(p, register);
+        self.need(33, now == Some(value), |this| {
+            let (which, wanted) = (format!("register {register} of {}", this.party(p)), this.told(value));
+            let Some(now) = now else {
+                return format!("{which} is empty, since the file has no term register {register}; {by} {wanted}");
+            };
+            let (values, leads) = (this.scenario.register_values(now), this.scenario.register_values(value));
+            let others = this.those(|q| this.before.register(q, register) == Some(value));
+            let why = if values.contains(&value) {
+                ", which the register showed before".into()
+            } else if let [.., i] = this.earlier(Effect::Shows(p, register), value) {
+                format!("; command {i}, which would have made it show that, was refused")
+            } else if !others.is_empty() {
+                format!("; register {register} of {} shows it", this.parties(&others))
+            } else if values.last() == leads.last() {
+                "; nothing before would have made it show that".into()
+            } else {
+                let start = leads.last().and_then(|start| this.scenario.term(*start));
+                match start.filter(|start| start.kind == forms::REGISTER) {
+                    Some(start) => format!("; only register {} can show that", start.register()),
+                    None => "; no register can show that".into(),
+                }
+            };
+            let known = known_to(this.scenario, this.before, now);
+            format!("{which} shows {}, {known}; {by} {wanted}{why}", this.told(now))
+        });
     }
 
     fn send(&mut self, p: u8, t: u16) {

@@ -16,6 +16,7 @@ pub enum Value {
     Attributes(u8),
     Subject(Subject),
     Party(u8),
+    Register(u8),
     Term(u16),
     /// Pairs of credential and certificate; some may be empty.
     Pairs([Option<(u16, u16)>; PAIRS]),
@@ -65,6 +66,15 @@ impl Record {
         })
     }
 
+    /// The register of a 1B, a 1C or a 44.
+    pub fn register(&self) -> u8 {
+        let found = self.values.iter().find_map(|value| match value {
+            Value::Register(register) => Some(*register),
+            _ => None,
+        });
+        found.unwrap_or(u8::MAX)
+    }
+
     /// The pairs of a 43 that are not empty.
     pub fn pairs(&self) -> Vec<(u16, u16)> {
         let pairs = self.values.iter().find_map(|value| match value {
@@ -78,7 +88,7 @@ impl Record {
         let mut bytes = vec![self.kind];
         for value in &self.values {
             match *value {
-                Value::Role(x) | Value::Attributes(x) | Value::Party(x) => bytes.push(x),
+                Value::Role(x) | Value::Attributes(x) | Value::Party(x) | Value::Register(x) => bytes.push(x),
                 Value::Identifier(x) | Value::Term(x) => bytes.extend(x.to_be_bytes()),
                 Value::Subject(Subject::Tpm(n)) => bytes.extend([0].into_iter().chain(n.to_be_bytes())),
                 Value::Subject(Subject::Device(n)) => bytes.extend([1].into_iter().chain(n.to_be_bytes())),
@@ -104,8 +114,9 @@ fn value(field: Field, bytes: &[u8]) -> Value {
         Field::Role => Value::Role(bytes[0]),
         Field::Attributes => Value::Attributes(bytes[0]),
         Field::Party => Value::Party(bytes[0]),
+        Field::Register => Value::Register(bytes[0]),
         Field::Identifier => Value::Identifier(word(bytes)),
-        Field::AnyTerm | Field::Term(_) | Field::SignedAttest => Value::Term(word(bytes)),
+        Field::AnyTerm | Field::Term(_) | Field::Over(..) => Value::Term(word(bytes)),
         Field::Subject => {
             let number = word(&bytes[1..]);
             Value::Subject(if bytes[0] == 0 { Subject::Tpm(number) } else { Subject::Device(number) })
@@ -168,7 +179,8 @@ impl Scenario {
         self.records().flat_map(|record| record.bytes()).collect()
     }
 
-    /// Names for a file that has none: keys and numbers by their id, parties and other terms by their own number.
+    /// Names for a file that has none: keys and numbers by their id, registers by their index, parties and other terms
+    /// by their own number.
     fn name(&mut self) {
         let short = ["device", "maker", "oem", "owner"];
         let party = |(p, record): (usize, &Record)| match record.values[..] {
@@ -189,6 +201,7 @@ impl Scenario {
             forms::PUBLIC_KEY => key_name(id, record.attributes()),
             forms::PRIVATE_KEY => key_name(id, record.attributes()) + "-private",
             forms::NUMBER => format!("number{id}"),
+            forms::REGISTER => format!("register{}", record.register()),
             forms::CERTIFICATE if matches!(record.subject(), Some(Subject::Tpm(_))) => format!("tpm-certificate{t}"),
             _ => format!("{}{t}", record.form().name),
         }
@@ -224,6 +237,37 @@ impl Scenario {
     /// The term in field i of a term of this kind.
     pub fn named(&self, term: u16, kind: u8, i: usize) -> Option<u16> {
         self.term(term).filter(|record| record.kind == kind).map(|record| record.term(i))
+    }
+
+    /// A hash of what a TPM makes by itself.
+    pub fn gets_no_ticket(&self, hash: u16) -> bool {
+        let content = self.named(hash, forms::HASH, 0).and_then(|content| self.term(content));
+        content.is_some_and(|record| forms::TPM_GENERATED.contains(&record.kind))
+    }
+
+    /// What an extend to a hash makes it of: the value that the register is to show before, and the term that is added.
+    pub fn extended(&self, hash: u16) -> Option<(u16, u16)> {
+        let pair = self.named(hash, forms::HASH, 0)?;
+        Some((self.named(pair, forms::PAIR, 0)?, self.named(pair, forms::PAIR, 1)?))
+    }
+
+    /// What a register showed that shows a value now: that value and those before it, down to the 1B that it started
+    /// at.
+    pub fn register_values(&self, now: u16) -> Vec<u16> {
+        std::iter::successors(Some(now), |t| self.extended(*t).map(|(old, _)| old)).collect()
+    }
+
+    /// A term or a command of it is about registers.
+    pub fn has_registers(&self) -> bool {
+        let of_registers = [forms::REGISTER, forms::QUOTE_BODY, forms::EXTEND, forms::QUOTE];
+        self.records().any(|record| of_registers.contains(&record.kind))
+    }
+
+    /// What a signed quote says: the register, its value, and the number.
+    pub fn quoted(&self, signature: u16) -> Option<(u8, u16, u16)> {
+        let body = self.named(signature, forms::SIGNATURE, 0)?;
+        let body = self.term(body).filter(|record| record.kind == forms::QUOTE_BODY)?;
+        Some((body.register(), body.term(1), body.term(2)))
     }
 
     /// The Subject of a request or a certificate, as its line has it.
@@ -301,6 +345,7 @@ impl Scenario {
             Value::Attributes(attributes) => forms::attributes_text(attributes),
             Value::Subject(subject) => subject_text(subject),
             Value::Party(party) => self.party_name(party).to_string(),
+            Value::Register(register) => register.to_string(),
             Value::Term(term) => self.term_name_of(term).to_string(),
             Value::Pairs(pairs) => {
                 let used = pairs.iter().rposition(|pair| pair.is_some()).map_or(1, |last| last + 1);

@@ -345,6 +345,10 @@ impl Reader {
                 None => Err(with(expected(), suggestion(word, forms::ROLES.into_iter())).into()),
             },
             Field::Identifier => Ok(number(word).map(Value::Identifier).ok_or_else(expected)?),
+            Field::Register => {
+                let register = number(word).and_then(|n| u8::try_from(n).ok()).filter(|n| *n < forms::REGISTERS);
+                Ok(register.map(Value::Register).ok_or_else(expected)?)
+            }
             Field::Attributes => {
                 let sum = attributes(word).map_err(|hint| told_more(expected(), &hint))?;
                 let more = |token: &Token| {
@@ -375,7 +379,7 @@ impl Reader {
                 Some((Meaning::Term(_, None), _)) => Err(Wrong::ToldBefore),
                 _ => Err(self.wrong_name(line, token, field).into()),
             },
-            Field::AnyTerm | Field::Term(_) | Field::SignedAttest => match self.names.get(word) {
+            Field::AnyTerm | Field::Term(_) | Field::Over(..) => match self.names.get(word) {
                 Some((Meaning::Term(term, kind), _)) if kind.is_none_or(|kind| self.suits(*term, kind, field)) => {
                     Ok(Value::Term(*term))
                 }
@@ -392,10 +396,9 @@ impl Reader {
     fn suits(&self, term: u16, kind: u8, field: Field) -> bool {
         match field {
             Field::Term(called_for) => kind == called_for,
-            Field::SignedAttest => {
-                let message = self.scenario.term(term).map_or(forms::EMPTY, |record| record.term(0));
-                let attest = [forms::ATTEST, UNKNOWN].iter().any(|kind| self.scenario.is_kind(message, *kind));
-                kind == forms::SIGNATURE && attest
+            Field::Over(called_for, over) => {
+                let content = self.scenario.term(term).map_or(forms::EMPTY, |record| record.term(0));
+                kind == called_for && [over, UNKNOWN].iter().any(|kind| self.scenario.is_kind(content, *kind))
             }
             _ => true,
         }

@@ -1,5 +1,7 @@
 //! Commands in words.
 
+use birdweekly::Buffers;
+
 use crate::forms::{self, attributes_text, listed};
 use crate::scenario::{Record, Scenario};
 
@@ -44,6 +46,16 @@ pub fn sentence(scenario: &Scenario, command: &Record, refused: bool) -> String 
             let each = if each.is_empty() { "nothing".into() } else { listed(&each, "and") };
             ("issue", format!("together {each}; the numbers are returned by {}", party(1)))
         }
+        forms::EXTEND => {
+            let (register, r) = (command.register(), command.term(2));
+            let (old, added) = s.extended(r).unwrap_or((forms::EMPTY, forms::EMPTY));
+            ("extend", format!("register {register} from {} with {}, for {}", name(old), name(added), name(r)))
+        }
+        forms::QUOTE => {
+            let (register, value, number) = s.quoted(r).unwrap_or((u8::MAX, forms::EMPTY, forms::EMPTY));
+            let what = format!("{} in register {register} with {}", name(value), name(number));
+            ("quote", format!("{what}, signed with {}, for {}", of(1), name(r)))
+        }
         _ => ("issue", format!("{}, {}, on {}", name(command.term(2)), article(s, command.term(2)), name(r))),
     };
     let verb = if refused { format!("would {verb}") } else { third_person(verb) };
@@ -84,6 +96,13 @@ pub fn asked_for(command: &Record) -> Vec<u16> {
         forms::ISSUE_IAKS => command.pairs().into_iter().map(|(_, r)| r).collect(),
         _ => Vec::new(),
     }
+}
+
+/// Who knows a term in a state.
+pub fn known_to(scenario: &Scenario, state: &Buffers, t: u16) -> String {
+    let knowers = (0..scenario.parties.len() as u8).filter(|p| state.knows(*p, t));
+    let names: Vec<&str> = knowers.map(|p| scenario.party_name(p)).collect();
+    format!("known to {}", if names.is_empty() { "nobody".into() } else { listed(&names, "and") })
 }
 
 /// "1 command", "2 commands".

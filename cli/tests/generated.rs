@@ -1,17 +1,19 @@
-//! On files made from seeds and the stored ones of `crates/cases`: the text form gives the same bytes back, the words for a refusal have the engine's number, and what `explain`
-//! prints has the engine's outcomes and ledger.
+//! On files made from seeds and the stored ones of `crates/cases`: the text form gives the same bytes back, the words
+//! for a refusal have the engine's number, and what `explain` prints has the engine's outcomes, ledger and registers.
 //!
 //! 150 seeds of each generator, unless BIRDWEEKLY_SEEDS says how many.
 
+use std::collections::HashSet;
 use std::path::Path;
 
 use birdweekly::{
     load, path, Buffers, Entry, LoadAnswer, PathAnswer, RunAnswer, LEDGER_ENTRIES, OUTCOME_BYTES, PATH_PLACES,
-    STATE_BYTES,
+    REGISTER_BYTES, STATE_BYTES,
 };
 use birdweekly_cli::effects::Effects;
 use birdweekly_cli::explain::{explain, NO_COLOURS};
 use birdweekly_cli::faults::fault;
+use birdweekly_cli::forms::REGISTERS;
 use birdweekly_cli::reasons::{meaning, reason};
 use birdweekly_cli::rehearsal::Rehearsal;
 use birdweekly_cli::scenario::Scenario;
@@ -88,27 +90,40 @@ fn reasons_have_the_engines_numbers() {
         // Long files: some of the commands, since each is looked at in a run of its own.
         let step = 1 + commands / 200;
         let effects = Effects::of(&scenario);
+        let mut shown = HashSet::new();
         for i in (0..commands).step_by(step) {
             before.run(&file, i);
+            shown.extend(registers(&before));
             let told = reason(&scenario, &effects, &before, i);
             let outcome = whole.outcomes()[i];
             assert_eq!(told.as_ref().map_or(0, |told| told.number), outcome, "{name}, command {i}: {told:?}");
             let details = told.iter().flat_map(|told| &told.details);
-            claims += details.map(|detail| claims_are_true(detail, &scenario, &before)).sum::<usize>();
+            let all = Some(&shown).filter(|_| step == 1);
+            claims += details.map(|detail| claims_are_true(detail, &scenario, &before, all)).sum::<usize>();
             numbers[outcome as usize] += 1;
         }
     }
     let seen: Vec<(usize, u64)> = numbers.iter().copied().enumerate().filter(|(_, count)| *count > 0).collect();
     println!("{seen:?}, {claims} claims");
     assert!(claims > 1_000);
-    for number in [0, 13, 14, 15, 16, 17, 18, 19, 20, 21, 23, 24, 25, 26, 27, 28, 29, 31, 32] {
+    for number in [0, 13, 14, 15, 16, 17, 18, 19, 20, 21, 23, 24, 25, 26, 27, 28, 29, 31, 32, 33] {
         assert!(numbers[number] > 0, "no file gave {number}");
     }
 }
 
-/// Read back from what is printed: the outcome of each command, and the ledger as certificate and depth.
-fn read_back(printed: &str) -> (Vec<u8>, Vec<(u16, u16)>) {
-    let (commands, ledger) = printed.split_once("\nLedger").expect("the ledger comes last");
+/// What a party's register shows, of those that are not empty.
+type Shown = (u8, u8, u16);
+
+fn registers(buffers: &Buffers) -> impl Iterator<Item = Shown> + '_ {
+    // One party more than a file may have.
+    let all = (0..=8).flat_map(|p| (0..REGISTERS).map(move |register| (p, register)));
+    all.filter_map(|(p, register)| Some((p, register, buffers.register(p, register)?)))
+}
+
+/// Read back from what is printed: the outcome of each command, the ledger as certificate and depth, and the registers.
+fn read_back(printed: &str, scenario: &Scenario) -> (Vec<u8>, Vec<(u16, u16)>, Vec<Shown>) {
+    let (commands, ledger) = printed.split_once("\nLedger").expect("the ledger comes after them");
+    let (ledger, registers) = ledger.split_once("\nRegisters").unwrap_or((ledger, ""));
     let mut outcomes = Vec::new();
     for line in commands.lines().skip(2).filter(|line| !line.ends_with("there are no commands")) {
         let words: Vec<&str> = line.split_whitespace().collect();
@@ -126,12 +141,29 @@ fn read_back(printed: &str) -> (Vec<u8>, Vec<(u16, u16)>) {
         let certificate = line.split_once("(term ")?.1.split_once(')')?.0.parse().ok()?;
         Some((certificate, line.split_once("depth ")?.1.split_once(',')?.0.parse().ok()?))
     };
-    (outcomes, ledger.lines().filter_map(entry).collect())
+    let register = |line: &str| {
+        let (register, (party, shown)) = line
+            .trim()
+            .strip_prefix("register ")?
+            .split_once(" of ")
+            .map(|(n, rest)| (n.parse().expect("a register"), rest.split_once(": ").expect("what it shows")))?;
+        let (name, term) = shown.split_once(" (term ").expect("its number");
+        let term = term.split_once(')').and_then(|(term, _)| term.parse().ok()).expect("a number");
+        assert_eq!(scenario.term_name_of(term), name, "{line}");
+        Some((party_of(scenario, party).expect("a party"), register, term))
+    };
+    let registers = registers.lines().filter_map(register).collect();
+    (outcomes, ledger.lines().filter_map(entry).collect(), registers)
 }
 
-/// What a detail says of who knows a term and whose TPM holds a key is so in the state before the command. How many such things it says.
-fn claims_are_true(detail: &str, scenario: &Scenario, before: &Buffers) -> usize {
-    let party = |name: &str| scenario.party_names.iter().position(|other| other == name).map(|p| p as u8);
+fn party_of(scenario: &Scenario, name: &str) -> Option<u8> {
+    scenario.party_names.iter().position(|other| other == name).map(|p| p as u8)
+}
+
+/// What a detail says of who knows a term, whose TPM holds a key and what a register shows is so in the state before
+/// the command; all that registers showed up to it is given, where it is known. How many such things it says.
+fn claims_are_true(detail: &str, scenario: &Scenario, before: &Buffers, all: Option<&HashSet<Shown>>) -> usize {
+    let party = |name: &str| party_of(scenario, name);
     let term = |name: &str| scenario.term_names.iter().position(|other| other == name).map(|t| t as u16);
     let parties = |names: &str| -> Vec<u8> {
         let names = names.split(", ").flat_map(|names| names.split(" and "));
@@ -144,7 +176,11 @@ fn claims_are_true(detail: &str, scenario: &Scenario, before: &Buffers) -> usize
     if let Some((p, rest)) = detail.split_once(" does not know ") {
         let (told, who) = rest.split_once("; ").unwrap_or((rest, ""));
         let t = term(told.split([' ', ',']).next().unwrap_or("")).expect("a term");
-        assert!(!before.knows(party(p).expect("a party"), t), "{detail}");
+        let p = party(p).expect("a party");
+        assert!(!before.knows(p, t), "{detail}");
+        if let Some((register, _)) = who.split_once("its register ").and_then(|(_, shows)| shows.split_once(' ')) {
+            assert_eq!(before.register(p, register.parse().expect("a register")), Some(t), "{detail}");
+        }
         let knowers = those(&|q| before.knows(q, t));
         match who.split("; ").next().and_then(|who| who.strip_prefix("known to ")) {
             Some(names) => assert_eq!(parties(names), knowers, "{detail}"),
@@ -164,6 +200,30 @@ fn claims_are_true(detail: &str, scenario: &Scenario, before: &Buffers) -> usize
         }
         return 1;
     }
+    if let Some((register, rest)) = detail.strip_prefix("register ").and_then(|rest| rest.split_once(" of ")) {
+        let register: u8 = register.parse().expect("a register");
+        let first = |text: &str| term(text.split([' ', ',', ';']).next().unwrap_or("")).expect("a term");
+        let (said, wanted) = rest.split_once(" extends ").or(rest.split_once(" quotes ")).expect("what is wanted");
+        let Some((p, now)) = said.split_once(" shows ") else {
+            let (p, _) = said.split_once(" is empty, ").expect("what it shows");
+            assert_eq!(before.register(party(p).expect("a party"), register), None, "{detail}");
+            return 1;
+        };
+        let (p, t, wanted_term) = (party(p).expect("a party"), first(now), first(wanted));
+        assert_eq!(before.register(p, register), Some(t), "{detail}");
+        let (_, who) = now.rsplit_once(", known to ").expect("who knows it");
+        let knowers = who.split_once("; ").map(|(who, _)| who).filter(|who| *who != "nobody").map_or(vec![], parties);
+        assert_eq!(knowers, those(&|q| before.knows(q, t)), "{detail}");
+        if let Some(all) = all {
+            let showed = wanted.ends_with(", which the register showed before");
+            assert_eq!(all.contains(&(p, register, wanted_term)), showed, "{detail}");
+        }
+        if let Some((_, names)) = wanted.split_once(&format!("; register {register} of ")) {
+            let names = names.strip_suffix(" shows it").expect("they show it");
+            assert_eq!(parties(names), those(&|q| before.register(q, register) == Some(wanted_term)), "{detail}");
+        }
+        return 1;
+    }
     0
 }
 
@@ -175,17 +235,18 @@ fn other_commands_are_as_told(detail: &str, outcomes: &[u8]) -> usize {
         let rest = &part[digits.len()..];
         let outcome = outcomes[digits.parse::<usize>().expect("an ordinal")];
         let refused =
-            [", which would have told it, was refused", ", which would have made one, was refused", ", was refused"];
-        let refused = refused.iter().any(|words| rest.starts_with(words));
+            [", which would have told it", ", which would have made one", ", which would have made it show that", ""];
+        let refused = refused.iter().any(|words| rest.starts_with(&format!("{words}, was refused")));
         assert!(if refused { outcome != 0 } else { rest.starts_with(" issued it") && outcome == 0 }, "{detail}");
     }
     parts.len() - 1
 }
 
 fn engine_path(file: &[u8], certificate: u16) -> Vec<u16> {
-    let (mut state, mut outcomes) = (vec![0; STATE_BYTES], vec![0; OUTCOME_BYTES]);
+    let (mut state, mut outcomes, mut registers) =
+        (vec![0; STATE_BYTES], vec![0; OUTCOME_BYTES], vec![0; REGISTER_BYTES]);
     let (mut ledger, mut list) = (vec![Entry::default(); LEDGER_ENTRIES], [0; PATH_PLACES]);
-    match path(file, usize::MAX, &mut state, &mut ledger, &mut outcomes, certificate, &mut list) {
+    match path(file, usize::MAX, &mut state, &mut ledger, &mut outcomes, &mut registers, certificate, &mut list) {
         PathAnswer::Steps(steps) => list[..=steps as usize].to_vec(),
         PathAnswer::Refused(_) => Vec::new(),
     }
@@ -201,7 +262,8 @@ fn what_is_explained_is_what_the_engine_answers() {
         let rehearsal = Rehearsal::of(&file, &source.scenario);
         let printed = explain(&source, &rehearsal, false, &NO_COLOURS);
         let ledger: Vec<(u16, u16)> = buffers.ledger().map(|entry| (entry.certificate, entry.depth)).collect();
-        assert_eq!(read_back(&printed), (buffers.outcomes().to_vec(), ledger), "{name}");
+        let shown: Vec<Shown> = registers(&buffers).collect();
+        assert_eq!(read_back(&printed, &source.scenario), (buffers.outcomes().to_vec(), ledger, shown), "{name}");
         // Every refusal has a detail.
         for (i, _, reason) in rehearsal.refusals(&source.scenario) {
             for detail in &reason.details {

@@ -22,9 +22,9 @@ maker signs-with maker-private
 ";
 
 /// A line, the column of its mistake, and what is said.
-const MISTAKES: [(&str, usize, &str); 49] = [
-    ("digest2 = hsh of key", 10, "expected a kind of term (public-key, private-key, hash, signature, attest, credential, number, idevid-request, ldevid-request, certificate or pair), found \"hsh\". Did you mean \"hash\"?"),
-    ("digest2 = ", 9, "expected a kind of term (public-key, private-key, hash, signature, attest, credential, number, idevid-request, ldevid-request, certificate or pair), found the end of the line"),
+const MISTAKES: [(&str, usize, &str); 59] = [
+    ("digest2 = hsh of key", 10, "expected a kind of term (public-key, private-key, hash, signature, attest, credential, number, idevid-request, ldevid-request, certificate, pair, register or quote-body), found \"hsh\". Did you mean \"hash\"?"),
+    ("digest2 = ", 9, "expected a kind of term (public-key, private-key, hash, signature, attest, credential, number, idevid-request, ldevid-request, certificate, pair, register or quote-body), found the end of the line"),
     ("digest2 = hash key", 15, "expected \"of\", found \"key\""),
     ("digest2 = hash of", 17, "expected the name of a term, found the end of the line"),
     ("digest2 = hash of kye", 18, "expected the name of a term; \"kye\" is not declared. Did you mean \"key\"?"),
@@ -61,13 +61,23 @@ const MISTAKES: [(&str, usize, &str); 49] = [
     ("board hash digest", 6, "expected \":\" between the party and its command, found \"hash\""),
     ("digest2 hash of key", 8, "expected \"=\" between the name and its term, found \"hash\""),
     ("what is this", 0, "expected \"party NAME ROLE\", \"NAME = TERM\", \"PARTY learns TERM\" or \"PARTY: COMMAND\", found \"what\""),
-    ("board: hahs digest", 7, "expected a command (hash, sign, certify, make-credential, activate-credential, make-idevid-request, make-ldevid-request, make-pair, check-hash, check-signature, check-certificate, check-attributes, send, self-issue, challenge, issue-iak, issue-lak, issue-idevid, issue-ldevid or issue-iaks), found \"hahs\". Did you mean \"hash\"?"),
+    ("board: hahs digest", 7, "expected a command (hash, sign, certify, make-credential, activate-credential, make-idevid-request, make-ldevid-request, make-pair, check-hash, check-signature, check-certificate, check-attributes, send, self-issue, challenge, issue-iak, issue-lak, issue-idevid, issue-ldevid, issue-iaks, extend or quote), found \"hahs\". Did you mean \"hash\"?"),
     ("board: hash proof", 12, "expected a hash; \"proof\" is a signature (line 8)"),
     ("board: certify proof", 15, "expected a signature of an attest; \"proof\" is a signature (line 8)"),
     ("board: send key", 15, "expected \"to\", found the end of the line"),
     ("board: send key to digest", 19, "expected the name of a party; \"digest\" is a term, a hash (line 7)"),
     ("oem: issue-iaks -, -, -, -, - returned-by board", 26, "expected \"returned-by\" after four pairs, found \",\""),
     ("oem: issue-iaks key for nonce returned-by board", 16, "expected a certificate; \"key\" is a public key (line 4)"),
+    ("boot = register 24", 16, "expected a register from 0 to 23, found \"24\""),
+    ("boot = register key", 16, "expected a register from 0 to 23, found \"key\""),
+    ("boot = register", 15, "expected a register from 0 to 23, found the end of the line"),
+    ("body = quote-body of digest in register 300 with nonce", 40, "expected a register from 0 to 23, found \"300\""),
+    ("body = quote-body of digest in 0 with nonce", 31, "expected \"register\", found \"0\""),
+    ("body = quote-body of digest in register 0 with key", 47, "expected a number; \"key\" is a public key (line 4)"),
+    ("board: extend register 24 to digest", 23, "expected a register from 0 to 23, found \"24\""),
+    ("board: extend register 0 to digest", 28, "expected a hash of a pair; \"digest\" is a hash (line 7)"),
+    ("board: extend register 0 to proof", 28, "expected a hash of a pair; \"proof\" is a signature (line 8)"),
+    ("board: quote proof", 13, "expected a signature of a quote body; \"proof\" is a signature (line 8)"),
     ("digest2 = hash of key", 0, "refused with 9 at place 29, term alike an earlier one: the same term as digest (term 3); a file has each term once"),
     ("oem learns digest", 0, "refused with 10 at place 41, set-up 20 (learns) not allowed: oem may not learn digest at set-up: it is a hash; only public keys, numbers and certificates of TPMs are given at set-up"),
     ("oem holds maker-private", 0, "refused with 11 at place 41, set-up 21 (holds) not allowed: maker-private has fixedtpm, so that one TPM alone may hold it, and that of maker does"),
@@ -143,7 +153,12 @@ fn layout_says_nothing() {
 #[test]
 fn damaged_texts_are_told() {
     let folder = std::path::Path::new(env!("CARGO_MANIFEST_DIR")).join("../samples");
-    let names = ["honest-lak.scenario", "slip-ek-in-another-tpm.scenario", "request-04-all-iaks-together.scenario"];
+    let names = [
+        "honest-lak.scenario",
+        "slip-ek-in-another-tpm.scenario",
+        "request-04-all-iaks-together.scenario",
+        "request-06-old-quote-replayed.scenario",
+    ];
     let (mut told_of, mut in_order) = (0, 0);
     for name in names {
         let text = std::fs::read_to_string(folder.join(name)).expect("a sample is read");
@@ -175,6 +190,32 @@ fn damaged_texts_are_told() {
     assert!(told_of > 1_000 && in_order > 300, "{told_of} {in_order}");
 }
 
+/// In bytes: a register above 23 in each field that takes one, and what is no result of an extend or a quote.
+#[test]
+fn registers_and_results_of_another_form_are_told() {
+    // A device; terms 0 to 4: a number, register 0, a pair of both, its hash, the hash of the number.
+    let start = [1, 0, 0x16, 0, 7, 0x1B, 0, 0x1A, 0, 1, 0, 0, 0x12, 0, 2, 0x12, 0, 0];
+    let cases: [(&[u8], Option<&str>); 10] = [
+        (&[0x1B, 23, 0x1C, 23, 0, 5, 0, 0, 0x44, 0, 23, 0, 3], None),
+        (&[0x1B, 24], Some("7 1 of 1: 24 is no register; registers are 0 to 23")),
+        (&[0x1C, 24, 0, 1, 0, 0], Some("7 1 of 3: 24 is no register; registers are 0 to 23")),
+        (&[0x1C, 0, 0, 9, 0, 0], Some("7 2 of 3: term 9 is not declared before; there are 5")),
+        (&[0x1C, 0, 0, 1, 0, 1], Some("8 3 of 3: register0 is a register; a number is called for")),
+        (&[0x44, 0, 255, 0, 3], Some("7 2 of 3: 255 is no register; registers are 0 to 23")),
+        (&[0x44, 0, 0, 0, 4], Some("8 3 of 3: hash4 is a hash of number7, a number; a hash of a pair is called for")),
+        (&[0x44, 0, 0, 0, 2], Some("8 3 of 3: pair2 is a pair; a hash is called for")),
+        (&[0x11, 0, 1, 3, 0x13, 0, 1, 0, 5, 0x45, 0, 0, 6], Some("8 2 of 2: signature6 is a signature of register0, a register; a signature of a quote body is called for")),
+        (&[0x45, 0, 0, 3], Some("8 2 of 2: hash3 is a hash; a signature is called for")),
+    ];
+    for (rest, words) in cases {
+        let source = Source::of_bytes("x", [&start[..], rest].concat());
+        let told = source
+            .refused
+            .map(|refused| format!("{} {}", refused.refusal.number, refused.words.trim_start_matches("field ")));
+        assert_eq!(told.as_deref(), words, "{rest:?}");
+    }
+}
+
 #[test]
 fn other_bytes_are_no_text() {
     let told = match Source::of_text("x.scenario", vec![b'#', b'\n', 0xFF, 0x01]) {
@@ -204,7 +245,7 @@ fn every_line_is_documented() {
 fn every_refusal_is_documented() {
     let page = page();
     let known = |number: &u8| !matches!(number, 22 | 30);
-    for number in (2..=32).filter(known) {
+    for number in (2..=33).filter(known) {
         let words = if number < 13 { faults::meaning(number.into()) } else { reasons::meaning(number) };
         assert_ne!(words, "refused", "{number}");
         assert!(page.contains(&format!("| {number} | {words} |")), "{number}: {words}");

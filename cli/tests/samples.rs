@@ -26,7 +26,7 @@ fn samples() -> Vec<String> {
     let names = folder.map(|entry| entry.expect("a folder is read").file_name().to_string_lossy().into_owned());
     let mut names: Vec<String> = names.map(|name| format!("samples/{name}")).collect();
     names.sort();
-    assert!(names.iter().all(|name| name.ends_with(".scenario")) && names.len() >= 26);
+    assert!(names.iter().all(|name| name.ends_with(".scenario")) && names.len() >= 28);
     names
 }
 
@@ -139,7 +139,7 @@ fn what_is_printed_is_as_stored() {
     held("check.json", printed(&[&["check", "--json"], &samples[..]].concat()));
     // Every refusal is among them.
     let refusals = std::fs::read_to_string(folder.join("every-refusal.explained")).expect("it is read");
-    for number in (13..=32).filter(|number| !matches!(number, 22 | 29 | 30)) {
+    for number in (13..=33).filter(|number| !matches!(number, 22 | 29 | 30)) {
         assert!(refusals.contains(&format!(" {number}: {}\n", meaning(number))), "{number}");
     }
 }

@@ -1,8 +1,10 @@
 #!/usr/bin/env python3
-"""Writes the stored scenario files of commands into data/: the situations of document 01 and of change requests 1, 3, 4 and 12, for each command each
-refusal alone and beside the next one of its order, and what loading refuses of a 43. A name says what is expected: c31_15_16 is a 31 to which 15 and 16
-apply, and 15 is its outcome; f07_43_... does not load, by 7.
-Usage: make.py [DIRECTORY [--expected | --stock]]: --expected prints the outcomes, --stock the questions on stocks of numbers with their answers."""
+"""Writes the stored scenario files of commands into data/: the situations of document 01 and of change requests 1, 3,
+4, 6 and 12, for each command each refusal alone and beside the next one of its order, and what loading refuses of a 43
+and of the records of registers. A name says what is expected: c31_15_16 is a 31 to which 15 and 16 apply, and 15 is its
+outcome; f07_43_... does not load, by 7.
+Usage: make.py [DIRECTORY [--expected | --stock]]: --expected prints the outcomes, --stock the questions on stocks of
+numbers with their answers."""
 import os
 import sys
 from collections import namedtuple
@@ -35,6 +37,8 @@ class World:
     def ldevid(self, t, certificate): return self.term(0x18, *two(t), *two(certificate))
     def certificate(self, key, subject, signer): return self.term(0x19, *two(key), subject[0], *two(subject[1]), *two(signer))
     def pair(self, t, u): return self.term(0x1A, *two(t), *two(u))
+    def register(self, i): return self.term(0x1B, i)
+    def quote_body(self, i, t, number): return self.term(0x1C, i, *two(t), *two(number))
 
     # set-up
     def learns(self, p, t): self.setup.append(bytes([0x20, p, *two(t)]))
@@ -58,6 +62,8 @@ class World:
         body = [two(t) for pair in pairs + (4 - len(pairs)) * (EMPTY,) for t in pair]
         self.commands.append(bytes([0x43, p, q, *sum(body, [])]))
         self.expected.append(gives)
+
+    def extend(self, p, i, r, gives=0): self.commands.append(bytes([0x44, p, i, *two(r)])); self.expected.append(gives)
 
     def refuses(self, number):
         """The last record does not load."""
@@ -713,6 +719,238 @@ def s_together_of_two_boards():
     return w
 
 
+# ---- situations of change request 6: platform registers and quotes
+
+# Two registers with a starting value each; another has none.
+FIRST, LAST, UNSTARTED = 0, 23, 7
+
+
+def measured(w=None):
+    """A shop whose registers start, and a verifier's number that the board and the OEM desk know."""
+    w = w or shop()
+    w.start, w.other_start = w.register(FIRST), w.register(LAST)
+    w.fresh = w.number(500)
+    for p in B, D:
+        w.learns(p, w.fresh)
+    return w
+
+
+def extend(w, old, t, by=B, register=FIRST, gives=0):
+    """A register is extended; what it shows then."""
+    r = w.hash(w.pair(old, t))
+    w.extend(by, register, r, gives=gives)
+    return r
+
+
+def quoted(w, value, register=FIRST, number=None, key_=None):
+    """A quote under the board's IAK."""
+    body = w.quote_body(register, value, w.fresh if number is None else number)
+    return w.signature(body, w.iak_ if key_ is None else key_)
+
+
+def quote(w, value, by=B, gives=0, **options):
+    q = quoted(w, value, **options)
+    w.do(0x45, by, q, gives=gives)
+    return q
+
+
+@case
+def s_extend_twice_and_quote():
+    """The verifier gets the quote and checks its signature."""
+    w = measured()
+    w.learns(D, w.iak)
+    a = extend(w, w.start, w.iak)
+    b = extend(w, a, w.ek_certificate)
+    q = quote(w, b)
+    w.send(B, D, q)
+    w.do(0x39, D, q, w.iak)
+    return w
+
+
+@case
+def s_attestation_after_enrolment():
+    """Quotes under an IAK with a certificate; an old one may be sent again, but not made again."""
+    w = measured(enrolled())
+    again = w.number(501)
+    for p in B, D:
+        w.learns(p, again)
+    a = extend(w, w.start, w.ek_certificate)
+    old = quote(w, a)
+    w.send(B, D, old)
+    w.do(0x39, D, old, w.iak)
+    b = extend(w, a, w.issued)
+    w.do(0x45, B, old, gives=33)
+    quote(w, a, number=again, gives=33)
+    w.send(B, D, old)
+    w.send(B, D, quote(w, b, number=again))
+    return w
+
+
+@case
+def s_quote_of_an_old_value():
+    w = measured()
+    a = extend(w, w.start, w.iak)
+    quote(w, w.start, gives=33)
+    q = quote(w, a)
+    extend(w, a, w.iak)
+    w.do(0x45, B, q, gives=33)
+    return w
+
+
+@case
+def s_extend_on_a_stale_value():
+    """The register stays where it was."""
+    w = measured()
+    a = extend(w, w.start, w.iak)
+    extend(w, w.start, w.ek_certificate, gives=33)
+    extend(w, w.start, w.iak, gives=33)
+    quote(w, a)
+    return w
+
+
+@case
+def s_empty_register():
+    """An empty register shows no term: no old value and no quoted one is right."""
+    w = measured()
+    a = extend(w, w.start, w.iak)
+    for value in w.start, w.other_start, a, w.iak:
+        extend(w, value, w.iak, register=UNSTARTED, gives=33)
+        quote(w, value, register=UNSTARTED, gives=33)
+    quote(w, a)
+    return w
+
+
+@case
+def s_registers_of_one_device():
+    """Each has its own value; the last is moved by its own extend alone."""
+    w = measured()
+    a = extend(w, w.start, w.iak)
+    extend(w, a, w.iak, register=LAST, gives=33)
+    quote(w, a, register=LAST, gives=33)
+    quote(w, w.other_start, register=LAST)
+    b = extend(w, w.other_start, w.iak, register=LAST)
+    quote(w, b, register=LAST)
+    quote(w, b, gives=33)
+    quote(w, a)
+    return w
+
+
+@case
+def s_register_of_another_party():
+    """Another board's register starts at the same value and goes its own way. Extends alike lead to one value."""
+    w = measured()
+    key_ = w.private(30, IAK)
+    w.holds(B2, key_)
+    for t in w.fresh, w.iak:
+        w.learns(B2, t)
+    a = extend(w, w.start, w.iak)
+    quote(w, a, by=B2, key_=key_, gives=33)
+    quote(w, w.start, by=B2, key_=key_)
+    extend(w, a, w.iak, by=B2, gives=33)
+    extend(w, w.start, w.iak, by=B2)
+    quote(w, a, by=B2, key_=key_)
+    b = extend(w, a, w.iak, by=B2)
+    quote(w, b, gives=33)
+    quote(w, a)
+    return w
+
+
+@case
+def s_desks_at_44_and_45():
+    """A desk has no registers, whatever it knows and holds."""
+    w = measured()
+    for p, id in (M, 31), (D, 32), (O, 33):
+        key_ = w.private(id, IAK)
+        w.holds(p, key_)
+        w.learns(p, w.fresh)
+        extend(w, w.start, w.fresh, by=p, gives=13)
+        quote(w, w.start, by=p, key_=key_, gives=13)
+    return w
+
+
+@case
+def s_unknown_before_the_value():
+    """14 comes before 33."""
+    w = measured()
+    unknown = w.number(501)
+    a = extend(w, w.start, w.iak)
+    extend(w, w.start, unknown, gives=14)
+    quote(w, w.start, number=unknown, gives=14)
+    extend(w, a, unknown, gives=14)
+    quote(w, a, number=unknown, gives=14)
+    quote(w, a)
+    return w
+
+
+@case
+def s_quote_by_an_unrestricted_key():
+    """Sign and Restricted are asked for, FixedTPM is not."""
+    w = measured()
+    for id, (attributes, gives) in enumerate([
+        (DEVID, 16), (SIGN, 16), (RESTRICTED, 16), (EK, 16), (RESTRICTED | FIXED, 16), (0, 16),
+        (RESTRICTED | SIGN, 0), (15, 0),
+    ]):
+        key_ = w.private(40 + id, attributes)
+        w.holds(B, key_)
+        quote(w, w.start, key_=key_, gives=gives)
+    return w
+
+
+@case
+def s_hash_of_a_quote_signed():
+    """The hash of a quote body gets no ticket, as that of an attest; a Restricted key signs the body by 45 alone."""
+    w = measured()
+    free_ = w.private(30, DEVID)
+    w.holds(B, free_)
+    q = quoted(w, w.start)
+    body = w.quote_body(FIRST, w.start, w.fresh)
+    h = w.hash(body)
+    w.do(0x31, B, q, gives=17)
+    w.do(0x30, B, h, gives=14)
+    w.do(0x45, B, q)
+    w.do(0x31, B, q, gives=17)
+    w.do(0x30, B, h)
+    w.do(0x31, B, w.signature(h, w.iak_), gives=17)
+    w.do(0x31, B, w.signature(h, free_))
+    w.do(0x31, B, w.signature(body, free_))
+    return w
+
+
+@case
+def s_extend_teaches_nothing():
+    """Neither the new value is learnt nor what is in it, and it gets no ticket; a quote teaches it."""
+    w = measured()
+    pair = w.pair(w.start, w.iak)
+    a = extend(w, w.start, w.iak)
+    w.send(B, D, a, gives=14)
+    w.send(B, D, w.start, gives=14)
+    w.send(B, D, pair, gives=14)
+    proof = w.signature(a, w.iak_)
+    w.do(0x31, B, proof, gives=17)
+    quote(w, a)
+    w.send(B, D, a)
+    w.send(B, D, pair, gives=14)
+    w.send(B, D, w.start, gives=14)
+    w.do(0x31, B, proof, gives=17)
+    return w
+
+
+@case
+def s_quote_teaches_what_is_in_it():
+    """Who gets a quote knows its value and its number, not what the value is a hash of."""
+    w = measured()
+    name = w.hash(w.start)
+    twice = w.pair(w.start, w.fresh)
+    w.do(0x30, B, name, gives=14)
+    q = quote(w, w.start)
+    w.do(0x30, B, name)
+    w.do(0x31, B, w.signature(name, w.iak_))
+    w.send(B, B2, q)
+    w.do(0x37, B2, twice)
+    w.do(0x30, B2, name)
+    return w
+
+
 # ---- situations of change request 12: boards left in the stock of numbers
 
 def stocked(w, desk, *ids):
@@ -818,7 +1056,7 @@ def f03_stock_of_a_file_that_does_not_load():
     """Run's refusal comes before 39."""
     w = shop()
     stocked(w, D, 200)
-    w.commands.append(bytes([0x44]))
+    w.commands.append(bytes([0x46]))
     w.refuses(3)
     w.stock(D, 1)
     w.stock(D, 0)
@@ -2233,6 +2471,119 @@ def c43_26_then_25():
     return w
 
 
+# ---- 44, 45
+
+@case
+def c44_13():
+    w = measured()
+    extend(w, w.start, w.fresh, by=D, gives=13)
+    return w
+
+
+@case
+def c44_13_14():
+    w = measured()
+    extend(w, w.start, w.ek, by=D, gives=13)
+    return w
+
+
+@case
+def c44_14():
+    w = measured()
+    extend(w, w.start, w.ek_, gives=14)
+    extend(w, w.start, w.start, gives=14)
+    return w
+
+
+@case
+def c44_14_33():
+    w = measured()
+    extend(w, w.other_start, w.ek_, gives=14)
+    return w
+
+
+@case
+def c44_33():
+    w = measured()
+    extend(w, w.other_start, w.fresh, gives=33)
+    extend(w, w.fresh, w.fresh, gives=33)
+    return w
+
+
+@case
+def c45_13():
+    w = measured()
+    quote(w, w.start, by=D, key_=w.oem_, gives=13)
+    return w
+
+
+@case
+def c45_13_14():
+    w = measured()
+    quote(w, w.start, by=O, key_=w.owner_, gives=13)
+    return w
+
+
+@case
+def c45_14():
+    w = measured()
+    quote(w, w.start, number=w.number(501), gives=14)
+    return w
+
+
+@case
+def c45_14_15():
+    w = measured()
+    quote(w, w.start, number=w.number(501), key_=w.oem_, gives=14)
+    return w
+
+
+@case
+def c45_15():
+    """The key is another board's."""
+    w = measured()
+    key_ = w.private(30, IAK)
+    w.holds(B2, key_)
+    quote(w, w.start, key_=key_, gives=15)
+    return w
+
+
+@case
+def c45_15_16():
+    w = measured()
+    quote(w, w.start, key_=w.oem_, gives=15)
+    return w
+
+
+@case
+def c45_16():
+    w = measured()
+    quote(w, w.start, key_=w.ek_, gives=16)
+    return w
+
+
+@case
+def c45_16_33():
+    w = measured()
+    quote(w, w.other_start, key_=w.ek_, gives=16)
+    return w
+
+
+@case
+def c45_15_33():
+    w = measured()
+    quote(w, w.other_start, key_=w.private(30, IAK), gives=15)
+    return w
+
+
+@case
+def c45_33():
+    w = measured()
+    quote(w, w.other_start, gives=33)
+    quote(w, w.fresh, gives=33)
+    return w
+
+
 # ---- 43 at loading
 
 def a_term_of_each_kind():
@@ -2321,13 +2672,6 @@ def f07_43_no_term():
     return w.refuses(7)
 
 
-@case
-def f03_kind_44():
-    w = World()
-    w.commands.append(bytes([0x44]))
-    return w.refuses(3)
-
-
 def every_kind():
     """A record of each kind, as the files of the kinds to 42 have them, and a 43."""
     w = a_term_of_each_kind()
@@ -2355,13 +2699,6 @@ def load_every_kind_to_43(): return every_kind()
 
 
 @case
-def f03_kind_44_after_a_record_of_each_kind():
-    w = every_kind()
-    w.commands.append(bytes([0x44]))
-    return w.refuses(3)
-
-
-@case
 def load_43_all_empty():
     """Empty pairs name no term, also where there is none."""
     w = World(OEM, DEVICE)
@@ -2376,6 +2713,158 @@ def cut_two_iaks_together():
     w, (a, b) = several(2)
     w.issue_iaks(D, B, EMPTY, a, EMPTY, b)
     w.send(D, B, b[1])
+    return w
+
+
+# ---- 1B, 1C, 44 and 45 at loading
+
+# Terms of a_term_of_each_kind.
+KEY_, DIGEST, PROOF, ATTESTED, NUMBER = 1, 2, 3, 5, 6
+
+
+def a_term_of_each_kind_to_1C():
+    """The terms of each kind to 1A, a 1B and a 1C, with what a 44 and a 45 take."""
+    w = a_term_of_each_kind()
+    w.start = w.register(FIRST)
+    w.extended = w.hash(w.pair(w.start, 0))
+    w.body = w.quote_body(FIRST, w.start, NUMBER)
+    w.quote = w.signature(w.body, KEY_)
+    return w
+
+
+def record(kind, *body, gives, after=a_term_of_each_kind_to_1C):
+    """A last record that does not load. A part of its body that is a function is asked of the world. No set-up stands
+    before a term."""
+    w = after()
+    if kind < 0x20:
+        w.setup = []
+    w.commands.append(bytes([kind, *[b for f in body for b in (f(w) if callable(f) else [f])]]))
+    return w.refuses(gives)
+
+
+def term(name): return lambda w: two(getattr(w, name))
+def undeclared(w): return two(len(w.terms))
+
+
+for _name, _body in {
+    "f07_1B_register_24": (0x1B, 24),
+    "f07_1B_register_255": (0x1B, 255),
+    "f07_1C_register_24": (0x1C, 24, term("start"), 0, NUMBER),
+    "f07_1C_value_not_lower": (0x1C, 1, undeclared, 0, NUMBER),
+    "f07_1C_number_not_lower": (0x1C, 1, term("start"), undeclared),
+    "f07_44_party_undeclared": (0x44, 4, FIRST, term("extended")),
+    "f07_44_register_24": (0x44, 0, 24, term("extended")),
+    "f07_44_register_255": (0x44, 0, 255, term("extended")),
+    "f07_44_result_undeclared": (0x44, 0, FIRST, undeclared),
+    "f07_45_party_undeclared": (0x45, 4, term("quote")),
+    "f07_45_result_undeclared": (0x45, 0, undeclared),
+    "f08_1C_number_of_kind_15": (0x1C, 1, term("start"), term("open")),
+    "f08_44_result_of_kind_11": (0x44, 0, FIRST, 0, KEY_),
+    "f08_44_result_pair": (0x44, 0, FIRST, term("request")),
+    "f08_44_result_hash_of_a_key": (0x44, 0, FIRST, 0, DIGEST),
+    "f08_45_result_of_kind_12": (0x45, 0, 0, DIGEST),
+    "f08_45_result_quote_body": (0x45, 0, term("body")),
+    "f08_45_result_signature_over_attest": (0x45, 0, 0, ATTESTED),
+    "f08_45_result_signature_over_hash": (0x45, 0, 0, PROOF),
+    "f08_32_result_signature_over_quote_body": (0x32, 0, term("quote")),
+    "f09_1B_twice": (0x1B, FIRST),
+    "f09_1C_twice": (0x1C, FIRST, term("start"), 0, NUMBER),
+    "f10_20_of_a_1B": (0x20, 0, term("start")),
+    "f10_20_of_a_1C": (0x20, 0, term("body")),
+    "two_7_register_then_7_in_1C": (0x1C, 24, undeclared, 0, NUMBER),
+    "two_7_register_then_8_in_1C": (0x1C, 24, term("start"), 0, KEY_),
+    "two_7_value_then_8_in_1C": (0x1C, 1, undeclared, 0, KEY_),
+    "two_7_register_then_8_in_44": (0x44, 0, 24, 0, KEY_),
+}.items():
+    CASES[_name] = lambda body=_body, n=7 if _name.startswith("two") else int(_name[1:3]): record(*body, gives=n)
+
+
+def alone(kind): return record(kind, gives=4, after=World)
+
+
+for _kind in 0x1B, 0x1C, 0x44, 0x45:
+    CASES["f04_kind_%02X_alone" % _kind] = lambda kind=_kind: alone(kind)
+for _kind, _body in {0x1C: (1, term("start"), 0), 0x44: (0, FIRST, 0), 0x45: (0, 0)}.items():
+    CASES["f04_%02X_cut_short" % _kind] = lambda kind=_kind, body=_body: record(kind, *body, gives=4)
+
+
+def late(kind, *body, command=False):
+    """A term after set-up, or after a command."""
+    w = a_term_of_each_kind_to_1C()
+    if command:
+        w.extend(0, FIRST, w.extended)
+    w.commands.append(bytes([kind, *body]))
+    return w.refuses(5)
+
+
+@case
+def f05_1B_after_set_up(): return late(0x1B, LAST)
+@case
+def f05_1C_after_command(): return late(0x1C, LAST, 0, 0, 0, NUMBER, command=True)
+
+
+@case
+def load_24_registers():
+    """The last terms first; then a quote of each, and what no quote shows."""
+    w = World(DEVICE)
+    key_, number = w.private(1, IAK), w.number(1)
+    w.holds(0, key_)
+    w.learns(0, number)
+    starts = {i: w.register(i) for i in reversed(range(24))}
+    for i in range(24):
+        w.do(0x45, 0, w.signature(w.quote_body(i, starts[i], number), key_))
+    w.do(0x45, 0, w.signature(w.quote_body(0, starts[23], number), key_), gives=33)
+    return w
+
+
+@case
+def load_1C_alike_but_for_one_field():
+    w = World(DEVICE)
+    a, b = w.number(1), w.number(2)
+    w.quote_body(0, a, a)
+    w.quote_body(1, a, a)
+    w.quote_body(0, b, a)
+    w.quote_body(0, a, b)
+    return w
+
+
+def every_kind_to_45():
+    """A record of each kind: those to 43, then a 1B, a 1C, a 44 and a 45."""
+    w = every_kind()
+    start = w.register(FIRST)
+    extended = w.hash(w.pair(start, 0))
+    quote = w.signature(w.quote_body(FIRST, start, NUMBER), KEY_)
+    w.extend(0, FIRST, extended)
+    w.do(0x45, 0, quote, gives=14)
+    return w
+
+
+@case
+def load_every_kind_to_45(): return every_kind_to_45()
+
+
+@case
+def f03_kind_1D(): return record(0x1D, gives=3, after=World)
+@case
+def f03_kind_46(): return record(0x46, gives=3, after=World)
+@case
+def f03_kind_46_after_a_record_of_each_kind(): return record(0x46, gives=3, after=every_kind_to_45)
+
+
+@case
+def cut_extended_and_quoted():
+    """Cut at each length: inside a 1B and a 1C, before, inside and after a 44 and a 45."""
+    w = World(DEVICE, DEVICE)
+    key_, number = w.private(1, IAK), w.number(1)
+    w.holds(0, key_)
+    w.learns(0, number)
+    start = w.register(LAST)
+    a = w.hash(w.pair(start, number))
+    q = w.signature(w.quote_body(LAST, a, number), key_)
+    w.do(0x45, 0, q, gives=33)
+    w.extend(0, LAST, a)
+    w.do(0x45, 0, q)
+    w.send(0, 1, q)
     return w
 
 

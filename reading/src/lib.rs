@@ -1,9 +1,9 @@
-//! A second reading of "Rehearsing DevID enrolment", with points 1 to 5 and 12
+//! A second reading of "Rehearsing DevID enrolment", with points 1 to 6 and 12
 //! of its change requests, written from those texts alone, to test another
 //! implementation against.
 //!
 //! The numbers in the comments are the kinds of records (hexadecimal, as in
-//! the paper) and the refusals 1 to 32 but 22, and 39 (decimal).
+//! the paper) and the refusals 1 to 33 but 22, and 39 (decimal).
 
 #![forbid(unsafe_code)]
 
@@ -19,6 +19,8 @@ pub const TERMS: usize = 1_024;
 pub const OUTCOMES: usize = 8_192;
 /// Most parties.
 pub const PARTIES: usize = 8;
+/// Register bytes that are written: 48 for each possible party.
+pub const REGISTER_BYTES: usize = 384;
 /// Least places of the list lent to `path`.
 pub const LIST_PLACES: usize = 9;
 
@@ -26,6 +28,10 @@ pub const LIST_PLACES: usize = 9;
 const DEPTH: u16 = 8;
 /// Pairs of a 43, the empty ones too.
 const PAIRS: usize = 4;
+/// Registers of a device's TPM.
+const REGISTERS: usize = 24;
+/// The register bytes of one party.
+const PARTY_REGISTER_BYTES: usize = 2 * REGISTERS;
 
 /// A ledger entry.
 #[derive(Clone, Copy, Debug, Default, PartialEq, Eq)]
@@ -109,8 +115,9 @@ pub fn run(
     state: &mut [u8],
     ledger: &mut [Entry],
     outcomes: &mut [u8],
+    registers: &mut [u8],
 ) -> RunAnswer {
-    match run_world(file, n, state, ledger, outcomes) {
+    match run_world(file, n, state, ledger, outcomes, registers) {
         Err(Refusal { number, place }) => RunAnswer::Refused { number, place },
         Ok((world, accepted, refused)) => RunAnswer::Ran {
             accepted,
@@ -121,12 +128,14 @@ pub fn run(
 }
 
 /// Runs, then lists the way from an issued certificate to its EK certificate.
+#[allow(clippy::too_many_arguments)]
 pub fn path(
     file: &[u8],
     n: usize,
     state: &mut [u8],
     ledger: &mut [Entry],
     outcomes: &mut [u8],
+    registers: &mut [u8],
     term: u16,
     list: &mut [u16],
 ) -> PathAnswer {
@@ -136,7 +145,7 @@ pub fn path(
             place: 0,
         };
     }
-    let world = match run_world(file, n, state, ledger, outcomes) {
+    let world = match run_world(file, n, state, ledger, outcomes, registers) {
         Err(Refusal { number, place }) => return PathAnswer::Refused { number, place },
         Ok((world, _, _)) => world,
     };
@@ -158,10 +167,11 @@ pub fn stock(
     state: &mut [u8],
     ledger: &mut [Entry],
     outcomes: &mut [u8],
+    registers: &mut [u8],
     party: u8,
     iaks_per_board: u32,
 ) -> StockAnswer {
-    let world = match run_world(file, usize::MAX, state, ledger, outcomes) {
+    let world = match run_world(file, usize::MAX, state, ledger, outcomes, registers) {
         Err(Refusal { number, place }) => return StockAnswer::Refused { number, place },
         Ok((world, _, _)) => world,
     };
@@ -187,8 +197,17 @@ pub fn listing(file: &[u8]) -> Vec<u8> {
     let mut state = vec![0; STATE_BYTES];
     let mut ledger = vec![Entry::default(); TERMS];
     let mut outcomes = vec![0; OUTCOMES];
+    let mut registers = vec![0; REGISTER_BYTES];
     let mut text = String::new();
-    match run(file, usize::MAX, &mut state, &mut ledger, &mut outcomes) {
+    let answer = run(
+        file,
+        usize::MAX,
+        &mut state,
+        &mut ledger,
+        &mut outcomes,
+        &mut registers,
+    );
+    match answer {
         RunAnswer::Refused { number, place } => text += &format!("F {number} {place}\n"),
         RunAnswer::Ran {
             accepted,
@@ -223,8 +242,13 @@ fn run_world(
     state: &mut [u8],
     ledger: &mut [Entry],
     outcomes: &mut [u8],
+    registers: &mut [u8],
 ) -> Result<(World, u32, u32), Refusal> {
-    if state.len() < STATE_BYTES || ledger.len() < TERMS || outcomes.len() < OUTCOMES {
+    if state.len() < STATE_BYTES
+        || ledger.len() < TERMS
+        || outcomes.len() < OUTCOMES
+        || registers.len() < REGISTER_BYTES
+    {
         return Err(Refusal {
             number: 1,
             place: 0,
@@ -239,6 +263,7 @@ fn run_world(
     state[..STATE_BYTES].fill(0);
     ledger[..TERMS].fill(Entry::default());
     outcomes[..OUTCOMES].fill(0);
+    registers[..REGISTER_BYTES].fill(0);
 
     let mut world = scan(file)?;
     let mut accepted = 0;
@@ -254,6 +279,7 @@ fn run_world(
     }
     world.write_state(state);
     ledger[..world.ledger.len()].copy_from_slice(&world.ledger);
+    world.write_registers(registers);
     Ok((world, accepted, refused))
 }
 
@@ -327,6 +353,15 @@ enum Term {
         first: u16,
         second: u16,
     },
+    /// The starting value of a register.
+    Start {
+        register: u8,
+    },
+    QuoteBody {
+        register: u8,
+        value: u16,
+        number: u16,
+    },
 }
 
 impl Term {
@@ -344,6 +379,8 @@ impl Term {
             Term::LdevidRequest { .. } => 0x18,
             Term::Certificate { .. } => 0x19,
             Term::Pair { .. } => 0x1A,
+            Term::Start { .. } => 0x1B,
+            Term::QuoteBody { .. } => 0x1C,
         }
     }
 
@@ -361,11 +398,13 @@ impl Term {
                 certificate,
             } => vec![message, certificate],
             Term::Pair { first, second } => vec![first, second],
+            Term::QuoteBody { value, number, .. } => vec![value, number],
             Term::PublicKey(_)
             | Term::PrivateKey(_)
             | Term::Hash { .. }
             | Term::Credential { .. }
-            | Term::Number { .. } => vec![],
+            | Term::Number { .. }
+            | Term::Start { .. } => vec![],
         }
     }
 }
@@ -384,6 +423,9 @@ struct Party {
     role: u8,
     /// The private key that a 22 gave.
     signing_key: Option<u16>,
+    /// The term that each register of a device shows; none if it is empty, and
+    /// for a party that is no device.
+    registers: [Option<u16>; REGISTERS],
 }
 
 /// What differs between 40, 41 and 42.
@@ -521,6 +563,15 @@ enum Command {
         returning: u8,
         pairs: [Option<IakPair>; PAIRS],
     },
+    Extend {
+        party: u8,
+        register: u8,
+        r: u16,
+    },
+    Quote {
+        party: u8,
+        r: u16,
+    },
 }
 
 impl Command {
@@ -573,9 +624,9 @@ struct CertificateFields {
 }
 
 /// The refusals of a command, in the order that they are looked for: by
-/// number, but 32 after 13, and 31 between 28 and 29.
-const ORDER: [u8; 18] = [
-    13, 32, 14, 15, 16, 17, 18, 19, 20, 21, 23, 24, 25, 26, 27, 28, 31, 29,
+/// number, but 32 after 13, 33 after 17, and 31 between 28 and 29.
+const ORDER: [u8; 19] = [
+    13, 32, 14, 15, 16, 17, 33, 18, 19, 20, 21, 23, 24, 25, 26, 27, 28, 31, 29,
 ];
 
 /// Where a refusal stands in the order.
@@ -695,6 +746,22 @@ impl World {
         self.parties
             .iter()
             .any(|party| party.signing_key == Some(private) && roles.contains(&party.role))
+    }
+
+    /// The term that a register of a party's TPM shows, if any.
+    fn shown(&self, party: u8, register: u8) -> Option<u16> {
+        self.parties[usize::from(party)].registers[usize::from(register)]
+    }
+
+    /// Of a 12 over a pair: the pair's two terms.
+    fn hashed_pair(&self, t: u16) -> Option<(u16, u16)> {
+        let Term::Hash { content } = self.term(t) else {
+            return None;
+        };
+        let Term::Pair { first, second } = self.term(content) else {
+            return None;
+        };
+        Some((first, second))
     }
 
     /// The ledger entry of a certificate.
@@ -1085,6 +1152,32 @@ impl World {
                     }
                 }
             }
+            Command::Extend { party, register, r } => {
+                let Some((old, t)) = self.hashed_pair(r) else {
+                    unreachable!("a 12 over a 1A by the checks of loading")
+                };
+                verdict.demand(self.role(party) == DEVICE, 13);
+                verdict.demand(self.known(t, party), 14);
+                verdict.demand(self.shown(party, register) == Some(old), 33);
+            }
+            Command::Quote { party, r } => {
+                let Term::Signature { message, key } = self.term(r) else {
+                    unreachable!("a 13 by the checks of loading")
+                };
+                let Term::QuoteBody {
+                    register,
+                    value,
+                    number,
+                } = self.term(message)
+                else {
+                    unreachable!("a 1C by the checks of loading")
+                };
+                verdict.demand(self.role(party) == DEVICE, 13);
+                verdict.demand(self.known(number, party), 14);
+                verdict.demand(self.in_table(key, party), 15);
+                verdict.demand(self.has(key, SIGN) && self.has(key, RESTRICTED), 16);
+                verdict.demand(self.shown(party, register) == Some(value), 33);
+            }
         }
         verdict.first
     }
@@ -1100,7 +1193,7 @@ impl World {
             Command::Hash { party, r } => {
                 self.learn(r, party);
                 if let Term::Hash { content } = self.term(r)
-                    && self.kind(content) != 0x14
+                    && !matches!(self.kind(content), 0x14 | 0x1C)
                 {
                     self.enter_table(r, party);
                 }
@@ -1109,7 +1202,8 @@ impl World {
             | Command::Certify { party, r }
             | Command::MakeCredential { party, r }
             | Command::Build { party, r }
-            | Command::SelfIssue { party, r } => self.learn(r, party),
+            | Command::SelfIssue { party, r }
+            | Command::Quote { party, r } => self.learn(r, party),
             Command::ActivateCredential { party, r } => {
                 if let Term::Credential { number, .. } = self.term(r) {
                     self.learn(number, party);
@@ -1163,6 +1257,9 @@ impl World {
                     self.apply(Command::of_pair(desk, returning, pair));
                 }
             }
+            Command::Extend { party, register, r } => {
+                self.parties[usize::from(party)].registers[usize::from(register)] = Some(r);
+            }
         }
     }
 
@@ -1182,6 +1279,19 @@ impl World {
                 place_high,
                 place_low,
             ]);
+        }
+    }
+
+    /// Writes the first part of a register buffer that is long enough.
+    fn write_registers(&self, registers: &mut [u8]) {
+        registers[..REGISTER_BYTES].fill(0xFF);
+        let of_parties = registers.chunks_exact_mut(PARTY_REGISTER_BYTES);
+        for (bytes, party) in of_parties.zip(&self.parties) {
+            for (two, shown) in bytes.chunks_exact_mut(2).zip(party.registers) {
+                if let Some(t) = shown {
+                    two.copy_from_slice(&t.to_be_bytes());
+                }
+            }
         }
     }
 }
@@ -1215,17 +1325,17 @@ enum Section {
 fn shape(kind: u8) -> Option<(Section, usize)> {
     let section = match kind {
         0x01 => Section::Parties,
-        0x10..=0x1A => Section::Terms,
+        0x10..=0x1C => Section::Terms,
         0x20..=0x22 => Section::SetUp,
-        0x30..=0x43 => Section::Commands,
+        0x30..=0x45 => Section::Commands,
         _ => return None,
     };
     let length = match kind {
-        0x01 => 1,
+        0x01 | 0x1B => 1,
         0x12 | 0x14 | 0x16 => 2,
-        0x10 | 0x11 | 0x20..=0x22 | 0x30..=0x37 | 0x3D => 3,
-        0x13 | 0x18 | 0x1A | 0x3B | 0x3C => 4,
-        0x38..=0x3A | 0x3E | 0x40..=0x42 => 5,
+        0x10 | 0x11 | 0x20..=0x22 | 0x30..=0x37 | 0x3D | 0x45 => 3,
+        0x13 | 0x18 | 0x1A | 0x3B | 0x3C | 0x44 => 4,
+        0x1C | 0x38..=0x3A | 0x3E | 0x40..=0x42 => 5,
         0x15 | 0x3F => 6,
         0x17 | 0x19 => 7,
         0x43 => 2 + 4 * PAIRS,
@@ -1295,6 +1405,15 @@ impl Body<'_> {
         }
     }
 
+    /// A register: 0 to 23.
+    fn register(&mut self) -> Result<u8, u32> {
+        let register = self.byte();
+        if usize::from(register) >= REGISTERS {
+            return Err(7);
+        }
+        Ok(register)
+    }
+
     /// A declared party.
     fn party(&mut self, world: &World) -> Result<u8, u32> {
         let party = self.byte();
@@ -1323,12 +1442,21 @@ impl Body<'_> {
         Ok(t)
     }
 
-    /// A 13 over a 14.
-    fn signed_attest(&mut self, world: &World) -> Result<u16, u32> {
+    /// A 13 over a term of that kind.
+    fn signature_over(&mut self, world: &World, kind: u8) -> Result<u16, u32> {
         let t = self.term_of(world, 0x13)?;
         match world.term(t) {
-            Term::Signature { message, .. } if world.kind(message) == 0x14 => Ok(t),
+            Term::Signature { message, .. } if world.kind(message) == kind => Ok(t),
             _ => Err(8),
+        }
+    }
+
+    /// A 12 over a 1A.
+    fn hashed_pair(&mut self, world: &World) -> Result<u16, u32> {
+        let t = self.term(world)?;
+        match world.hashed_pair(t) {
+            Some(_) => Ok(t),
+            None => Err(8),
         }
     }
 
@@ -1386,6 +1514,7 @@ impl World {
         self.parties.push(Party {
             role,
             signing_key: None,
+            registers: [None; REGISTERS],
         });
         Ok(())
     }
@@ -1431,17 +1560,34 @@ impl World {
                 first: body.term(self)?,
                 second: body.term(self)?,
             },
+            0x1B => Term::Start {
+                register: body.register()?,
+            },
+            0x1C => Term::QuoteBody {
+                register: body.register()?,
+                value: body.term(self)?,
+                number: body.term_of(self, 0x16)?,
+            },
             _ => unreachable!("a kind of the section of terms"),
         };
         if self.numbers.contains_key(&term) {
             return Err(9);
         }
-        self.numbers.insert(term, self.terms.len() as u16);
+        let t = self.terms.len() as u16;
+        self.numbers.insert(term, t);
         self.terms.push(term);
         self.states.push(TermState {
             place: place as u16,
             ..TermState::default()
         });
+        // All parties stand before the terms.
+        if let Term::Start { register } = term {
+            for party in &mut self.parties {
+                if party.role == DEVICE {
+                    party.registers[usize::from(register)] = Some(t);
+                }
+            }
+        }
         Ok(())
     }
 
@@ -1501,7 +1647,7 @@ impl World {
             },
             0x32 => Command::Certify {
                 party,
-                r: body.signed_attest(self)?,
+                r: body.signature_over(self, 0x14)?,
             },
             0x33 => Command::MakeCredential {
                 party,
@@ -1585,6 +1731,15 @@ impl World {
                     pairs,
                 }
             }
+            0x44 => Command::Extend {
+                party,
+                register: body.register()?,
+                r: body.hashed_pair(self)?,
+            },
+            0x45 => Command::Quote {
+                party,
+                r: body.signature_over(self, 0x1C)?,
+            },
             _ => unreachable!("a kind of the section of commands"),
         };
         Ok(command)

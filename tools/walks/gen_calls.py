@@ -1,9 +1,10 @@
 # Writes the walks of `calls::climb`, `calls::ask` and `calls::path`.
 from hand import *
 
-RUN = lambda tables: callee('engine::run', f'&f, usize, usize, &mut s, &mut l, &mut o, &mut {tables}', 'Finished',
-    "Runs (xf .now) {1} {2} {s} {l} {o} {s'} {l'} {o'} {%s'} {r}" % tables, f'(n2 ≤ length cl) × EmptyTables c{tables}', alias='run′')
-BUFFERS = '(lentWith (xs .now) (xl .now) (xo .now))'
+RUN = lambda tables: callee('engine::run', f'&f, usize, usize, &mut s, &mut l, &mut o, &mut g, &mut {tables}', 'Finished',
+    "Runs (xf .now) {1} {2} {s} {l} {o} {g} {s'} {l'} {o'} {g'} {%s'} {r}" % tables, f'(n2 ≤ length cl) × EmptyTables c{tables}', alias='run′')
+BEFORE = '(lentWith (xs .now) (xl .now) (xo .now) (xg .now))'
+AFTER = '(lentWith zs zl zo zg)'
 USES = '''
 use Rattle.tables.specs.Regions.{EmptyTables}
 use Rattle.ledger.proofs.Read.{LentRead, lends-read, read-back}
@@ -41,36 +42,36 @@ use Rattle.path.proofs.Climbing.{Left, left-starts, left-inside, left-next, lef
         start='(xp .now, (vs, (left-starts given, (is-s, refl))))'))
 
 def ask():
-    fn = Function('calls::ask', 'f: &[u8], q: Question, s: &mut [u8], l: &mut [Entry], o: &mut [u8]', 'AskAnswer',
+    fn = Function('calls::ask', 'f: &[u8], q: Question, s: &mut [u8], l: &mut [Entry], o: &mut [u8], g: &mut [u8]', 'AskAnswer',
         ['rules::Entry', 'rules::Question', 'rules::AskAnswer', 'engine::Finished'],
-        [callee('asking::count_of', 'Question', 'usize', '{r} ≡ countOf {0}'), RUN('L8'),
+        [callee('asking::count_of', 'Question', 'usize', '{r} ≡ countOf {0}'), RUN('L9'),
          callee('asking::answer', 'Finished, Question, &f, &s', 'AskAnswer', 'Answers {0} {1} (xf .now) {s} {r}', 'Askable v0 (xf .now) cs')],
-        f'AskRan (xf .now) vq {BUFFERS} zs zl zo r', locals=13, arrays=[f'L8: [u16; {WORDS}]'],
+        f'AskRan (xf .now) vq {BEFORE} {AFTER} r', locals=15, arrays=[f'L9: [u16; {WORDS}]'],
         says=', with no branch and no loop.\n-- A local array is lent, and the state is lent again, to be read.', uses=USES + '''
 use Rattle.rules.specs.Questions.{countOf}
 use Rattle.asking.specs.Asks.{Askable, Answers}
 use Rattle.asking.proofs.Answering.{askable, AskRan, ask-ran}''')
     def script(w):
-        w.number('_6', '_4.1', 'room-l .0')
-        w.call('count_of', [('vq', 'is-q', '_2')], '_7', result='k', ok='counted')
-        w.zeros('L8')
-        w.slice('s', '_10', '_11'); w.slice('l', '_12', '_13'); w.slice('o', '_14', '_15'); w.address('_16')
-        w.call('run', [('k', 'is-k .1', '_7'), ('length (xl .now)', 'room-l .0', '_6'), '_11', '_13', '_15', '_16'], '_9', result='d', ok='ran', needs='(omega arith, refl)')
-        w.slice('s', '_17', '_18')
+        w.number('_7', '_4.1', 'room-l .0')
+        w.call('count_of', [('vq', 'is-q', '_2')], '_8', result='k', ok='counted')
+        w.zeros('L9')
+        w.slice('s', '_11', '_12'); w.slice('l', '_13', '_14'); w.slice('o', '_15', '_16'); w.slice('g', '_17', '_18'); w.address('_19')
+        w.call('run', [('k', 'is-k .1', '_8'), ('length (xl .now)', 'room-l .0', '_7'), '_12', '_14', '_16', '_18', '_19'], '_10', result='d', ok='ran', needs='(omega arith, refl)')
+        w.slice('s', '_20', '_21')
         state = f'({w.now["s"]})'; long = f'({w.long["s"]})'
-        w.call('answer', [('d', 'at-d', '_9'), ('vq', 'is-q', '_2'), '_18'], '_0', ok='told', needs=f'askable (xf .now) k (xs .now) (xl .now) (xo .now) {state} ran {long}')
-        w.empty('L8')
-        w.exit('r', f'ask-ran (xf .now) vq (xs .now) (xl .now) (xo .now) {state} counted ran {long} r told', 'at-r')
+        w.call('answer', [('d', 'at-d', '_10'), ('vq', 'is-q', '_2'), '_21'], '_0', ok='told', needs=f'askable (xf .now) k (xs .now) (xl .now) (xo .now) (xg .now) {state} ran {long}')
+        w.empty('L9')
+        w.exit('r', f'ask-ran (xf .now) vq (xs .now) (xl .now) (xo .now) (xg .now) {state} counted ran {long} r told', 'at-r')
     write(fn, script)
 
 def path():
-    fn = Function('calls::path', 'f: &[u8], n: usize, s: &mut [u8], l: &mut [Entry], o: &mut [u8], t: u16, p: &mut [u16]', 'PathAnswer',
+    fn = Function('calls::path', 'f: &[u8], n: usize, s: &mut [u8], l: &mut [Entry], o: &mut [u8], g: &mut [u8], t: u16, p: &mut [u16]', 'PathAnswer',
         ['rules::Entry', 'rules::PathAnswer', 'path::Stage', 'engine::Finished'],
-        [callee('path::room_for', 'usize, usize', 'usize', '{r} ≡ cond (leb pathPlaces {0}) {1} 0'), RUN('L11'),
-         callee('path::first', 'Finished, &L11, u16', 'Stage', '{r} ≡ firstStage ({0} .begun .number) {L11} {2}', 'FirstReady (v0 .begun .number) cL11 n2', alias='first′'),
-         callee('calls::climb', '&L11, &l, &mut p, Stage', '()', "{p'} ≡ sets {p} ({3} .at) (climbed {L11} {l} ({3} .left) ({3} .certificate))", 'ClimbReady cL11 cl cp v3'),
+        [callee('path::room_for', 'usize, usize', 'usize', '{r} ≡ cond (leb pathPlaces {0}) {1} 0'), RUN('L12'),
+         callee('path::first', 'Finished, &L12, u16', 'Stage', '{r} ≡ firstStage ({0} .begun .number) {L12} {2}', 'FirstReady (v0 .begun .number) cL12 n2', alias='first′'),
+         callee('calls::climb', '&L12, &l, &mut p, Stage', '()', "{p'} ≡ sets {p} ({3} .at) (climbed {L12} {l} ({3} .left) ({3} .certificate))", 'ClimbReady cL12 cl cp v3'),
          callee('path::answer', 'Finished, Stage, u16', 'PathAnswer', 'Answers {0} {1} {2} {r}', 'AnswerReady v0 v1')],
-        f'PathRan (xf .now) nn {BUFFERS} nt (xp .now) zs zl zo zp r', locals=20, arrays=[f'L11: [u16; {WORDS}]'],
+        f'PathRan (xf .now) nn {BEFORE} nt (xp .now) {AFTER} zp r', locals=22, arrays=[f'L12: [u16; {WORDS}]'],
         says=', with no branch and no loop.\n-- A local array is lent, to be written and read; the ledger is lent again, to be read.', uses=USES + '''
 use mathlib.Core.Bool.{cond}
 use lib.Dec.{leb}
@@ -79,20 +80,20 @@ use Rattle.rules.specs.Limits.{pathPlaces}
 use Rattle.path.specs.Climbing.{climbed, FirstReady, firstStage, ClimbReady, AnswerReady, Answers}
 use Rattle.path.proofs.Answering.{PathRan, room-fits, first-ready, climb-ready, answer-ready, path-ran}''')
     def script(w):
-        w.number('_8', '_7.1', 'room-p .0'); w.number('_9', '_4.1', 'room-l .0')
-        w.call('room_for', [('length (xp .now)', 'room-p .0', '_8'), ('length (xl .now)', 'room-l .0', '_9')], '_10', result='k', ok='counted')
-        w.zeros('L11')
-        w.slice('s', '_14', '_15'); w.slice('l', '_16', '_17'); w.slice('o', '_18', '_19'); w.address('_20')
-        w.call('run', [('nn', 'nn-fits', '_2'), ('k', 'is-k .1', '_10'), '_15', '_17', '_19', '_20'], '_12', result='d', ok='ran',
+        w.number('_9', '_8.1', 'room-p .0'); w.number('_10', '_4.1', 'room-l .0')
+        w.call('room_for', [('length (xp .now)', 'room-p .0', '_9'), ('length (xl .now)', 'room-l .0', '_10')], '_11', result='k', ok='counted')
+        w.zeros('L12')
+        w.slice('s', '_15', '_16'); w.slice('l', '_17', '_18'); w.slice('o', '_19', '_20'); w.slice('g', '_21', '_22'); w.address('_23')
+        w.call('run', [('nn', 'nn-fits', '_2'), ('k', 'is-k .1', '_11'), '_16', '_18', '_20', '_22', '_23'], '_13', result='d', ok='ran',
             needs='(room-fits (length (xp .now)) (length (xl .now)) counted, refl)')
-        ran = f'(xf .now) nn k (xs .now) (xl .now) (xo .now) ({w.now["s"]}) (xp .now) nt counted ran ({w.long["s"]})'
-        w.address('_21')
-        w.call('first', [('d', 'at-d', '_12'), '_21', ('nt', 'nt-fits', '_6')], '_13', result='v', ok='staged', needs=f'first-ready {ran}')
+        ran = f'(xf .now) nn k (xs .now) (xl .now) (xo .now) (xg .now) ({w.now["s"]}) (xp .now) nt counted ran ({w.long["s"]})'
+        w.address('_24')
+        w.call('first', [('d', 'at-d', '_13'), '_24', ('nt', 'nt-fits', '_7')], '_14', result='v', ok='staged', needs=f'first-ready {ran}')
         staged = f'{ran} staged ({w.long["l"]})'
-        w.address('_23'); w.slice('l', '_24', '_25'); w.slice('p', '_26', '_27')
-        w.call('climb', ['_23', '_25', '_27', ('v', 'at-v', '_13')], '_22', result='u', ok='written', needs=f'climb-ready {staged}')
-        w.call('answer', [('d', 'at-d', '_12'), ('v', 'at-v', '_13'), ('nt', 'nt-fits', '_6')], '_0', ok='told', needs=f'answer-ready {staged}')
-        w.empty('L11')
+        w.address('_26'); w.slice('l', '_27', '_28'); w.slice('p', '_29', '_30')
+        w.call('climb', ['_26', '_28', '_30', ('v', 'at-v', '_14')], '_25', result='u', ok='written', needs=f'climb-ready {staged}')
+        w.call('answer', [('d', 'at-d', '_13'), ('v', 'at-v', '_14'), ('nt', 'nt-fits', '_7')], '_0', ok='told', needs=f'answer-ready {staged}')
+        w.empty('L12')
         w.exit('r', f'path-ran {staged} written r told', 'at-r')
     write(fn, script)
 

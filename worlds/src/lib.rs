@@ -10,6 +10,11 @@ const RECORD_BYTES: usize = 19;
 /// Pairs of a 43, and what stands in both fields of an empty one.
 const PAIRS: usize = 4;
 const EMPTY: (u16, u16) = (0xFFFF, 0xFFFF);
+/// Kinds of terms and of commands: the first and the last of their sections.
+const TERM_KINDS: (u8, u8) = (0x10, 0x1C);
+const COMMAND_KINDS: (u8, u8) = (0x30, 0x45);
+/// Registers of a device.
+pub const REGISTERS: u8 = 24;
 
 /// Splitmix64.
 pub struct Rng(u64);
@@ -148,7 +153,7 @@ pub struct Draft {
     pub setup: Vec<Record>,
     pub commands: Vec<Record>,
     numbers: HashMap<Record, u16>,
-    kinds: [Vec<u16>; 11],
+    kinds: [Vec<u16>; (TERM_KINDS.1 - TERM_KINDS.0) as usize + 1],
 }
 
 impl Draft {
@@ -168,7 +173,7 @@ impl Draft {
         let t = self.terms.len() as u16;
         self.terms.push(record);
         self.numbers.insert(record, t);
-        self.kinds[record.kind() as usize - 0x10].push(t);
+        self.kinds[(record.kind() - TERM_KINDS.0) as usize].push(t);
         t
     }
 
@@ -210,6 +215,17 @@ impl Draft {
     pub fn pair(&mut self, first: u16, second: u16) -> u16 {
         self.term(Record::new(0x1A).word(first).word(second))
     }
+    pub fn register(&mut self, register: u8) -> u16 {
+        self.term(Record::new(0x1B).byte(register))
+    }
+    pub fn quote(&mut self, register: u8, value: u16, number: u16) -> u16 {
+        self.term(Record::new(0x1C).byte(register).word(value).word(number))
+    }
+    /// What a register shows after an extend: the hash of its old value and a term.
+    pub fn extended(&mut self, value: u16, t: u16) -> u16 {
+        let pair = self.pair(value, t);
+        self.hash(pair)
+    }
 
     /// 20: the party learns the term.
     pub fn learns(&mut self, party: u8, t: u16) {
@@ -246,7 +262,15 @@ impl Draft {
     }
 
     fn of_kind(&self, kind: u8) -> &[u16] {
-        &self.kinds[kind as usize - 0x10]
+        &self.kinds[(kind - TERM_KINDS.0) as usize]
+    }
+
+    /// Hashes or signatures, by their kind, over a term of another kind.
+    fn over(&self, kind: u8, inner: u8) -> Vec<u16> {
+        let inside = |&t: &u16| self.terms[t as usize].word_at(1) as usize;
+        let some = self.of_kind(kind).iter().copied();
+        some.filter(|t| self.terms[inside(t)].kind() == inner)
+            .collect()
     }
 
     fn parties_of(&self, role: u8) -> Vec<u8> {
@@ -256,7 +280,7 @@ impl Draft {
     }
 }
 
-/// 30 to 37 and 3D: party and result.
+/// 30 to 37, 3D and 45: party and result.
 pub fn act(kind: u8, party: u8, r: u16) -> Record {
     Record::new(kind).byte(party).word(r)
 }
@@ -286,6 +310,10 @@ pub fn issue_iaks(desk: u8, returning: u8, pairs: [(u16, u16); PAIRS]) -> Record
     let add = |record: Record, (credential, r): (u16, u16)| record.word(credential).word(r);
     pairs.into_iter().fold(start, add)
 }
+/// 44: party, register and the hash of its old value and a term.
+pub fn extend(party: u8, register: u8, r: u16) -> Record {
+    Record::new(0x44).byte(party).byte(register).word(r)
+}
 /// 40 to 42: desk, 18 request and certificate.
 pub fn issue(kind: u8, desk: u8, request: u16, r: u16) -> Record {
     Record::new(kind).byte(desk).word(request).word(r)
@@ -301,6 +329,9 @@ enum Field {
     Word,
     Any,
     Term(u8),
+    /// A hash or a signature, by its kind, over a term of the other kind.
+    Over(u8, u8),
+    Register,
     /// Credential and certificate, or empty.
     Pair,
 }
@@ -308,8 +339,8 @@ enum Field {
 impl Field {
     fn length(self) -> usize {
         match self {
-            Field::Role | Field::Party | Field::Attributes => 1,
-            Field::Word | Field::Any | Field::Term(_) => 2,
+            Field::Role | Field::Party | Field::Attributes | Field::Register => 1,
+            Field::Word | Field::Any | Field::Term(_) | Field::Over(..) => 2,
             Field::Subject => 3,
             Field::Pair => 4,
         }
@@ -330,10 +361,13 @@ fn fields(kind: u8) -> &'static [Field] {
         0x18 => &[Any, Term(0x19)],
         0x19 => &[Term(0x10), Subject, Term(0x11)],
         0x1A => &[Any, Any],
+        0x1B => &[Register],
+        0x1C => &[Register, Any, Term(0x16)],
         0x20 => &[Party, Any],
         0x21 | 0x22 => &[Party, Term(0x11)],
         0x30 => &[Party, Term(0x12)],
-        0x31 | 0x32 => &[Party, Term(0x13)],
+        0x31 => &[Party, Term(0x13)],
+        0x32 => &[Party, Over(0x13, 0x14)],
         0x33 | 0x34 => &[Party, Term(0x15)],
         0x35 => &[Party, Term(0x17)],
         0x36 => &[Party, Term(0x18)],
@@ -348,6 +382,8 @@ fn fields(kind: u8) -> &'static [Field] {
         0x3F => &[Party, Party, Term(0x15), Term(0x19)],
         0x40..=0x42 => &[Party, Any, Term(0x19)],
         0x43 => &[Party, Party, Pair, Pair, Pair, Pair],
+        0x44 => &[Party, Register, Over(0x12, 0x1A)],
+        0x45 => &[Party, Over(0x13, 0x1C)],
         _ => &[],
     }
 }
@@ -371,7 +407,7 @@ pub fn command_kinds(file: &[u8]) -> Vec<u8> {
     starts(file)
         .into_iter()
         .map(|place| file[place])
-        .filter(|&kind| kind >= 0x30)
+        .filter(|&kind| kind >= COMMAND_KINDS.0)
         .collect()
 }
 
@@ -410,6 +446,10 @@ fn fitting(rng: &mut Rng, draft: &Draft, kind: u8, ids: usize) -> Option<Record>
                 record.word(t as u16)
             }
             Field::Term(kind) => record.word(rng.try_pick(draft.of_kind(kind))?),
+            Field::Over(kind, inner) => record.word(rng.try_pick(&draft.over(kind, inner))?),
+            // Mostly one of the first, so that they meet.
+            Field::Register if rng.chance(85) => record.byte(rng.below(3) as u8),
+            Field::Register => record.byte(rng.below(REGISTERS as usize) as u8),
             Field::Pair => {
                 let credential = rng.try_pick(draft.of_kind(0x15));
                 let certificate = rng.try_pick(draft.of_kind(0x19));
@@ -427,7 +467,8 @@ fn fitting(rng: &mut Rng, draft: &Draft, kind: u8, ids: usize) -> Option<Record>
 /// commands are done by `main`, if there is one.
 fn stray(rng: &mut Rng, draft: &Draft, main: Option<u8>) -> Option<Record> {
     for _ in 0..8 {
-        let kind = 0x30 + rng.below(20) as u8;
+        let (first, last) = COMMAND_KINDS;
+        let kind = first + rng.below((last - first) as usize + 1) as u8;
         let Some(mut record) = fitting(rng, draft, kind, 4) else {
             continue;
         };
@@ -448,12 +489,6 @@ fn stray(rng: &mut Rng, draft: &Draft, main: Option<u8>) -> Option<Record> {
         if matches!(kind, 0x3E | 0x40..=0x42) && rng.chance(85) {
             if let Some(t) = rng.try_pick(draft.of_kind(0x1A)) {
                 record.bytes[2..4].copy_from_slice(&t.to_be_bytes());
-            }
-        }
-        if kind == 0x32 {
-            let message = draft.terms[record.word_at(2) as usize].word_at(1);
-            if draft.terms[message as usize].kind() != 0x14 {
-                continue;
             }
         }
         return Some(record);
@@ -480,9 +515,6 @@ fn twisted(rng: &mut Rng, draft: &Draft, command: Record) -> Option<Record> {
     let end = start + list[chosen].length();
     let mut record = command;
     record.bytes[start..end].copy_from_slice(&other.bytes[start..end]);
-    if kind == 0x32 && chosen == 1 {
-        return None;
-    }
     Some(record)
 }
 
@@ -518,6 +550,72 @@ fn half_empty(rng: &mut Rng, bytes: &mut [u8]) {
         } else {
             0xFF
         };
+    }
+}
+
+/// Where the register byte of a record of this kind stands, if it has one.
+fn register_place(kind: u8) -> Option<usize> {
+    let list = fields(kind);
+    let chosen = list.iter().position(|&f| f == Field::Register)?;
+    Some(1 + list[..chosen].iter().map(|f| f.length()).sum::<usize>())
+}
+
+/// A byte that is no register's.
+fn no_register(rng: &mut Rng) -> u8 {
+    if rng.chance(70) {
+        REGISTERS + rng.below(3) as u8
+    } else {
+        REGISTERS + rng.below(256 - REGISTERS as usize) as u8
+    }
+}
+
+/// Whether a record is of change request 6.
+fn of_registers(record: &Record) -> bool {
+    matches!(record.kind(), 0x1B | 0x1C | 0x44 | 0x45)
+}
+
+/// Such a record with a register or a term that does not fit. An r is mostly of
+/// the right kind, over a term of any.
+fn misfit(rng: &mut Rng, draft: &Draft, mut record: Record) -> Record {
+    let mut choices = Vec::new();
+    let mut start = 1;
+    for &field in fields(record.kind()) {
+        if matches!(field, Field::Register | Field::Term(_) | Field::Over(..)) {
+            choices.push((start, field));
+        }
+        start += field.length();
+    }
+    let Some((start, field)) = rng.try_pick(&choices) else {
+        return record;
+    };
+    if field == Field::Register {
+        record.bytes[start] = no_register(rng);
+        return record;
+    }
+    let right = match field {
+        Field::Over(kind, _) => rng.try_pick(draft.of_kind(kind)),
+        _ => None,
+    };
+    let any = rng.below(draft.terms.len()) as u16;
+    let t = right.filter(|_| rng.chance(80)).unwrap_or(any);
+    record.bytes[start..start + 2].copy_from_slice(&t.to_be_bytes());
+    record
+}
+
+/// One record of registers that does not fit, if there is any.
+fn misfits(rng: &mut Rng, draft: &mut Draft) {
+    let lists = [&draft.terms, &draft.commands];
+    let chosen = rng.below(2);
+    let all = 0..lists[chosen].len();
+    let all: Vec<usize> = all.filter(|&i| of_registers(&lists[chosen][i])).collect();
+    if let Some(i) = rng.try_pick(&all) {
+        let record = misfit(rng, draft, lists[chosen][i]);
+        let list = if chosen == 0 {
+            &mut draft.terms
+        } else {
+            &mut draft.commands
+        };
+        list[i] = record;
     }
 }
 
@@ -705,6 +803,55 @@ const FAMILY_SLIPS: [Slip; 23] = [
     Slip::HashedAttest,
 ];
 
+/// Where a remote attestation of a device leaves the honest way.
+#[derive(Clone, Copy, PartialEq, Eq)]
+enum Astray {
+    No,
+    // At an extend.
+    StaleExtend,
+    ExtendTwice,
+    UnknownTerm,
+    // At a quote.
+    OldValue,
+    OtherRegister,
+    OtherParty,
+    NoValue,
+    UnknownNumber,
+    PlainKey,
+    DecryptKey,
+    ForeignKey,
+    // At both.
+    EmptyRegister,
+    Desk,
+    OtherDevice,
+    // Another way to a signature over a quote body.
+    HashedQuote,
+    SignedQuote,
+    // Afterwards.
+    Replay,
+}
+
+const ASTRAY: [Astray; 18] = [
+    Astray::StaleExtend,
+    Astray::ExtendTwice,
+    Astray::UnknownTerm,
+    Astray::OldValue,
+    Astray::OldValue,
+    Astray::OtherRegister,
+    Astray::OtherParty,
+    Astray::NoValue,
+    Astray::UnknownNumber,
+    Astray::PlainKey,
+    Astray::DecryptKey,
+    Astray::ForeignKey,
+    Astray::EmptyRegister,
+    Astray::Desk,
+    Astray::OtherDevice,
+    Astray::HashedQuote,
+    Astray::SignedQuote,
+    Astray::Replay,
+];
+
 /// Attributes near those of the keys that get certificates.
 const WEAK: [u8; 7] = [0x03, 0x09, 0x0F, 0x02, 0x0E, 0x08, 0x01];
 
@@ -785,6 +932,12 @@ struct Town {
     learned: Vec<Record>,
     numbers: Vec<u16>,
     next_id: u16,
+    /// Registers that have a starting value.
+    started: Vec<u8>,
+    /// What a register of a device should show once a flow is done.
+    shown: HashMap<(usize, u8), (u16, usize)>,
+    /// Quotes that should have been made: device, quote, flow.
+    quotes: Vec<(usize, u16, usize)>,
 }
 
 impl Town {
@@ -808,6 +961,13 @@ impl Town {
             roles.extend(std::iter::repeat_n(role, count));
         }
         rng.shuffle(&mut roles);
+        let mut started: Vec<u8> = (0..REGISTERS).collect();
+        rng.shuffle(&mut started);
+        started.truncate(match rng.below(10) {
+            0 => 0,
+            1 => REGISTERS as usize,
+            _ => 1 + rng.below(4),
+        });
         let mut town = Town {
             rng,
             draft: Draft::new(),
@@ -822,6 +982,9 @@ impl Town {
             learned: Vec::new(),
             numbers: Vec::new(),
             next_id: 0,
+            started,
+            shown: HashMap::new(),
+            quotes: Vec::new(),
         };
         for &role in &roles {
             let party = town.draft.party(role);
@@ -1056,8 +1219,15 @@ impl Town {
         number
     }
 
-    /// Numbers that no challenge asks for: an OEM desk's own, shared with another party, of another party alone, of nobody.
+    /// Starting values that nobody uses, and numbers that no challenge asks for: an
+    /// OEM desk's own, shared with another party, of another party alone, of
+    /// nobody.
     fn spare(&mut self, mut rng: Rng) {
+        for i in 0..self.started.len() {
+            if self.draft.terms.len() < 1_000 {
+                self.draft.register(self.started[i]);
+            }
+        }
         for i in 0..rng.below(24) {
             if self.draft.terms.len() >= 1_000 {
                 return;
@@ -1605,6 +1775,214 @@ impl Town {
         });
     }
 
+    /// What a register shows where it has a starting value, and the flow that has
+    /// to be done for it; else any value.
+    fn shows(&mut self, d: usize, register: u8) -> (u16, Option<usize>) {
+        if let Some(&(value, flow)) = self.shown.get(&(d, register)) {
+            return (value, Some(flow));
+        }
+        if self.started.contains(&register) {
+            return (self.draft.register(register), None);
+        }
+        let public = self.devices[d].plain.public;
+        let other = self
+            .rng
+            .try_pick(&self.started)
+            .filter(|_| self.rng.chance(50));
+        let value = match other {
+            Some(other) => self.draft.register(other),
+            None => self.draft.hash(public),
+        };
+        (value, None)
+    }
+
+    /// A register to attest, with a starting value or without.
+    fn chosen_register(&mut self, started: bool) -> u8 {
+        let any = self.rng.below(REGISTERS as usize) as u8;
+        if started {
+            // Mostly the first, so that there are chains.
+            let few = self.started.len().min(3);
+            let first = self.rng.try_pick(&self.started[..few]);
+            let all = self.rng.try_pick(&self.started);
+            return if self.rng.chance(80) { first } else { all }.unwrap_or(any);
+        }
+        let empty: Vec<u8> = (0..REGISTERS)
+            .filter(|r| !self.started.contains(r))
+            .collect();
+        self.rng.try_pick(&empty).unwrap_or(any)
+    }
+
+    /// An attestation key of a device: one that should have a certificate, if
+    /// there is any.
+    fn attestation_key(&mut self, d: usize) -> Key {
+        let nodes = self
+            .nodes
+            .iter()
+            .filter(|n| n.device == d && n.attributes == AK);
+        let keys: Vec<Key> = nodes.map(|n| n.key).collect();
+        match self.rng.try_pick(&keys) {
+            Some(key) => key,
+            None => self.new_key(d, AK, Slip::None),
+        }
+    }
+
+    /// The extends of a register of a device. What it showed, in order.
+    fn extends(
+        &mut self,
+        d: usize,
+        register: u8,
+        value: u16,
+        astray: Astray,
+        to: &mut Vec<Record>,
+    ) -> Vec<u16> {
+        let p = self.devices[d].party;
+        let least = match astray {
+            Astray::StaleExtend => 2,
+            Astray::ExtendTwice | Astray::UnknownTerm | Astray::OldValue => 1,
+            _ => 0,
+        };
+        let count = least + self.rng.below(4 - least);
+        let mut values = vec![value];
+        for i in 0..count {
+            let odd = i + 1 == count;
+            let device = &self.devices[d];
+            let known = [
+                device.plain.public,
+                device.endorsements[0].1,
+                device.endorsements[0].0.public,
+            ];
+            let (private, t) = (device.plain.private, self.rng.pick(&known));
+            let last = values[values.len() - 1];
+            let (old, t) = match astray {
+                Astray::StaleExtend if odd => (self.rng.pick(&values[..values.len() - 1]), t),
+                Astray::UnknownTerm if odd => (last, private),
+                _ => (last, t),
+            };
+            let r = self.draft.extended(old, t);
+            let by = self.actor(d, astray);
+            to.push(extend(by, register, r));
+            if astray == Astray::ExtendTwice && odd {
+                to.push(extend(by, register, r));
+            }
+            let refused = odd && matches!(astray, Astray::StaleExtend | Astray::UnknownTerm);
+            if by == p && astray != Astray::EmptyRegister && !refused {
+                values.push(r);
+            }
+        }
+        values
+    }
+
+    /// Who extends and quotes: the device, mostly.
+    fn actor(&mut self, d: usize, astray: Astray) -> u8 {
+        match astray {
+            Astray::Desk if self.rng.chance(70) => {
+                let role = self.rng.pick(&[OEM, OWNER]);
+                self.desk(role).0
+            }
+            Astray::OtherDevice if self.rng.chance(70) => {
+                let other = self.other_device(d);
+                self.devices[other].party
+            }
+            _ => self.devices[d].party,
+        }
+    }
+
+    /// A number of a verifier that a device gets: typed in for both, or sent.
+    fn fresh(&mut self, p: u8, verifier: u8, astray: Astray, to: &mut Vec<Record>) -> u16 {
+        if self.rng.chance(5) {
+            if let Some(number) = self.rng.try_pick(&self.numbers) {
+                return number;
+            }
+        }
+        let id = self.next_id;
+        self.next_id += 1;
+        let number = self.draft.number(id);
+        self.learns(verifier, number);
+        if astray == Astray::UnknownNumber {
+            return number;
+        }
+        if self.draft.roles[verifier as usize] == DEVICE && self.rng.chance(80) {
+            to.push(send(verifier, p, number));
+        } else {
+            self.learns(p, number);
+        }
+        number
+    }
+
+    /// Remote attestation: a device extends a register, and a verifier asks for a
+    /// quote of it.
+    fn attestation(&mut self, d: usize, astray: Astray) {
+        let mut commands = Vec::new();
+        let p = self.devices[d].party;
+        let other = self.other_device(d);
+        let verifier = match self.rng.below(3) {
+            0 => self.desk(OEM).0,
+            1 => self.desk(OWNER).0,
+            _ => self.devices[other].party,
+        };
+        let register = self.chosen_register(astray != Astray::EmptyRegister);
+        let (value, before) = self.shows(d, register);
+        let mut after: Vec<usize> = before.into_iter().collect();
+        let values = self.extends(d, register, value, astray, &mut commands);
+        let last = values[values.len() - 1];
+        let number = self.fresh(p, verifier, astray, &mut commands);
+        let quoted = match astray {
+            Astray::OldValue => values[values.len().saturating_sub(2)],
+            Astray::OtherRegister => {
+                let another = self.chosen_register(true);
+                self.shows(d, another).0
+            }
+            Astray::OtherParty => self.shows(other, register).0,
+            Astray::NoValue => self.rng.pick(&[number, self.devices[d].plain.public]),
+            _ => last,
+        };
+        let plain = self.devices[d].plain;
+        let key = match astray {
+            Astray::PlainKey => plain,
+            Astray::DecryptKey => self.devices[d].endorsements[0].0,
+            Astray::ForeignKey => self.attestation_key(other),
+            _ => self.attestation_key(d),
+        };
+        let body = self.draft.quote(register, quoted, number);
+        let quote = self.draft.signature(body, key.private);
+        if astray == Astray::SignedQuote {
+            commands.push(act(0x31, p, quote));
+        }
+        let by = self.actor(d, astray);
+        commands.push(act(0x45, by, quote));
+        commands.push(send(p, verifier, quote));
+        if self.rng.chance(30) {
+            commands.push(check(0x39, verifier, quote, key.public));
+        }
+        match astray {
+            Astray::HashedQuote => {
+                let hash = self.draft.hash(body);
+                let signature = self.draft.signature(hash, key.private);
+                commands.extend([act(0x30, p, hash), act(0x31, p, signature)]);
+            }
+            Astray::SignedQuote => {
+                let signature = self.draft.signature(body, plain.private);
+                commands.push(act(0x31, p, signature));
+            }
+            Astray::Replay => {
+                if let Some((old, quote, flow)) = self.rng.try_pick(&self.quotes) {
+                    let party = self.devices[old].party;
+                    commands.extend([send(party, verifier, quote), act(0x45, party, quote)]);
+                    after.push(flow);
+                }
+            }
+            _ => {}
+        }
+        let flow = self.flows.len();
+        self.flows.push(Flow { after, commands });
+        if self.started.contains(&register) {
+            self.shown.insert((d, register), (last, flow));
+        }
+        if matches!(astray, Astray::No | Astray::HashedQuote | Astray::Replay) {
+            self.quotes.push((d, quote, flow));
+        }
+    }
+
     /// Enrolments until the budget of terms is spent.
     fn enrol(&mut self, budget: usize, hostile: usize, deep: usize) {
         while self.draft.terms.len() + 16 <= budget {
@@ -1612,6 +1990,14 @@ impl Town {
             if self.rng.chance(3) {
                 let d = self.rng.below(self.devices.len());
                 self.rehearse(d);
+            } else if self.rng.chance(12) {
+                let d = self.rng.below(self.devices.len());
+                let astray = if self.rng.chance(2 * hostile) {
+                    self.rng.pick(&ASTRAY)
+                } else {
+                    Astray::No
+                };
+                self.attestation(d, astray);
             } else if iak {
                 let together = self.rng.chance(40);
                 let often = if together { 2 * hostile } else { hostile };
@@ -1862,6 +2248,9 @@ pub fn world(seed: u64) -> Vec<u8> {
             half_empty(&mut town.rng, &mut record.bytes);
         }
     }
+    if town.rng.chance(2) {
+        misfits(&mut town.rng, &mut town.draft);
+    }
     if town.rng.chance(15) {
         town.fill();
     }
@@ -1903,10 +2292,12 @@ pub fn random_records(seed: u64) -> Vec<u8> {
         let before = draft.terms.len();
         if rng.chance(8) {
             bundle(&mut rng, &mut draft);
+        } else if rng.chance(8) {
+            register_terms(&mut rng, &mut draft);
         } else {
             let kind = rng.pick(&[
                 0x10, 0x10, 0x10, 0x11, 0x11, 0x11, 0x12, 0x12, 0x13, 0x13, 0x14, 0x15, 0x16, 0x16,
-                0x17, 0x18, 0x19, 0x19, 0x1A,
+                0x17, 0x18, 0x19, 0x19, 0x1A, 0x1B, 0x1C,
             ]);
             let ids = if kind == 0x16 { 64 } else { ids };
             if let Some(record) = fitting(&mut rng, &draft, kind, ids) {
@@ -1942,7 +2333,9 @@ pub fn random_records(seed: u64) -> Vec<u8> {
     }
 
     // One field or record that does not fit, in some files.
-    if rng.chance(25) {
+    if rng.chance(4) {
+        misfits(&mut rng, &mut draft);
+    } else if rng.chance(25) {
         let list = match rng.below(4) {
             0 | 1 => &mut draft.terms,
             2 => &mut draft.setup,
@@ -1990,6 +2383,38 @@ fn bundle(rng: &mut Rng, draft: &mut Draft) {
     let hash = draft.hash(body);
     let signature = draft.signature(hash, key);
     draft.pair(body, signature);
+}
+
+/// A register's next value, or a quote of one.
+fn register_terms(rng: &mut Rng, draft: &mut Draft) {
+    let started = draft.register(rng.below(3) as u8);
+    let values = draft.over(0x12, 0x1A);
+    let value = rng.try_pick(&values).filter(|_| rng.chance(60));
+    let value = value.unwrap_or(started);
+    let numbers = draft.of_kind(0x16);
+    let Some(number) = rng.try_pick(numbers) else {
+        return;
+    };
+    if rng.chance(50) {
+        let t = rng.try_pick(draft.of_kind(0x10)).filter(|_| rng.chance(50));
+        draft.extended(value, t.unwrap_or(number));
+    } else if let Some(key) = rng.try_pick(draft.of_kind(0x11)) {
+        let register = register_of(draft, value).filter(|_| rng.chance(85));
+        let register = register.unwrap_or(rng.below(3) as u8);
+        let body = draft.quote(register, value, number);
+        draft.signature(body, key);
+    }
+}
+
+/// The register whose starting value a chain of extends begins with.
+fn register_of(draft: &Draft, value: u16) -> Option<u8> {
+    let record = draft.terms[value as usize];
+    match record.kind() {
+        0x1B => Some(record.bytes[1]),
+        // The content of a hash, the first term of a pair.
+        0x12 | 0x1A => register_of(draft, record.word_at(1)),
+        _ => None,
+    }
 }
 
 fn set_up_at_random(rng: &mut Rng, draft: &mut Draft, main: u8) {
@@ -2055,10 +2480,20 @@ fn sweep(rng: &mut Rng, draft: &mut Draft, main: u8) {
             rng.below(draft.roles.len()) as u8
         };
         let command = match record.kind() {
-            0x12 => act(0x30, p, t),
+            0x12 => {
+                let pair = draft.terms[record.word_at(1) as usize].kind() == 0x1A;
+                match register_of(draft, t).filter(|_| pair && rng.chance(80)) {
+                    Some(register) => extend(p, register, t),
+                    None => act(0x30, p, t),
+                }
+            }
             0x13 => {
-                let attest = draft.terms[record.word_at(1) as usize].kind() == 0x14;
-                act(if attest && rng.chance(80) { 0x32 } else { 0x31 }, p, t)
+                let kind = match draft.terms[record.word_at(1) as usize].kind() {
+                    0x14 if rng.chance(80) => 0x32,
+                    0x1C if rng.chance(80) => 0x45,
+                    _ => 0x31,
+                };
+                act(kind, p, t)
             }
             0x15 => act(rng.pick(&[0x33, 0x34]), p, t),
             0x17 => act(0x35, p, t),
@@ -2129,6 +2564,14 @@ fn damage_record(rng: &mut Rng, file: &mut Vec<u8>) {
         half_empty(rng, &mut file[start..end]);
         return;
     }
+    if rng.chance(10) {
+        let place = |&start: &usize| Some(start + register_place(*file.get(start)?)?);
+        let all: Vec<usize> = places.iter().filter_map(place).collect();
+        if let Some(place) = rng.try_pick(&all).filter(|&place| place < file.len()) {
+            file[place] = no_register(rng);
+            return;
+        }
+    }
     let record = file[start..end].to_vec();
     let target = rng.pick(&places).min(file.len());
     match rng.below(4) {
@@ -2143,8 +2586,8 @@ fn damage_record(rng: &mut Rng, file: &mut Vec<u8>) {
             file.insert(target, kind);
         }
         // Any kind, or one just past a section.
-        _ if rng.chance(85) => file[start] = 0x01 + rng.byte() % 0x43,
-        _ => file[start] = rng.pick(&[0x02, 0x1B, 0x23, 0x44]),
+        _ if rng.chance(85) => file[start] = 0x01 + rng.byte() % COMMAND_KINDS.1,
+        _ => file[start] = rng.pick(&[0x02, TERM_KINDS.1 + 1, 0x23, COMMAND_KINDS.1 + 1]),
     }
 }
 
@@ -2173,8 +2616,15 @@ pub fn any(seed: u64) -> Vec<u8> {
                 rng.below(33_000)
             };
             let usual = rng.chance(50);
+            let kinds = COMMAND_KINDS.1 + 2;
             (0..length)
-                .map(|_| if usual { rng.byte() % 0x45 } else { rng.byte() })
+                .map(|_| {
+                    if usual {
+                        rng.byte() % kinds
+                    } else {
+                        rng.byte()
+                    }
+                })
                 .collect()
         }
     }

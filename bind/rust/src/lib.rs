@@ -3,17 +3,17 @@
 //! The engine takes a scenario file, a factory's enrolment procedure as symbolic commands, and says which commands a
 //! certificate desk accepts, which certificates come out and how each leads back to an endorsement key.
 //!
-//! [`load`], [`run`], [`path`] and [`stock`] take any bytes and lent buffers of any length: the answer is a result or one
-//! refusal with its number and place, and every byte of every buffer is fixed in each case. [`Buffers`] owns buffers of the
-//! right sizes, and reads them:
+//! [`load`], [`run`], [`path`] and [`stock`] take any bytes and lent buffers of any length: the answer is a result or
+//! one refusal with its number and place, and every byte of every buffer is fixed in each case. [`Buffers`] owns
+//! buffers of the right sizes, and reads them:
 //!
 //! ```
 //! use birdweekly::{Buffers, RunAnswer};
 //!
 //! // The paper's example: a key is hashed, and a signature refused, since the TPM does not hold the key.
 //! let file = [
-//!     0x01, 0x00, 0x10, 0x00, 0x05, 0x0B, 0x11, 0x00, 0x05, 0x0B, 0x12, 0x00, 0x00, 0x13, 0x00, 0x02, 0x00, 0x01, 0x20,
-//!     0x00, 0x00, 0x00, 0x30, 0x00, 0x00, 0x02, 0x31, 0x00, 0x00, 0x03,
+//!     0x01, 0x00, 0x10, 0x00, 0x05, 0x0B, 0x11, 0x00, 0x05, 0x0B, 0x12, 0x00, 0x00, 0x13, 0x00, 0x02, 0x00, 0x01,
+//!     0x20, 0x00, 0x00, 0x00, 0x30, 0x00, 0x00, 0x02, 0x31, 0x00, 0x00, 0x03,
 //! ];
 //! let mut buffers = Buffers::new();
 //! assert_eq!(buffers.run_all(&file), RunAnswer::Ran { accepted: 1, refused: 1, issued: 0 });
@@ -38,6 +38,16 @@ pub const STATE_BYTES: usize = 1_024 * ROW_BYTES;
 pub const LEDGER_ENTRIES: usize = 1_024;
 /// Outcome bytes that are written: one a command.
 pub const OUTCOME_BYTES: usize = 8_192;
+/// Platform registers of a device.
+pub const REGISTERS: usize = 24;
+/// Bytes of a register: a term number, high byte first.
+const REGISTER_WIDTH: usize = 2;
+/// Register bytes of a party.
+const BANK_BYTES: usize = REGISTERS * REGISTER_WIDTH;
+/// Register bytes that are written: 48 for each of 8 parties.
+pub const REGISTER_BYTES: usize = 8 * BANK_BYTES;
+/// What an empty register has, and each register of a party that is no device.
+pub const EMPTY_REGISTER: u16 = 0xFFFF;
 /// Places that a path may need, and that [`path`] asks for.
 pub const PATH_PLACES: usize = 9;
 
@@ -51,7 +61,8 @@ pub struct Entry {
 }
 
 /// Why a call gave no result: 1 (a buffer is short), 2 (the file is too long), 3 to 12 (the file does not load), 30
-/// (no issued certificate), 39 (no IAKs per board, or no OEM desk); and the place of the record, for 30 the term, for 39 0.
+/// (no issued certificate), 39 (no IAKs per board, or no OEM desk); and the place of the record, for 30 the term, for
+/// 39 0.
 #[derive(Debug, Clone, Copy, PartialEq, Eq)]
 pub struct Refusal {
     pub number: u32,
@@ -93,7 +104,8 @@ pub enum StockAnswer {
     Refused(Refusal),
 }
 
-/// What the commands did with a number or a credential: the desk and the request are those that the credential was opened with.
+/// What the commands did with a number or a credential: the desk and the request are those that the credential was
+/// opened with.
 #[derive(Debug, Clone, Copy, PartialEq, Eq)]
 pub enum Mark {
     None,
@@ -151,6 +163,8 @@ mod raw {
             ledger_len: usize,
             outcomes: *mut u8,
             outcomes_len: usize,
+            registers: *mut u8,
+            registers_len: usize,
         ) -> RunNumbers;
 
         pub fn birdweekly_path(
@@ -163,6 +177,8 @@ mod raw {
             ledger_len: usize,
             outcomes: *mut u8,
             outcomes_len: usize,
+            registers: *mut u8,
+            registers_len: usize,
             term: u16,
             list: *mut u16,
             list_len: usize,
@@ -177,6 +193,8 @@ mod raw {
             ledger_len: usize,
             outcomes: *mut u8,
             outcomes_len: usize,
+            registers: *mut u8,
+            registers_len: usize,
             party: u8,
             iaks_per_board: u32,
         ) -> StockNumbers;
@@ -196,7 +214,14 @@ pub fn load(file: &[u8], state: &mut [u8]) -> LoadAnswer {
 }
 
 /// Loads a scenario file and executes its first `n` commands, or all if fewer.
-pub fn run(file: &[u8], n: usize, state: &mut [u8], ledger: &mut [Entry], outcomes: &mut [u8]) -> RunAnswer {
+pub fn run(
+    file: &[u8],
+    n: usize,
+    state: &mut [u8],
+    ledger: &mut [Entry],
+    outcomes: &mut [u8],
+    registers: &mut [u8],
+) -> RunAnswer {
     let n = unsafe {
         raw::birdweekly_run(
             file.as_ptr(),
@@ -208,6 +233,8 @@ pub fn run(file: &[u8], n: usize, state: &mut [u8], ledger: &mut [Entry], outcom
             ledger.len(),
             outcomes.as_mut_ptr(),
             outcomes.len(),
+            registers.as_mut_ptr(),
+            registers.len(),
         )
     };
     match n.number {
@@ -218,12 +245,14 @@ pub fn run(file: &[u8], n: usize, state: &mut [u8], ledger: &mut [Entry], outcom
 
 /// Runs as [`run`] does, and writes the path of an issued certificate into the list: the certificate, its parents and
 /// the endorsement certificate.
+#[allow(clippy::too_many_arguments)]
 pub fn path(
     file: &[u8],
     n: usize,
     state: &mut [u8],
     ledger: &mut [Entry],
     outcomes: &mut [u8],
+    registers: &mut [u8],
     term: u16,
     list: &mut [u16],
 ) -> PathAnswer {
@@ -238,6 +267,8 @@ pub fn path(
             ledger.len(),
             outcomes.as_mut_ptr(),
             outcomes.len(),
+            registers.as_mut_ptr(),
+            registers.len(),
             term,
             list.as_mut_ptr(),
             list.len(),
@@ -250,13 +281,14 @@ pub fn path(
 }
 
 /// Runs all commands, and tells how many whole boards the unused numbers that an OEM desk alone knows are enough for,
-/// and how many of them are left over. Refused with 39 where there are no IAKs per board or the party is no OEM desk; the
-/// buffers are as [`run`] leaves them then too.
+/// and how many of them are left over. Refused with 39 where there are no IAKs per board or the party is no OEM desk;
+/// the buffers are as [`run`] leaves them then too.
 pub fn stock(
     file: &[u8],
     state: &mut [u8],
     ledger: &mut [Entry],
     outcomes: &mut [u8],
+    registers: &mut [u8],
     party: u8,
     iaks_per_board: u32,
 ) -> StockAnswer {
@@ -270,6 +302,8 @@ pub fn stock(
             ledger.len(),
             outcomes.as_mut_ptr(),
             outcomes.len(),
+            registers.as_mut_ptr(),
+            registers.len(),
             party,
             iaks_per_board,
         )
@@ -290,6 +324,8 @@ pub struct Buffers {
     state: Box<[u8]>,
     ledger: Box<[Entry]>,
     outcomes: Box<[u8]>,
+    registers: Box<[u8]>,
+    ran: bool,
     commands: usize,
     issued: usize,
 }
@@ -300,22 +336,24 @@ impl Buffers {
             state: vec![0; STATE_BYTES].into(),
             ledger: vec![Entry::default(); LEDGER_ENTRIES].into(),
             outcomes: vec![0; OUTCOME_BYTES].into(),
+            registers: vec![0; REGISTER_BYTES].into(),
+            ran: false,
             commands: 0,
             issued: 0,
         }
     }
 
     fn note(&mut self, answer: RunAnswer) -> RunAnswer {
-        (self.commands, self.issued) = match answer {
-            RunAnswer::Ran { accepted, refused, issued } => ((accepted + refused) as usize, issued as usize),
-            RunAnswer::Refused(_) => (0, 0),
+        (self.ran, self.commands, self.issued) = match answer {
+            RunAnswer::Ran { accepted, refused, issued } => (true, (accepted + refused) as usize, issued as usize),
+            RunAnswer::Refused(_) => (false, 0, 0),
         };
         answer
     }
 
     /// Runs the first `n` commands of a file, or all if fewer.
     pub fn run(&mut self, file: &[u8], n: usize) -> RunAnswer {
-        let answer = run(file, n, &mut self.state, &mut self.ledger, &mut self.outcomes);
+        let answer = run(file, n, &mut self.state, &mut self.ledger, &mut self.outcomes, &mut self.registers);
         self.note(answer)
     }
 
@@ -324,26 +362,29 @@ impl Buffers {
         self.run(file, usize::MAX)
     }
 
-    /// A call that runs all commands of a file and asks. It does not tell the totals: loading tells how many commands there
-    /// are, and an entry of the ledger has a depth of 1 at least.
-    fn ask<T>(&mut self, file: &[u8], call: impl FnOnce(&[u8], &mut [u8], &mut [Entry], &mut [u8]) -> T) -> T {
+    /// A call that runs all commands of a file and asks. It does not tell the totals: loading tells how many commands
+    /// there are, and an entry of the ledger has a depth of 1 at least.
+    fn ask<T>(&mut self, file: &[u8], call: impl FnOnce(&[u8], &mut Buffers) -> T) -> T {
         let loaded = load(file, &mut self.state);
-        let answer = call(file, &mut self.state, &mut self.ledger, &mut self.outcomes);
-        (self.commands, self.issued) = match loaded {
+        let answer = call(file, self);
+        (self.ran, self.commands, self.issued) = match loaded {
             LoadAnswer::Loaded { commands, .. } => {
-                (commands as usize, self.ledger.iter().take_while(|entry| entry.depth > 0).count())
+                (true, commands as usize, self.ledger.iter().take_while(|entry| entry.depth > 0).count())
             }
-            LoadAnswer::Refused(_) => (0, 0),
+            LoadAnswer::Refused(_) => (false, 0, 0),
         };
         answer
     }
 
     /// Runs all commands of a file, and tells the boards left in a desk's stock of numbers; see [`stock`].
     pub fn stock(&mut self, file: &[u8], party: u8, iaks_per_board: u32) -> StockAnswer {
-        self.ask(file, |file, state, ledger, outcomes| stock(file, state, ledger, outcomes, party, iaks_per_board))
+        self.ask(file, |file, b| {
+            stock(file, &mut b.state, &mut b.ledger, &mut b.outcomes, &mut b.registers, party, iaks_per_board)
+        })
     }
 
-    /// The path of a certificate that the last run issued, from it to its endorsement certificate; none for another term.
+    /// The path of a certificate that the last run issued, from it to its endorsement certificate; none for another
+    /// term.
     pub fn path(&self, term: u16) -> Option<impl Iterator<Item = u16> + '_> {
         let first = self.ledger().find(|entry| entry.certificate == term)?;
         let parent = |entry: &Entry| self.ledger().find(|other| other.certificate == entry.parent);
@@ -352,7 +393,7 @@ impl Buffers {
         Some(issued.map(|entry| entry.certificate).chain([last]))
     }
 
-    /// One byte a command that was executed: 0, or the refusal, 13 to 29 (22 is not used), 31 or 32.
+    /// One byte a command that was executed: 0, or the refusal, 13 to 29 (22 is not used), 31 to 33.
     pub fn outcomes(&self) -> &[u8] {
         &self.outcomes[..self.commands]
     }
@@ -365,6 +406,11 @@ impl Buffers {
     /// The state, 8 bytes a term (document 01, "Run and Path").
     pub fn state(&self) -> &[u8] {
         &self.state
+    }
+
+    /// The registers, 48 bytes a party, high byte first; zeros before the first call.
+    pub fn registers(&self) -> &[u8] {
+        &self.registers
     }
 
     /// The state bytes of a term; zeros for one that is beyond them.
@@ -381,6 +427,15 @@ impl Buffers {
     /// Whether a party's TPM table has a term: a hash that it made, or a private key that it holds.
     pub fn in_table(&self, party: u8, term: u16) -> bool {
         party < 8 && self.row(term)[1] >> party & 1 == 1
+    }
+
+    /// The term that a register of a device shows after the last run; none where the register is empty, where the party
+    /// is no device or there is no such register, and where nothing was run: before the first call, and after a
+    /// refusal other than 39.
+    pub fn register(&self, party: u8, register: u8) -> Option<u16> {
+        let bank = self.registers.chunks_exact(BANK_BYTES).nth(party as usize).filter(|_| self.ran)?;
+        let shown = bank.chunks_exact(REGISTER_WIDTH).nth(register as usize)?;
+        Some(u16::from_be_bytes([shown[0], shown[1]])).filter(|&term| term != EMPTY_REGISTER)
     }
 
     /// What the commands did with a number or a credential.

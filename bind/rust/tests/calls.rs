@@ -1,12 +1,13 @@
 //! What each call answers and leaves, on the paper's example and on an honest enrolment.
 
 use birdweekly::{
-    entry_at, load, path, run, stock, Buffers, Entry, LoadAnswer, Mark, PathAnswer, Refusal, RunAnswer, StockAnswer, STATE_BYTES,
+    entry_at, load, path, run, stock, Buffers, Entry, LoadAnswer, Mark, PathAnswer, Refusal, RunAnswer, StockAnswer,
+    EMPTY_REGISTER, LEDGER_ENTRIES, OUTCOME_BYTES, REGISTERS, REGISTER_BYTES, STATE_BYTES,
 };
 
 const EXAMPLE: [u8; 30] = [
-    0x01, 0x00, 0x10, 0x00, 0x05, 0x0B, 0x11, 0x00, 0x05, 0x0B, 0x12, 0x00, 0x00, 0x13, 0x00, 0x02, 0x00, 0x01, 0x20, 0x00,
-    0x00, 0x00, 0x30, 0x00, 0x00, 0x02, 0x31, 0x00, 0x00, 0x03,
+    0x01, 0x00, 0x10, 0x00, 0x05, 0x0B, 0x11, 0x00, 0x05, 0x0B, 0x12, 0x00, 0x00, 0x13, 0x00, 0x02, 0x00, 0x01, 0x20,
+    0x00, 0x00, 0x00, 0x30, 0x00, 0x00, 0x02, 0x31, 0x00, 0x00, 0x03,
 ];
 
 /// Certificates up to depth 8, each the parent of the next.
@@ -17,6 +18,24 @@ const FAMILIES: &[u8] = include_bytes!("../../../crates/cases/data/s_idevid_and_
 
 /// A board with four IAKs enrolled; the desk, party 2, has eleven numbers more, two of which others know too.
 const LINE: &[u8] = include_bytes!("../../../crates/cases/data/s_stock_of_a_line");
+
+/// Parties 0 and 4 are devices, 1, 2, 3 and 5 are not. Registers 0 and 23 start at terms 11 and 12; the commands of
+/// party 0 extend its register 0 to terms 15 and 17, and quote it.
+const QUOTED: &[u8] = include_bytes!("../../../crates/cases/data/s_extend_twice_and_quote");
+
+/// Files that do not load, by 3 to 12.
+const REFUSED: [&[u8]; 10] = [
+    include_bytes!("../../../crates/cases/data/f03_kind_46_after_a_record_of_each_kind"),
+    include_bytes!("../../../crates/cases/data/f04_44_cut_short"),
+    include_bytes!("../../../crates/cases/data/f05_1B_after_set_up"),
+    include_bytes!("../../../crates/cases/data/f06_ninth_party"),
+    include_bytes!("../../../crates/cases/data/f07_44_register_24"),
+    include_bytes!("../../../crates/cases/data/f08_45_result_signature_over_attest"),
+    include_bytes!("../../../crates/cases/data/f09_1B_twice"),
+    include_bytes!("../../../crates/cases/data/f10_20_of_a_1B"),
+    include_bytes!("../../../crates/cases/data/f11_lower_party_second"),
+    include_bytes!("../../../crates/cases/data/f12_device"),
+];
 
 #[test]
 fn the_example_loads() {
@@ -40,7 +59,8 @@ fn refusals_leave_what_they_say() {
     assert_eq!(load(&EXAMPLE[..29], &mut state), LoadAnswer::Refused(Refusal { number: 4, place: 26 }));
     assert!(state[..STATE_BYTES].iter().all(|&b| b == 0));
     assert_eq!(state[STATE_BYTES], 7);
-    assert_eq!(run(&EXAMPLE, 1, &mut state, &mut [], &mut []), RunAnswer::Refused(Refusal { number: 1, place: 0 }));
+    let short = run(&EXAMPLE, 1, &mut state, &mut [], &mut [], &mut []);
+    assert_eq!(short, RunAnswer::Refused(Refusal { number: 1, place: 0 }));
     assert_eq!(state[STATE_BYTES], 7);
 }
 
@@ -79,18 +99,19 @@ fn a_chain_of_certificates() {
 
     // The engine's own path is the same, and leaves the places beyond it.
     let mut state = vec![0; STATE_BYTES];
-    let mut entries = vec![Entry::default(); 1_024];
-    let mut outcomes = vec![0; 8_192];
+    let mut entries = vec![Entry::default(); LEDGER_ENTRIES];
+    let mut outcomes = vec![0; OUTCOME_BYTES];
+    let mut registers = vec![0; REGISTER_BYTES];
     let mut list = [9_999; 11];
     assert_eq!(
-        path(CHAIN, usize::MAX, &mut state, &mut entries, &mut outcomes, last, &mut list),
+        path(CHAIN, usize::MAX, &mut state, &mut entries, &mut outcomes, &mut registers, last, &mut list),
         PathAnswer::Steps(8)
     );
     assert_eq!(list[..9], steps[..]);
     assert_eq!(list[9..], [9_999; 2]);
     assert_eq!(entries[..8], ledger[..]);
     assert_eq!(
-        path(CHAIN, 5, &mut state, &mut entries, &mut outcomes, last, &mut list),
+        path(CHAIN, 5, &mut state, &mut entries, &mut outcomes, &mut registers, last, &mut list),
         PathAnswer::Refused(Refusal { number: 30, place: last as u32 })
     );
 }
@@ -121,26 +142,132 @@ fn boards_left_in_the_stock_of_numbers() {
     assert_eq!(buffers.outcomes().iter().filter(|&&o| o != 0).count(), 0);
     let mut ran = Buffers::new();
     ran.run_all(LINE);
-    assert!(buffers.state() == ran.state() && buffers.ledger().eq(ran.ledger()) && buffers.outcomes() == ran.outcomes());
+    assert!(buffers.state() == ran.state() && buffers.registers() == ran.registers());
+    assert!(buffers.ledger().eq(ran.ledger()) && buffers.outcomes() == ran.outcomes());
 
     // 39 leaves the same, Run's refusals what they leave, and nothing beyond the first parts is touched.
     let refused = |number, place| StockAnswer::Refused(Refusal { number, place });
     let other = Entry { certificate: 9, parent: 9, depth: 9 };
     for (party, iaks) in [(2, 0), (0, 4), (3, 4), (6, 4), (255, 0)] {
-        let (mut state, mut ledger, mut outcomes) = (vec![7; STATE_BYTES + 1], vec![other; 1_025], vec![7; 8_193]);
-        assert_eq!(stock(LINE, &mut state, &mut ledger, &mut outcomes, party, iaks), refused(39, 0));
-        assert_eq!(state[..STATE_BYTES], *ran.state());
-        assert!(ledger[..4].iter().copied().eq(ran.ledger()) && ledger[4..1_024].iter().all(|&e| e == Entry::default()));
-        assert_eq!(outcomes[..ran.outcomes().len()], *ran.outcomes());
-        assert_eq!((state[STATE_BYTES], ledger[1_024], outcomes[8_192]), (7, other, 7));
-        assert_eq!(stock(&LINE[..LINE.len() - 1], &mut state, &mut ledger, &mut outcomes, party, iaks), refused(4, LINE.len() as u32 - 5));
-        assert!(state[..STATE_BYTES].iter().all(|&b| b == 0) && ledger[..1_024].iter().all(|&e| e == Entry::default()));
-        assert_eq!(stock(LINE, &mut state[1..STATE_BYTES], &mut ledger, &mut outcomes, party, iaks), refused(1, 0));
+        let (mut state, mut ledger) = (vec![7; STATE_BYTES + 1], vec![other; LEDGER_ENTRIES + 1]);
+        let (mut outcomes, mut registers) = (vec![7; OUTCOME_BYTES + 1], vec![7; REGISTER_BYTES + 1]);
+        let (s, l, o, r) = (&mut state, &mut ledger, &mut outcomes, &mut registers);
+        assert_eq!(stock(LINE, s, l, o, r, party, iaks), refused(39, 0));
+        assert_eq!(s[..STATE_BYTES], *ran.state());
+        assert!(l[..4].iter().copied().eq(ran.ledger()));
+        assert!(l[4..LEDGER_ENTRIES].iter().all(|&e| e == Entry::default()));
+        assert_eq!(o[..ran.outcomes().len()], *ran.outcomes());
+        assert_eq!(r[..REGISTER_BYTES], *ran.registers());
+        assert_eq!((s[STATE_BYTES], l[LEDGER_ENTRIES], o[OUTCOME_BYTES], r[REGISTER_BYTES]), (7, other, 7, 7));
+        let cut = &LINE[..LINE.len() - 1];
+        assert_eq!(stock(cut, s, l, o, r, party, iaks), refused(4, LINE.len() as u32 - 5));
+        assert!(s[..STATE_BYTES].iter().chain(&r[..REGISTER_BYTES]).all(|&b| b == 0));
+        assert!(l[..LEDGER_ENTRIES].iter().all(|&e| e == Entry::default()));
+        assert_eq!(stock(LINE, &mut s[1..STATE_BYTES], l, o, r, party, iaks), refused(1, 0));
         assert_eq!(buffers.stock(LINE, party, iaks), refused(39, 0));
         assert_eq!(buffers.ledger().count(), 4);
     }
     assert_eq!(buffers.stock(&[0; 32_769], 2, 4), refused(2, 0));
     assert_eq!(buffers.ledger().count(), 0);
+}
+
+/// What the registers show, party by party; of all others nothing.
+fn shown(buffers: &Buffers) -> Vec<(u8, u8, u16)> {
+    let all = (0..=u8::MAX).flat_map(|party| (0..=u8::MAX).map(move |register| (party, register)));
+    all.filter_map(|(party, register)| Some((party, register, buffers.register(party, register)?))).collect()
+}
+
+#[test]
+fn the_registers_of_a_run() {
+    let mut buffers = Buffers::new();
+    assert_eq!(shown(&buffers), []);
+    // No command, the first extend, the second, the quote, all.
+    for (n, first) in [(0, 11), (1, 15), (2, 17), (3, 17), (usize::MAX, 17)] {
+        buffers.run(QUOTED, n);
+        assert_eq!(shown(&buffers), [(0, 0, first), (0, 23, 12), (4, 0, 11), (4, 23, 12)], "{n}");
+        let mut bytes = [0xFF; REGISTER_BYTES];
+        for (place, term) in [(0, first), (46, 12), (192, 11), (238, 12)] {
+            bytes[place..place + 2].copy_from_slice(&[0, term as u8]);
+        }
+        assert_eq!(buffers.registers(), bytes, "{n}");
+    }
+    // The registers of a device with no starting value, and of parties that are not there.
+    for (file, n) in [(&EXAMPLE[..], 0), (&EXAMPLE, 2), (&[], 0)] {
+        buffers.run(file, n);
+        assert_eq!(buffers.registers(), [0xFF; REGISTER_BYTES]);
+        assert_eq!(shown(&buffers), []);
+    }
+    assert_eq!(REGISTER_BYTES, 8 * 2 * REGISTERS);
+    assert_eq!(EMPTY_REGISTER, u16::from_be_bytes([0xFF; 2]));
+    // Stock runs all commands, at 39 too; a file that does not load leaves nothing to be read.
+    for iaks in [1, 0] {
+        buffers.stock(QUOTED, 2, iaks);
+        assert_eq!((buffers.register(0, 0), buffers.register(4, 0)), (Some(17), Some(11)));
+    }
+    buffers.run_all(&QUOTED[1..]);
+    assert!(shown(&buffers).is_empty() && buffers.registers().iter().all(|&b| b == 0));
+    buffers.run_all(QUOTED);
+    buffers.stock(&[0; 32_769], 2, 1);
+    assert!(shown(&buffers).is_empty());
+}
+
+/// Each call with a register buffer of some length; the state says whether the others were touched.
+fn lent(file: &[u8], length: usize) -> [(u32, Vec<u8>, Vec<u8>); 3] {
+    let number = |refusal: Refusal| refusal.number;
+    [0, 1, 2].map(|call| {
+        let (mut state, mut ledger) = (vec![7; STATE_BYTES], vec![Entry::default(); LEDGER_ENTRIES]);
+        let (mut outcomes, mut registers, mut list) = (vec![7; OUTCOME_BYTES], vec![7; length], [7; 9]);
+        let (s, l, o, r) = (&mut state, &mut ledger, &mut outcomes, &mut registers);
+        let answer = match call {
+            0 => match run(file, usize::MAX, s, l, o, r) {
+                RunAnswer::Ran { .. } => 0,
+                RunAnswer::Refused(refusal) => number(refusal),
+            },
+            1 => match path(file, usize::MAX, s, l, o, r, 0, &mut list) {
+                PathAnswer::Steps(_) => 0,
+                PathAnswer::Refused(refusal) => number(refusal),
+            },
+            _ => match stock(file, s, l, o, r, 2, 1) {
+                StockAnswer::Boards { .. } => 0,
+                StockAnswer::Refused(refusal) => number(refusal),
+            },
+        };
+        assert_eq!(list, [7; 9]);
+        (answer, state, registers)
+    })
+}
+
+#[test]
+fn the_lent_registers() {
+    // Enough, more, too few.
+    let mut ran = Buffers::new();
+    ran.run_all(QUOTED);
+    for length in [REGISTER_BYTES, REGISTER_BYTES + 1, REGISTER_BYTES + 48] {
+        for ((number, state, registers), expected) in lent(QUOTED, length).into_iter().zip([0, 30, 0]) {
+            assert_eq!((number, &state[..]), (expected, ran.state()));
+            assert_eq!(registers[..REGISTER_BYTES], *ran.registers());
+            assert!(registers[REGISTER_BYTES..].iter().all(|&b| b == 7));
+        }
+    }
+    for length in [0, 1, 48, REGISTER_BYTES - 1] {
+        for file in [QUOTED, &[0; 32_769], REFUSED[0]] {
+            for (number, state, registers) in lent(file, length) {
+                assert_eq!(number, 1);
+                assert!(state.iter().chain(&registers).all(|&b| b == 7));
+            }
+        }
+    }
+    for (number, state, registers) in lent(&[0; 32_769], REGISTER_BYTES + 1) {
+        assert_eq!(number, 2);
+        assert!(state.iter().chain(&registers).all(|&b| b == 7));
+    }
+    for (file, expected) in REFUSED.into_iter().zip(3..) {
+        for (number, state, registers) in lent(file, REGISTER_BYTES + 1) {
+            assert_eq!(number, expected);
+            assert!(state.iter().chain(&registers[..REGISTER_BYTES]).all(|&b| b == 0), "{expected}");
+            assert_eq!(registers[REGISTER_BYTES], 7);
+        }
+    }
 }
 
 #[test]

@@ -6,7 +6,7 @@
 use mathlib.Core.Path.{_≡_, refl, sym, ap, subst, _∙_}
 use mathlib.Core.Bool.{Bool, true, false, cond}
 use mathlib.Core.List.{List, [], _∷_}
-use Prim.Native.Nat.{ℕ, _<_, _≤_}
+use Prim.Native.Nat.{ℕ, zero, suc, _+_, _/_, _%_, _<_, _≤_}
 use native.Mathlib.Omega.{arith}
 use native.Mathlib.Decide.{decLt}
 use lib.Dec.{eqb}
@@ -19,9 +19,12 @@ use Rattle.rules.specs.declared.AskAnswer.{AskAnswer}
 use Rattle.rules.specs.declared.AskAnswer.the-variants as told
 use Rattle.rules.specs.Limits.{commandLimit, stateBytes}
 use Rattle.rules.specs.Run.{reached}
-use Rattle.rules.specs.Lent.{Answer, success, refusal, Lent, runAnswer, runLeaves}
-use Rattle.rules.specs.Stock.{boardsLeft, stockAnswer}
+use Rattle.rules.specs.File.{File}
+use Rattle.rules.specs.State.{State}
+use Rattle.rules.specs.Lent.{Answer, success, refusal, Lent, Called, runAnswer, runLeaves}
+use Rattle.rules.specs.Stock.{inStock, stockAmong, stock, boardsLeft, stockAnswer}
 use Rattle.rules.specs.Questions.{askInNumbers, countOf, answerOf, leavesOf}
+use Rattle.theorems.proofs.Beside.{beside}
 use Rattle.theorems.proofs.Asking.{refused-first, asked-loaded, left-as-run}
 use Rattle.loaded.specs.Loaded.{fileIn}
 use Rattle.engine.specs.Runs.{lentWith}
@@ -45,9 +48,9 @@ ran-numbers r z = rw (eq-eqb (r .begun .number) 0 z) refl
 pub refused-numbers : (r : Finished) → (r .begun .number ≡ 0 → ⊥) → ranIn r ≡ refusal (r .begun .number) (r .begun .place)
 refused-numbers r z = rw (ne-eqb (r .begun .number) 0 z) refl
 
-module _ (bs : List ℕ) (n : ℕ) (s : List ℕ) (l : List Entry) (out s′ : List ℕ) {l′ : List Entry} {out′ tables : List ℕ} {r : Finished} (w : Runs bs n (length l) s l out s′ l′ out′ tables r) (ls : length s′ ≡ length s) where
-  abbrev stood : r .begun .number ≡ 0 → Stood bs n (lentWith s l out) s′ l′ tables r
-  stood z = run-stood bs n s l out s′ w z ls
+module _ (bs : List ℕ) (n : ℕ) (s : List ℕ) (l : List Entry) (out g s′ : List ℕ) {l′ : List Entry} {out′ g′ tables : List ℕ} {r : Finished} (w : Runs bs n (length l) s l out g s′ l′ out′ g′ tables r) (ls : length s′ ≡ length s) where
+  abbrev stood : r .begun .number ≡ 0 → Stood bs n (lentWith s l out g) (lentWith s′ l′ out′ g′) tables r
+  stood z = run-stood bs n s l out g s′ w z ls
 
   -- what a run leaves can be asked
   pub askable : Askable r bs s′
@@ -55,8 +58,19 @@ module _ (bs : List ℕ) (n : ℕ) (s : List ℕ) (l : List Entry) (out s′ : L
     room = λ z. stood z .room;
     standing = λ z. record { holds = stood z .stands .holds; partiesAre = stood z .partiesAre; termsAre = stood z .termsAre };
     few = λ z. (omega (arith, stood z .few), (omega (arith, stood z .few), omega (arith, stood z .stands .enters .few)));
-    near = near-place bs n (length l) s l out s′ w;
+    near = near-place bs n (length l) s l out g s′ w;
   }
+
+-- the stock is the same beside any registers
+module _ (f : File) (registers : ℕ → ℕ → ℕ) (x : State) where
+  stock-beside : (desk n : ℕ) → stockAmong f x desk n ≡ stockAmong f (beside registers x) desk n
+  unfolding stockAmong inStock
+  stock-beside desk zero = refl
+  stock-beside desk (suc t) = ap (λ (k : ℕ). k + cond (inStock f x desk t) 1 0) (stock-beside desk t)
+
+  boards-beside : (party iaks : ℕ) → boardsLeft party iaks f x ≡ boardsLeft party iaks f (beside registers x)
+  unfolding boardsLeft stock
+  boards-beside party iaks = rw (stock-beside party (length (f .terms))) refl
 
 module _ (bs : List ℕ) (lent : Lent) where
   -- the run's refusal is the answer
@@ -66,30 +80,29 @@ module _ (bs : List ℕ) (lent : Lent) where
   refused-by (Stock party iaks) number place q = sym (refused-first (boardsLeft party iaks) bs commandLimit lent number place (sym q))
 
   -- what is told of what the run left is the answer
-  ran-by : (question : Question) (s : List ℕ) {l : List Entry} {tables : List ℕ} {r : Finished} (x : AskAnswer) → r .begun .number ≡ 0 → ranIn r ≡ runAnswer bs (countOf question) lent
-      → Stood bs (countOf question) lent s l tables r → Answers r question bs s x → askInNumbers x ≡ answerOf question bs lent
+  ran-by : (question : Question) {after : Lent} {tables : List ℕ} {r : Finished} (x : AskAnswer) → r .begun .number ≡ 0 → ranIn r ≡ runAnswer bs (countOf question) lent
+      → Stood bs (countOf question) lent after tables r → Answers r question bs (after .state) x → askInNumbers x ≡ answerOf question bs lent
   unfolding countOf answerOf stockAnswer
-  ran-by (Totals n) s {l} {tables} {r} x z q left h = h .told z [] ∙ sym (ran-numbers r z) ∙ q
-  ran-by (Stock party iaks) s {l} {tables} {r} x z q left h =
+  ran-by (Totals n) {after} {tables} {r} x z q left h = h .told z [] ∙ sym (ran-numbers r z) ∙ q
+  ran-by (Stock party iaks) {after} {tables} {r} x z q left h =
       h .told z (reached (fileIn bs) commandLimit .ledger)
+      ∙ boards-beside (fileIn bs) _ _ party iaks
       ∙ ap (boardsLeft party iaks (fileIn bs)) (left .state)
       ∙ sym (asked-loaded (boardsLeft party iaks) commandLimit bs lent (left .enough) (fileIn bs) (left .stands .holds .loads))
 
--- the whole: answer, state, ledger and outcomes
-abbrev pub AskRan : List ℕ → Question → Lent → List ℕ → List Entry → List ℕ → AskAnswer → Type 0
-AskRan bs question lent s l out x = (askInNumbers x ≡ answerOf question bs lent) × (s ≡ leavesOf question bs lent .state) × (l ≡ leavesOf question bs lent .ledger) × (out ≡ leavesOf question bs lent .outcomes)
+-- the whole: the answer and the buffers
+abbrev pub AskRan : List ℕ → Question → Lent → Lent → AskAnswer → Type 0
+AskRan bs question lent after x = Called (answerOf question bs) (leavesOf question bs) lent after (askInNumbers x)
 
-module _ (bs : List ℕ) (question : Question) (s : List ℕ) (l : List Entry) (out s′ : List ℕ) {l′ : List Entry} {out′ tables : List ℕ} {r : Finished} where
-  asked-of : Runs bs (countOf question) (length l) s l out s′ l′ out′ tables r → length s′ ≡ length s → (x : AskAnswer) → Answers r question bs s′ x → AskRan bs question (lentWith s l out) s′ l′ out′ x
+module _ (bs : List ℕ) (question : Question) (s : List ℕ) (l : List Entry) (out g s′ : List ℕ) {l′ : List Entry} {out′ g′ tables : List ℕ} {r : Finished} where
+  asked-of : Runs bs (countOf question) (length l) s l out g s′ l′ out′ g′ tables r → length s′ ≡ length s → (x : AskAnswer) → Answers r question bs s′ x → AskRan bs question (lentWith s l out g) (lentWith s′ l′ out′ g′) x
   asked-of w ls x h =
-      let lent = lentWith s l out in
-      let run = run-left bs (countOf question) s l out s′ w in
-      let left′ : runLeaves bs (countOf question) lent ≡ leavesOf question bs lent = sym (left-as-run question bs lent) in
-      (go (decLt 0 (r .begun .number)) (run .answer), run .state ∙ ap (λ (y : Lent). y .state) left′, run .ledger ∙ ap (λ (y : Lent). y .ledger) left′, run .outcomes ∙ ap (λ (y : Lent). y .outcomes) left′)
+      let run = run-left bs (countOf question) s l out g s′ w in
+      (go (decLt 0 (r .begun .number)) (run .answer), run .buffers ∙ sym (left-as-run question bs (lentWith s l out g)))
     where
-      go : Dec (0 < r .begun .number) → ranIn r ≡ runAnswer bs (countOf question) (lentWith s l out) → askInNumbers x ≡ answerOf question bs (lentWith s l out)
-      go (no g) q = let z : r .begun .number ≡ 0 = omega (arith, g) in ran-by bs (lentWith s l out) question s′ x z q (run-stood bs (countOf question) s l out s′ w z ls) h
-      go (yes g) q = let z : r .begun .number ≡ 0 → ⊥ = λ e. omega (arith, g, e) in h .refused z ∙ refused-by bs (lentWith s l out) question (r .begun .number) (r .begun .place) (sym (refused-numbers r z) ∙ q)
+      go : Dec (0 < r .begun .number) → ranIn r ≡ runAnswer bs (countOf question) (lentWith s l out g) → askInNumbers x ≡ answerOf question bs (lentWith s l out g)
+      go (no k) q = let z : r .begun .number ≡ 0 = omega (arith, k) in ran-by bs (lentWith s l out g) question x z q (run-stood bs (countOf question) s l out g s′ w z ls) h
+      go (yes k) q = let z : r .begun .number ≡ 0 → ⊥ = λ e. omega (arith, k, e) in h .refused z ∙ refused-by bs (lentWith s l out g) question (r .begun .number) (r .begun .place) (sym (refused-numbers r z) ∙ q)
 
-  pub ask-ran : {n : ℕ} → n ≡ countOf question → Runs bs n (length l) s l out s′ l′ out′ tables r → length s′ ≡ length s → (x : AskAnswer) → Answers r question bs s′ x → AskRan bs question (lentWith s l out) s′ l′ out′ x
-  ask-ran e w ls x h = asked-of (subst (λ (m : ℕ). Runs bs m (length l) s l out s′ l′ out′ tables r) e w) ls x h
+  pub ask-ran : {n : ℕ} → n ≡ countOf question → Runs bs n (length l) s l out g s′ l′ out′ g′ tables r → length s′ ≡ length s → (x : AskAnswer) → Answers r question bs s′ x → AskRan bs question (lentWith s l out g) (lentWith s′ l′ out′ g′) x
+  ask-ran e w ls x h = asked-of (subst (λ (m : ℕ). Runs bs m (length l) s l out g s′ l′ out′ g′ tables r) e w) ls x h

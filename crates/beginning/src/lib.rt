@@ -1,22 +1,52 @@
 // The covered part of a run before the loop over commands: on plain slices and numbers.
 use turns::Begun;
 ghost use mathlib.Core.Path.{_≡_};
+ghost use lib.ListN.{length};
+ghost use Rattle.rules.specs.Limits.{registerBytes};
 ghost use Rattle.tables.specs.Regions.{EmptyTables};
-ghost use Rattle.beginning.specs.Begins.{roomy, PartsReady, PartsBegin, Begins, stops};
+ghost use Rattle.beginning.specs.Begins.{roomy, StartReady, Registered, PartsReady, PartsBegin, Begins, stops};
 
-// Loads a file into the first parts of state and outcomes.
+// What registers hold before the first command, where loading found so many parties and terms, or a refusal.
+fn begin_registers(
+    file: &[u8],
+    registers: &mut [u8],
+    tables: &[u16; tables::WORDS],
+    number: u8,
+    parties: usize,
+    terms: usize,
+)
+    requires { ⌜ (length (now registers) ≡ registerBytes) × (number ≡ 0 → StartReady (now file) (now tables) parties terms) ⌝ }
+    ensures { λ _. ⌜ Registered (now (file .entry)) number (now (registers .exit)) ⌝ }
+{
+    if number != 0 {
+        state::clear(registers);
+        return;
+    }
+    registers::fill(file, registers, tables, parties, terms);
+}
+
+// Loads a file into the first parts of state, outcomes and registers.
 fn begin_parts(
     file: &[u8],
     state: &mut [u8],
     outcomes: &mut [u8],
+    registers: &mut [u8],
     tables: &mut [u16; tables::WORDS],
 ) -> Begun
-    requires { ⌜ PartsReady (now file) (now state) (now outcomes) (now tables) ⌝ }
-    ensures { λ r. ⌜ PartsBegin (now (file .entry)) (now (state .exit)) (now (outcomes .exit)) (now (tables .exit)) r ⌝ }
+    requires { ⌜ PartsReady (now file) (now state) (now outcomes) (now registers) (now tables) ⌝ }
+    ensures { λ r. ⌜ PartsBegin (now (file .entry)) (now (state .exit)) (now (outcomes .exit)) (now (registers .exit)) (now (tables .exit)) r ⌝ }
 {
     state::clear(outcomes);
     let found = loader::fill(file, state, tables);
     let tally = found.tally;
+    begin_registers(
+        file,
+        registers,
+        tables,
+        found.number,
+        tally.parties,
+        tally.terms,
+    );
     Begun {
         number: found.number as u32,
         place: found.place,
@@ -27,9 +57,9 @@ fn begin_parts(
     }
 }
 
-// Whether state, ledger and outcomes of these lengths are long enough.
-fn enough(state: usize, room: usize, outcomes: usize) -> bool
-    ensures { λ r. ⌜ r ≡ roomy state room outcomes ⌝ }
+// Whether state, ledger, outcomes and registers of these lengths are long enough.
+fn enough(state: usize, room: usize, outcomes: usize, registers: usize) -> bool
+    ensures { λ r. ⌜ r ≡ roomy state room outcomes registers ⌝ }
 {
     if state < rules::STATE_BYTES {
         return false;
@@ -37,7 +67,10 @@ fn enough(state: usize, room: usize, outcomes: usize) -> bool
     if room < rules::TERM_LIMIT {
         return false;
     }
-    rules::COMMAND_LIMIT <= outcomes
+    if outcomes < rules::COMMAND_LIMIT {
+        return false;
+    }
+    rules::REGISTER_BYTES <= registers
 }
 
 // A refusal that leaves all untouched.
@@ -60,12 +93,13 @@ pub fn begin(
     room: usize,
     state: &mut [u8],
     outcomes: &mut [u8],
+    registers: &mut [u8],
     tables: &mut [u16; tables::WORDS],
 ) -> Begun
     requires { ⌜ EmptyTables (now tables) ⌝ }
-    ensures { λ r. ⌜ Begins (now (file .entry)) room (now (state .entry)) (now (outcomes .entry)) (now (state .exit)) (now (outcomes .exit)) (now (tables .exit)) r ⌝ }
+    ensures { λ r. ⌜ Begins (now (file .entry)) room (now (state .entry)) (now (outcomes .entry)) (now (registers .entry)) (now (state .exit)) (now (outcomes .exit)) (now (registers .exit)) (now (tables .exit)) r ⌝ }
 {
-    if !enough(state.len(), room, outcomes.len()) {
+    if !enough(state.len(), room, outcomes.len(), registers.len()) {
         return stopped(1);
     }
     if rules::FILE_LIMIT < file.len() {
@@ -75,6 +109,7 @@ pub fn begin(
         file,
         &mut state[..rules::STATE_BYTES],
         &mut outcomes[..rules::COMMAND_LIMIT],
+        &mut registers[..rules::REGISTER_BYTES],
         tables,
     )
 }

@@ -6,7 +6,7 @@ use rules::PathAnswer;
 use rules::Question;
 ghost use mathlib.Core.Path.{_≡_};
 ghost use lib.ListN.{getD};
-ghost use Rattle.rules.specs.Lent.{noEntry, loadAnswer, loadLeaves, runAnswer, runLeaves, pathInNumbers, pathAnswer, pathBuffers, pathLeaves};
+ghost use Rattle.rules.specs.Lent.{noEntry, Called, loadAnswer, loadLeaves, runAnswer, runLeaves, pathInNumbers, pathAnswer, pathBuffers, pathLeaves};
 ghost use Rattle.rules.specs.Stock.{stockAnswer, stockLeaves};
 ghost use Rattle.rules.specs.Questions.{askInNumbers};
 ghost use Rattle.engine.specs.Runs.{lentWith};
@@ -161,13 +161,20 @@ pub extern "C" fn birdweekly_run(
     state: &mut [u8],
     ledger: &mut [Entry],
     outcomes: &mut [u8],
+    registers: &mut [u8],
 ) -> RunNumbers
-    ensures { λ r. ⌜ (r ≡ runNumbers (runAnswer (now (file .entry)) n (lentWith (now (state .entry)) (now (ledger .entry)) (now (outcomes .entry)))))
-        × (now (state .exit) ≡ runLeaves (now (file .entry)) n (lentWith (now (state .entry)) (now (ledger .entry)) (now (outcomes .entry))) .state)
-        × (now (ledger .exit) ≡ runLeaves (now (file .entry)) n (lentWith (now (state .entry)) (now (ledger .entry)) (now (outcomes .entry))) .ledger)
-        × (now (outcomes .exit) ≡ runLeaves (now (file .entry)) n (lentWith (now (state .entry)) (now (ledger .entry)) (now (outcomes .entry))) .outcomes) ⌝ }
+    ensures { λ r. ⌜ Called (λ lent. runNumbers (runAnswer (now (file .entry)) n lent)) (runLeaves (now (file .entry)) n)
+        (lentWith (now (state .entry)) (now (ledger .entry)) (now (outcomes .entry)) (now (registers .entry)))
+        (lentWith (now (state .exit)) (now (ledger .exit)) (now (outcomes .exit)) (now (registers .exit))) r ⌝ }
 {
-    let answer = calls::ask(file, Question::Totals(n), state, ledger, outcomes);
+    let answer = calls::ask(
+        file,
+        Question::Totals(n),
+        state,
+        ledger,
+        outcomes,
+        registers,
+    );
     run_numbers(answer)
 }
 
@@ -179,15 +186,22 @@ pub extern "C" fn birdweekly_stock(
     state: &mut [u8],
     ledger: &mut [Entry],
     outcomes: &mut [u8],
+    registers: &mut [u8],
     party: u8,
     iaks: u32,
 ) -> StockNumbers
-    ensures { λ r. ⌜ (r ≡ stockNumbers (stockAnswer (now (file .entry)) (lentWith (now (state .entry)) (now (ledger .entry)) (now (outcomes .entry))) party iaks))
-        × (now (state .exit) ≡ stockLeaves (now (file .entry)) (lentWith (now (state .entry)) (now (ledger .entry)) (now (outcomes .entry))) party iaks .state)
-        × (now (ledger .exit) ≡ stockLeaves (now (file .entry)) (lentWith (now (state .entry)) (now (ledger .entry)) (now (outcomes .entry))) party iaks .ledger)
-        × (now (outcomes .exit) ≡ stockLeaves (now (file .entry)) (lentWith (now (state .entry)) (now (ledger .entry)) (now (outcomes .entry))) party iaks .outcomes) ⌝ }
+    ensures { λ r. ⌜ Called (λ lent. stockNumbers (stockAnswer (now (file .entry)) lent party iaks)) (λ lent. stockLeaves (now (file .entry)) lent party iaks)
+        (lentWith (now (state .entry)) (now (ledger .entry)) (now (outcomes .entry)) (now (registers .entry)))
+        (lentWith (now (state .exit)) (now (ledger .exit)) (now (outcomes .exit)) (now (registers .exit))) r ⌝ }
 {
-    let answer = calls::ask(file, Question::Stock(party, iaks), state, ledger, outcomes);
+    let answer = calls::ask(
+        file,
+        Question::Stock(party, iaks),
+        state,
+        ledger,
+        outcomes,
+        registers,
+    );
     stock_numbers(answer)
 }
 
@@ -199,16 +213,16 @@ pub extern "C" fn birdweekly_path(
     state: &mut [u8],
     ledger: &mut [Entry],
     outcomes: &mut [u8],
+    registers: &mut [u8],
     term: u16,
     list: &mut [u16],
 ) -> PathNumbers
-    ensures { λ r. ⌜ (r ≡ pathNumbers (pathAnswer (now (file .entry)) n (lentWith (now (state .entry)) (now (ledger .entry)) (now (outcomes .entry))) term (now (list .entry))))
-        × (now (state .exit) ≡ pathBuffers (now (file .entry)) n (lentWith (now (state .entry)) (now (ledger .entry)) (now (outcomes .entry))) term (now (list .entry)) .state)
-        × (now (ledger .exit) ≡ pathBuffers (now (file .entry)) n (lentWith (now (state .entry)) (now (ledger .entry)) (now (outcomes .entry))) term (now (list .entry)) .ledger)
-        × (now (outcomes .exit) ≡ pathBuffers (now (file .entry)) n (lentWith (now (state .entry)) (now (ledger .entry)) (now (outcomes .entry))) term (now (list .entry)) .outcomes)
-        × (now (list .exit) ≡ pathLeaves (now (file .entry)) n (lentWith (now (state .entry)) (now (ledger .entry)) (now (outcomes .entry))) term (now (list .entry))) ⌝ }
+    ensures { λ r. ⌜ Called (λ lent. pathNumbers (pathAnswer (now (file .entry)) n lent term (now (list .entry)))) (λ lent. pathBuffers (now (file .entry)) n lent term (now (list .entry)))
+        (lentWith (now (state .entry)) (now (ledger .entry)) (now (outcomes .entry)) (now (registers .entry)))
+        (lentWith (now (state .exit)) (now (ledger .exit)) (now (outcomes .exit)) (now (registers .exit))) r
+        × (now (list .exit) ≡ pathLeaves (now (file .entry)) n (lentWith (now (state .entry)) (now (ledger .entry)) (now (outcomes .entry)) (now (registers .entry))) term (now (list .entry))) ⌝ }
 {
-    let answer = calls::path(file, n, state, ledger, outcomes, term, list);
+    let answer = calls::path(file, n, state, ledger, outcomes, registers, term, list);
     path_numbers(answer)
 }
 

@@ -7,7 +7,7 @@ use rules::Question;
 ghost use mathlib.Core.Path.{_≡_};
 ghost use lib.ListN.{getD};
 ghost use lib.Seq.{sets};
-ghost use Rattle.rules.specs.Lent.{noEntry, pathInNumbers, pathAnswer, pathBuffers, pathLeaves};
+ghost use Rattle.rules.specs.Lent.{noEntry, Called, pathInNumbers, pathAnswer, pathBuffers, pathLeaves};
 ghost use Rattle.rules.specs.Questions.{askInNumbers, answerOf, leavesOf};
 ghost use Rattle.engine.specs.Runs.{lentWith};
 ghost use Rattle.path.specs.Climbing.{ClimbReady, climbed};
@@ -33,16 +33,25 @@ pub fn ask(
     state: &mut [u8],
     ledger: &mut [Entry],
     outcomes: &mut [u8],
+    registers: &mut [u8],
 ) -> AskAnswer
-    ensures { λ r. ⌜ (askInNumbers r ≡ answerOf question (now (file .entry)) (lentWith (now (state .entry)) (now (ledger .entry)) (now (outcomes .entry))))
-        × (now (state .exit) ≡ leavesOf question (now (file .entry)) (lentWith (now (state .entry)) (now (ledger .entry)) (now (outcomes .entry))) .state)
-        × (now (ledger .exit) ≡ leavesOf question (now (file .entry)) (lentWith (now (state .entry)) (now (ledger .entry)) (now (outcomes .entry))) .ledger)
-        × (now (outcomes .exit) ≡ leavesOf question (now (file .entry)) (lentWith (now (state .entry)) (now (ledger .entry)) (now (outcomes .entry))) .outcomes) ⌝ }
+    ensures { λ r. ⌜ Called (answerOf question (now (file .entry))) (leavesOf question (now (file .entry)))
+        (lentWith (now (state .entry)) (now (ledger .entry)) (now (outcomes .entry)) (now (registers .entry)))
+        (lentWith (now (state .exit)) (now (ledger .exit)) (now (outcomes .exit)) (now (registers .exit))) (askInNumbers r) ⌝ }
 {
     let room = ledger.len();
     let n = asking::count_of(question);
     let mut tables = [0u16; tables::WORDS];
-    let done = engine::run(file, n, room, state, ledger, outcomes, &mut tables);
+    let done = engine::run(
+        file,
+        n,
+        room,
+        state,
+        ledger,
+        outcomes,
+        registers,
+        &mut tables,
+    );
     asking::answer(done, question, file, state)
 }
 
@@ -53,20 +62,29 @@ pub fn path(
     state: &mut [u8],
     ledger: &mut [Entry],
     outcomes: &mut [u8],
+    registers: &mut [u8],
     term: u16,
     list: &mut [u16],
 ) -> PathAnswer
-    ensures { λ r. ⌜ (pathInNumbers r ≡ pathAnswer (now (file .entry)) n (lentWith (now (state .entry)) (now (ledger .entry)) (now (outcomes .entry))) term (now (list .entry)))
-        × (now (state .exit) ≡ pathBuffers (now (file .entry)) n (lentWith (now (state .entry)) (now (ledger .entry)) (now (outcomes .entry))) term (now (list .entry)) .state)
-        × (now (ledger .exit) ≡ pathBuffers (now (file .entry)) n (lentWith (now (state .entry)) (now (ledger .entry)) (now (outcomes .entry))) term (now (list .entry)) .ledger)
-        × (now (outcomes .exit) ≡ pathBuffers (now (file .entry)) n (lentWith (now (state .entry)) (now (ledger .entry)) (now (outcomes .entry))) term (now (list .entry)) .outcomes)
-        × (now (list .exit) ≡ pathLeaves (now (file .entry)) n (lentWith (now (state .entry)) (now (ledger .entry)) (now (outcomes .entry))) term (now (list .entry))) ⌝ }
+    ensures { λ r. ⌜ Called (λ lent. pathAnswer (now (file .entry)) n lent term (now (list .entry))) (λ lent. pathBuffers (now (file .entry)) n lent term (now (list .entry)))
+        (lentWith (now (state .entry)) (now (ledger .entry)) (now (outcomes .entry)) (now (registers .entry)))
+        (lentWith (now (state .exit)) (now (ledger .exit)) (now (outcomes .exit)) (now (registers .exit))) (pathInNumbers r)
+        × (now (list .exit) ≡ pathLeaves (now (file .entry)) n (lentWith (now (state .entry)) (now (ledger .entry)) (now (outcomes .entry)) (now (registers .entry))) term (now (list .entry))) ⌝ }
 {
     let places = list.len();
     let length = ledger.len();
     let room = path::room_for(places, length);
     let mut tables = [0u16; tables::WORDS];
-    let done = engine::run(file, n, room, state, ledger, outcomes, &mut tables);
+    let done = engine::run(
+        file,
+        n,
+        room,
+        state,
+        ledger,
+        outcomes,
+        registers,
+        &mut tables,
+    );
     let stage = path::first(done, &tables, term);
     climb(&tables, ledger, list, stage);
     path::answer(done, stage, term)

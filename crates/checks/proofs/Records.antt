@@ -1,9 +1,10 @@
--- The message of a signature among the terms that can be looked up.
+-- What a hash is of, and a signature over, among the terms that can be looked up.
 -- Assumes nothing.
-use mathlib.Core.Path.{_≡_, refl}
+use mathlib.Core.Path.{_≡_, refl, _∙_}
+use mathlib.Core.Logic.{_⊎_, inl, inr}
 use mathlib.Core.List.{[], _∷_, List·Memᴰ·head}
 use Prim.Native.Nat.{ℕ, _<_}
-use Rattle.rules.specs.Term.{signatureKind}
+use Rattle.rules.specs.Term.{hashKind, signatureKind}
 use Rattle.tables.specs.Regions.{Terms, fieldOf}
 use Rattle.learning.specs.Noted.{partsBy, partsNoted, TermsNoted}
 
@@ -11,5 +12,6 @@ signature-parts : (v : Terms) (t : ℕ) → v .kind t ≡ signatureKind → part
 unfolding partsNoted partsBy
 signature-parts v t e = rw e refl
 
-pub message-lower : {v : Terms} {n : ℕ} → TermsNoted v n → (t : ℕ) → t < n → v .kind t ≡ signatureKind → fieldOf v t 0 < t
-message-lower {v} h t l e = h .lower t _ l (rw (signature-parts v t e) (List·Memᴰ·head refl))
+pub content-lower : {v : Terms} {n k : ℕ} → TermsNoted v n → (t : ℕ) → t < n → v .kind t ≡ k → (k ≡ hashKind) ⊎ (k ≡ signatureKind) → fieldOf v t 0 < t
+content-lower h t l e (inl o) = h .hashed t l (e ∙ o)
+content-lower {v} h t l e (inr o) = h .lower t _ l (rw (signature-parts v t (e ∙ o)) (List·Memᴰ·head refl))

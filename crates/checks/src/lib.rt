@@ -7,8 +7,9 @@ ghost use mathlib.Core.Bool.{true};
 ghost use Prim.Native.Nat.{ℕ, _+_, _*_, _<_, _≤_};
 ghost use lib.Dec.{ltb};
 ghost use lib.ListN.{length, getD};
-ghost use Rattle.rules.specs.declared.Field.the-variants.{TermOf, SignedAttest, IakPairField};
+ghost use Rattle.rules.specs.declared.Field.the-variants.{TermOf, IakPairField};
 ghost use Rattle.rules.specs.Limits.{rowWidth};
+ghost use Rattle.rules.specs.Term.{hashKind, signatureKind};
 ghost use Rattle.rules.specs.Record.{bodyLength, width as widthOf, word};
 ghost use Rattle.rules.specs.Load.{refuseUnless, emptyPair};
 ghost use Rattle.records.specs.Codes.{fieldLimit, FieldRows};
@@ -16,7 +17,7 @@ ghost use Rattle.state.specs.View.{view};
 ghost use Rattle.tables.specs.Regions.{Terms, tablesIn};
 ghost use Rattle.learning.specs.There.{kindThere};
 ghost use Rattle.learning.specs.Noted.{TermsNoted};
-ghost use Rattle.checks.specs.There.{headFault, roleThere, fieldFaultNoted};
+ghost use Rattle.checks.specs.There.{headFault, roleThere, innerFaultNoted, fieldFaultNoted};
 ghost use Rattle.checks.specs.Plain.{Plain, Right};
 
 // 3 to 6 at a record, by its kind's section and the place where it ends: 0, or the refusal.
@@ -104,20 +105,29 @@ fn kind_fault(tables: &[u16; tables::WORDS], body: &[u8], i: usize, kind: u8, te
     }
 }
 
-// A signature over an attest in the body: 0, 7 or 8.
-fn attest_fault(tables: &[u16; tables::WORDS], body: &[u8], i: usize, terms: usize) -> u8
-    requires { ⌜ TermsNoted (tablesIn (now tables) .terms) terms × (i + 1 < length (now body)) ⌝ }
-    ensures { λ r. ⌜ r ≡ fieldFaultNoted (tablesIn (now (tables .entry)) .terms) 0 terms SignedAttest i (now (body .entry)) ⌝ }
+// A hash of a term of a kind in the body, or a signature over one: 0, 7 or 8.
+fn inner_fault(
+    tables: &[u16; tables::WORDS],
+    body: &[u8],
+    i: usize,
+    outer: u16,
+    inner: u16,
+    terms: usize,
+) -> u8
+    requires { ⌜ TermsNoted (tablesIn (now tables) .terms) terms
+        × (i + 1 < length (now body))
+        × ((outer ≡ hashKind) ⊎ (outer ≡ signatureKind)) ⌝ }
+    ensures { λ r. ⌜ r ≡ innerFaultNoted (tablesIn (now (tables .entry)) .terms) terms outer inner (word (now (body .entry)) i) ⌝ }
 {
     let t = records::word_at(body, i) as usize;
     if terms <= t {
         return 7;
     }
-    if tables::kind_of(tables, t) != 0x13 {
+    if tables::kind_of(tables, t) != outer {
         return 8;
     }
-    let message = tables::field_of(tables, t, 0) as usize;
-    if tables::kind_of(tables, message) == 0x14 {
+    let content = tables::field_of(tables, t, 0) as usize;
+    if tables::kind_of(tables, content) == inner {
         0
     } else {
         8
@@ -172,8 +182,11 @@ pub fn field_fault(
         Field::PartyField => byte_fault(body, i, parties),
         Field::AnyTerm => declared_fault(body, i, terms),
         Field::TermOf(kind) => kind_fault(tables, body, i, kind, terms),
-        Field::SignedAttest => attest_fault(tables, body, i, terms),
+        Field::SignedAttest => inner_fault(tables, body, i, 0x13, 0x14, terms),
         Field::IakPairField => pair_fault(tables, body, i, terms),
+        Field::RegisterField => byte_fault(body, i, rules::REGISTER_COUNT),
+        Field::HashedPair => inner_fault(tables, body, i, 0x12, 0x1A, terms),
+        Field::SignedQuote => inner_fault(tables, body, i, 0x13, 0x1C, terms),
     }
 }
 
@@ -199,6 +212,9 @@ pub fn command_fault(
         Field::TermOf(kind) => kind_fault(tables, body, i, kind, terms),
         Field::SignedAttest => field_fault(tables, body, field, i, parties, terms),
         Field::IakPairField => field_fault(tables, body, field, i, parties, terms),
+        Field::RegisterField => field_fault(tables, body, field, i, parties, terms),
+        Field::HashedPair => field_fault(tables, body, field, i, parties, terms),
+        Field::SignedQuote => field_fault(tables, body, field, i, parties, terms),
     }
 }
 
@@ -211,7 +227,7 @@ fn made_fault(tables: &[u16; tables::WORDS], body: &[u8], field: Field, terms: u
         return kind_fault(tables, body, 1, kind, terms);
     }
     if let Field::SignedAttest = field {
-        return attest_fault(tables, body, 1, terms);
+        return inner_fault(tables, body, 1, 0x13, 0x14, terms);
     }
     7
 }

@@ -11,16 +11,17 @@ pub fn run_commands(
     state: &mut [u8],
     ledger: &mut [Entry],
     outcomes: &mut [u8],
+    registers: &mut [u8],
     tables: &mut [u16; tables::WORDS],
     b: Begun,
     n: usize,
 ) -> Progress
-    requires { ⌜ RecordReady (now file) (now state) (now ledger) (now outcomes) (now tables) b ⌝ }
-    ensures { λ r. ⌜ Recorded (now (file .entry)) (now (state .entry)) (now (ledger .entry)) (now (outcomes .entry)) b n (now (state .exit)) (now (ledger .exit)) (now (outcomes .exit)) (now (tables .exit)) r ⌝ }
+    requires { ⌜ RecordReady (now file) (now state) (now ledger) (now outcomes) (now registers) (now tables) b ⌝ }
+    ensures { λ r. ⌜ Recorded (now (file .entry)) (now (state .entry)) (now (ledger .entry)) (now (outcomes .entry)) (now (registers .entry)) b n (now (state .exit)) (now (ledger .exit)) (now (outcomes .exit)) (now (registers .exit)) (now (tables .exit)) r ⌝ }
 {
     let mut p = turns::start(file, b, n);
     while p.left != 0 {
-        let t = turns::turn_within(file, state, tables, outcomes, b, p);
+        let t = turns::turn_within(file, state, registers, tables, outcomes, b, p);
         ledger::append_gained(ledger, p.issued, t.gained);
         p = t.progress;
     }

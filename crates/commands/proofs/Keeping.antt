@@ -11,11 +11,11 @@ use native.Mathlib.Omega.{arith}
 use native.Mathlib.Decide.{ℕ-discrete}
 use lib.ListN.{length}
 use Rattle.rules.specs.declared.Entry.{Entry}
-use Rattle.rules.specs.Term.{hashKind, signatureKind, attestKind, credentialKind, idevidRequestKind, certificateKind, pairKind}
-use Rattle.rules.specs.File.{File, Command, hash, sign, certify, makeCredential, activateCredential, makeIdevidRequest, makeLdevidRequest, makePair, checkHash, checkSignature, checkCertificate, checkAttributes, send, selfIssue, challenge, issueIak, issue, issueIaks, IakPair, kind, isKind, hashedTerm, credentialNumber}
+use Rattle.rules.specs.Term.{hashKind, signatureKind, credentialKind, idevidRequestKind, certificateKind, pairKind}
+use Rattle.rules.specs.File.{File, Command, hash, sign, certify, makeCredential, activateCredential, makeIdevidRequest, makeLdevidRequest, makePair, checkHash, checkSignature, checkCertificate, checkAttributes, send, selfIssue, challenge, issueIak, issue, issueIaks, extend, quote, IakPair, kind, hashedTerm, credentialNumber}
 use Rattle.rules.specs.Learning.{Knowledge, grant, learn}
-use Rattle.rules.specs.State.{State, start, numberUsed, credentialOpen, credentialClosed, put, learnt, ticketed, opening, closing, entered}
-use Rattle.rules.specs.Device.{hashEffect}
+use Rattle.rules.specs.State.{State, start, numberUsed, credentialOpen, credentialClosed, put, learnt, ticketed, opening, closing, entered, showing}
+use Rattle.rules.specs.Device.{noTicket, hashEffect}
 use Rattle.rules.specs.Desk.{requestBody, requestSignature, formTests, proofTests, numberTests, challengeTests, challengeEffect, issueIakEffect, issueEffect, issueIaksEffect}
 use Rattle.rules.specs.Run.{testsOf, effectOf, outcome, after}
 use Rattle.theorems.proofs.Learning.{grant-only, learn-only}
@@ -70,6 +70,13 @@ module _ {f : File} {x : State} (k : Rest f x) where
   entered-rest : (e : Entry) → Rest f (entered x e)
   unfolding entered
   entered-rest e = record {
+    requested = k .requested;
+    blank = λ u m. let b = k .blank u m in record { knows = b .knows; table = b .table; mark = b .mark; desk = b .desk; request = b .request };
+  }
+
+  showing-rest : (p i r : ℕ) → Rest f (showing x p i r)
+  unfolding showing
+  showing-rest p i r = record {
     requested = k .requested;
     blank = λ u m. let b = k .blank u m in record { knows = b .knows; table = b .table; mark = b .mark; desk = b .desk; request = b .request };
   }
@@ -141,7 +148,7 @@ pairs-rest {f} ck p q (y ∷ xs) x k w = pairs-rest ck p q xs (issueIakEffect f 
 module _ {f : File} (ck : Checked f) (x : State) (k : Rest f x) where
   effect-rest : (c : Command) → Wellformed f c → outcome f x c ≡ 0 → Rest f (effectOf f x c)
   unfolding effectOf hashEffect challengeEffect issueEffect
-  effect-rest (hash p r) w e = either (isKind f attestKind (hashedTerm f r))
+  effect-rest (hash p r) w e = either (noTicket f (hashedTerm f r))
     where
       either : (b : Bool) → Rest f (cond b (learnt f x p r) (ticketed (learnt f x p r) p r))
       either true = learnt-rest ck p (w .2) k
@@ -165,6 +172,8 @@ module _ {f : File} (ck : Checked f) (x : State) (k : Rest f x) where
   effect-rest (issueIak p q c r) w e = iak-rest ck x k p q c r (w .2) (w .3)
   effect-rest (issue family p q r) w e = entered-rest (learnt-rest ck p (declared f r (λ z. omega (arith, w .1))) k) _
   effect-rest (issueIaks p q xs) w e = pairs-rest ck p q xs x k (w .2)
+  effect-rest (extend p i r) w e = showing-rest k p i r
+  effect-rest (quote p r) w e = learnt-rest ck p (declared f r (λ z. omega (arith, w .1))) k
 
   after-rest : (c : Command) → Wellformed f c → Rest f (after f x c)
   after-rest c w = go (ℕ-discrete (outcome f x c) 0)

@@ -36,11 +36,11 @@ issue-read {p = p} {q = q} e h i = e ∙ (λ x. issueIak p q (sym h x) (sym i x)
 
 module _ {bs : List ℕ} {at : ℕ} (w : CommandAt (Wellformed (fileIn bs)) bs at) where
   -- the others are 40 on
-  pub request-kind : 0x3D < kindThere bs at → (kindThere bs at ≡ 0x3F → ⊥) → (kindThere bs at ≡ 0x43 → ⊥) → (kindThere bs at ≡ 0x3E → ⊥) → (0x40 ≤ kindThere bs at) × (kindThere bs at < 0x40 + length requestFamilies)
-  request-kind l a t b = (omega (arith, a, b), omega (arith, t, command-range (kindThere bs at) (w .isCommand) .1))
+  pub request-kind : (0x3D < kindThere bs at) × (kindThere bs at < 0x44) → (kindThere bs at ≡ 0x3F → ⊥) → (kindThere bs at ≡ 0x43 → ⊥) → (kindThere bs at ≡ 0x3E → ⊥) → (0x40 ≤ kindThere bs at) × (kindThere bs at < 0x40 + length requestFamilies)
+  request-kind l a t b = (omega (arith, l .0, a, b), omega (arith, l .1, t))
 
   -- by the family and the numbers that were read
-  pub issue-as : {family : Family} {q r : ℕ} → 0x3D < kindThere bs at → (kindThere bs at ≡ 0x3F → ⊥) → (kindThere bs at ≡ 0x43 → ⊥) → (kindThere bs at ≡ 0x3E → ⊥)
+  pub issue-as : {family : Family} {q r : ℕ} → (0x3D < kindThere bs at) × (kindThere bs at < 0x44) → (kindThere bs at ≡ 0x3F → ⊥) → (kindThere bs at ≡ 0x43 → ⊥) → (kindThere bs at ≡ 0x3E → ⊥)
       → family ≡ familyOf (kindThere bs at) → q ≡ word bs (at + 2) → r ≡ word bs (at + 4) → commandThere bs at ≡ issue family (getD bs (at + 1) 0) q r
   issue-as l a t b f h i =
       let k = request-kind l a t b in
@@ -55,7 +55,7 @@ module _ {bs : List ℕ} {at : ℕ} (w : CommandAt (Wellformed (fileIn bs)) bs a
   pairs-bytes e = omega (arith, command-ends bs at 0x43 e (w .whole))
 
   -- the others
-  pub two-bytes : 0x3D < kindThere bs at → (kindThere bs at ≡ 0x3F → ⊥) → (kindThere bs at ≡ 0x43 → ⊥) → at + 5 < length bs
+  pub two-bytes : (0x3D < kindThere bs at) × (kindThere bs at < 0x44) → (kindThere bs at ≡ 0x3F → ⊥) → (kindThere bs at ≡ 0x43 → ⊥) → at + 5 < length bs
   unfolding bodyLength widths width fieldsOf sectionOf
   two-bytes l a t = go (eqb (kindThere bs at) 0x3E) refl
     where

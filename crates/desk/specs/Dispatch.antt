@@ -20,7 +20,7 @@ pub record DeskEffectReady (bs s tables : List ℕ) (n at : ℕ) : Type 0 where
   pub holds : Holds bs s
   pub finds : Finds bs tables
   pub command : CommandAt (Wellformed (fileIn bs)) bs at
-  pub isDesk : 0x3D < kindThere bs at
+  pub isDesk : (0x3D < kindThere bs at) × (kindThere bs at < 0x44)
   pub opened : OpenRequested bs s
   pub parents : ParentsEntered bs s tables
   pub accepts : Accepts bs s tables n (commandThere bs at)

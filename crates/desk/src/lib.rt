@@ -21,7 +21,7 @@ pub fn decide(
     parties: usize,
     at: usize,
 ) -> u8
-    requires { ⌜ Holds (now file) (now state) × Finds (now file) (now tables) × (parties ≡ length (fileIn (now file) .roles)) × CommandAt (Wellformed (fileIn (now file))) (now file) at × (0x3D < kindThere (now file) at) × SomeLedger (now file) (now state) (now tables) × OpenRequested (now file) (now state) ⌝ }
+    requires { ⌜ Holds (now file) (now state) × Finds (now file) (now tables) × (parties ≡ length (fileIn (now file) .roles)) × CommandAt (Wellformed (fileIn (now file))) (now file) at × ((0x3D < kindThere (now file) at) × (kindThere (now file) at < 0x44)) × SomeLedger (now file) (now state) (now tables) × OpenRequested (now file) (now state) ⌝ }
     ensures { λ x. ⌜ DecidesListed (now (file .entry)) (now (state .entry)) (now (tables .entry)) (commandThere (now (file .entry)) at) x ⌝ }
 {
     let kind = file[at];

@@ -1,6 +1,6 @@
 -- What an accepted device command leaves: what its party learns, and for 30 the TPM table.
 --     self-issue-left, send-left        3D, 3C
---     attest-hashed, hash-ticketed      30 of an attest, and of another term
+--     attest-hashed, hash-ticketed      30 of an attest or a quote body, and of another term
 --     activate-left                     34
 --     left-as                           by the record, as the command that was read
 --     checks-left, made-left            by the record: 38 to 3B; 31 to 33 and 35 to 37
@@ -13,13 +13,12 @@ use native.Mathlib.Omega.{arith}
 use lib.Dec.{eqb}
 use lib.ListN.{getD, take, drop}
 use borrow.Author.Tests.{ne-eqb}
-use Rattle.rules.specs.Term.{attestKind}
 use Rattle.rules.specs.Record.{bodyLength, word}
-use Rattle.rules.specs.File.{Command, hash, activateCredential, send, selfIssue, isKind, hashedTerm, credentialNumber}
+use Rattle.rules.specs.File.{Command, hash, activateCredential, send, selfIssue, hashedTerm, credentialNumber}
 use Rattle.rules.specs.Load.{commandAt}
 use Rattle.rules.specs.Learning.{grant}
 use Rattle.rules.specs.State.{State, learnt, ticketed}
-use Rattle.rules.specs.Device.{hashEffect}
+use Rattle.rules.specs.Device.{noTicket, hashEffect}
 use Rattle.rules.specs.Run.{effectOf}
 use Rattle.theorems.proofs.Loading.{Wellformed}
 use Rattle.records.proofs.EachKind.{agree}
@@ -42,13 +41,13 @@ module _ {bs s s′ : List ℕ} {p r : ℕ} (w : Learns bs s s′ p r) where
   unfolding effectOf
   send-left q = record { columns = w .columns; places = w .places }
 
-  -- 30 of an attest
-  pub attest-hashed : isKind (fileIn bs) attestKind (hashedTerm (fileIn bs) r) ≡ true → Leaves bs s s′ (hash p r)
+  -- 30 of an attest or of a quote body
+  pub attest-hashed : noTicket (fileIn bs) (hashedTerm (fileIn bs) r) ≡ true → Leaves bs s s′ (hash p r)
   unfolding effectOf hashEffect
   attest-hashed e = record { columns = λ ledger. rw e (w .columns ledger); places = w .places }
 
   -- 30 of another term
-  pub hash-ticketed : {s″ : List ℕ} → isKind (fileIn bs) attestKind (hashedTerm (fileIn bs) r) ≡ false → view s″ ≡ withTable (view s′) (grant (view s′ .table) p r) → Leaves bs s s″ (hash p r)
+  pub hash-ticketed : {s″ : List ℕ} → noTicket (fileIn bs) (hashedTerm (fileIn bs) r) ≡ false → view s″ ≡ withTable (view s′) (grant (view s′ .table) p r) → Leaves bs s s″ (hash p r)
   unfolding effectOf hashEffect ticketed
   hash-ticketed e v = record {
     columns = λ ledger. rw e (ap (λ (c : Columns). stateOf c ledger) v ∙ ap (λ (x : State). ticketed x p r) (w .columns ledger));

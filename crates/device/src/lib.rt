@@ -7,7 +7,7 @@ ghost use lib.ListN.{length};
 ghost use Rattle.rules.specs.Limits.{rowWidth, partyLimit, device, oemDesk, ownerDesk};
 ghost use Rattle.rules.specs.Refusals.{need};
 ghost use Rattle.rules.specs.File.{hash, sign, certify, makeCredential, activateCredential, makeIdevidRequest, makeLdevidRequest, makePair, isRole, checkHash, checkSignature, checkCertificate, checkAttributes, send, selfIssue};
-ghost use Rattle.rules.specs.Device.{maySend, mayBeSentByDesk};
+ghost use Rattle.rules.specs.Device.{maySend, mayBeSentByDesk, noTicket};
 ghost use Rattle.theorems.proofs.Loading.{Wellformed};
 ghost use Rattle.state.specs.View.{view};
 ghost use Rattle.learning.specs.There.{kindThere};
@@ -438,7 +438,18 @@ pub fn decide_check_attributes(
     checked(file, state, party, k, k, right)
 }
 
-// What 30 leaves: the party learns the hash, and its TPM table has it unless it is of an attest.
+// Whether a hash of a term gets no ticket: one of an attest or of a quote body.
+fn unticketed(file: &[u8], tables: &[u16; tables::WORDS], t: usize) -> bool
+    requires { ⌜ TermNoted (now file) (now tables) t ⌝ }
+    ensures { λ x. ⌜ x ≡ noTicket (fileIn (now (file .entry))) t ⌝ }
+{
+    if loaded::is_kind(file, tables, t, 0x14) {
+        return true;
+    }
+    loaded::is_kind(file, tables, t, 0x1C)
+}
+
+// What 30 leaves: the party learns the hash, and its TPM table has it unless it is of an attest or of a quote body.
 pub fn effect_hash(
     file: &[u8],
     state: &mut [u8],
@@ -450,9 +461,9 @@ pub fn effect_hash(
     ensures { λ _. ⌜ Leaves (now (file .entry)) (now (state .entry)) (now (state .exit)) (hash party r) ⌝ }
 {
     let content = loaded::hashed_term(file, tables, r);
-    let attested = loaded::is_kind(file, tables, content, 0x14);
+    let bare = unticketed(file, tables, content);
     loaded::learn(file, state, tables, party, r);
-    if attested {
+    if bare {
         return;
     }
     state::note_table(state, party, r);

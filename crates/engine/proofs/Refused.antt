@@ -9,12 +9,12 @@ use Prim.Native.Nat.{ℕ, zero, suc, _-_, _<_, min}
 use native.Mathlib.Omega.{arith}
 use lib.ListN.{length, length-append, length-take, take, drop, replicate, getElem?}
 use borrow.Author.Tests.{leb-true}
-use Rattle.rules.specs.Limits.{fileLimit, termLimit, commandLimit, stateBytes}
+use Rattle.rules.specs.Limits.{fileLimit, termLimit, partyLimit, commandLimit, stateBytes, registerBytes}
 use Rattle.rules.specs.File.{File, Command}
 use Rattle.rules.specs.Load.{loaded, load, commandsOf}
 use Rattle.rules.specs.State.{State, start}
 use Rattle.rules.specs.Run.{outcome, after, run, outcomes, firstCommands, reached, outcomesOf}
-use Rattle.rules.specs.Lent.{Lent, rows, firstPart, noEntry, longEnough, written, leaves, runLeaves}
+use Rattle.rules.specs.Lent.{Lent, rows, registerRows, firstPart, noEntry, longEnough, written, leaves, runLeaves}
 use Rattle.theorems.proofs.Running.{after-refused, reached-next, take-next}
 use Rattle.theorems.proofs.Ledgers.{at-below}
 use Rattle.theorems.proofs.Written.{loaded-fits}
@@ -63,7 +63,7 @@ module _ (bytes : List ℕ) (f : File) (loads : load bytes ≡ loaded f) (n : �
       omega (arith, h, ap length one-more, length-append (outcomesOf f n) (outcome f (reached f n) c ∷ []))
 
   abbrev after-of : ℕ → Lent
-  after-of m = written (rows (reached f m) 0 (f .places)) (reached f m .ledger) (outcomesOf f m) lent
+  after-of m = written (rows (reached f m) 0 (f .places)) (reached f m .ledger) (outcomesOf f m) (registerRows (reached f m .registers) 0 partyLimit) lent
 
   left : (m : ℕ) → runLeaves bytes m lent ≡ cond (longEnough lent) (after-of m) lent
   unfolding runLeaves leaves
@@ -73,13 +73,14 @@ module _ (bytes : List ℕ) (f : File) (loads : load bytes ≡ loaded f) (n : �
       go true = refl
       go false = refl
 
-  unchanged : (b : Bool) → (cond b (after-of (suc n)) lent .state ≡ cond b (after-of n) lent .state) × (cond b (after-of (suc n)) lent .ledger ≡ cond b (after-of n) lent .ledger)
+  unchanged : (b : Bool) → (cond b (after-of (suc n)) lent .state ≡ cond b (after-of n) lent .state) × (cond b (after-of (suc n)) lent .ledger ≡ cond b (after-of n) lent .ledger) × (cond b (after-of (suc n)) lent .registers ≡ cond b (after-of n) lent .registers)
   unfolding written
   unchanged true = (
     ap (λ (s : State). firstPart stateBytes 0 (rows s 0 (f .places)) (lent .state)) same,
     ap (λ (s : State). firstPart termLimit noEntry (s .ledger) (lent .ledger)) same,
+    ap (λ (s : State). firstPart registerBytes 0 (registerRows (s .registers) 0 partyLimit) (lent .registers)) same,
   )
-  unchanged false = (refl, refl)
+  unchanged false = (refl, refl, refl)
 
   outcomes-but : (b : Bool) → SameBut n (cond b (after-of (suc n)) lent .outcomes) (cond b (after-of n) lent .outcomes)
   unfolding written
@@ -95,5 +96,6 @@ refused-leaves bytes f loads n c h r lent =
     let w = unchanged bytes f loads n c h r lent (longEnough lent) in (
       ap (λ (l : Lent). l .state) a ∙ w .0 ∙ ap (λ (l : Lent). l .state) (sym b),
       ap (λ (l : Lent). l .ledger) a ∙ w .1 ∙ ap (λ (l : Lent). l .ledger) (sym b),
+      ap (λ (l : Lent). l .registers) a ∙ w .2 ∙ ap (λ (l : Lent). l .registers) (sym b),
       (λ i d. ap (λ (l : Lent). getElem? (l .outcomes) i) a ∙ outcomes-but bytes f loads n c h r lent (longEnough lent) i d ∙ ap (λ (l : Lent). getElem? (l .outcomes) i) (sym b)),
     )

@@ -19,4 +19,5 @@ RefusedLeaves =
     (bytes : List ℕ) (f : File) → load bytes ≡ loaded f → (n : ℕ) (c : Command) → getElem? (commandsOf f) n ≡ some c → (outcome f (reached f n) c ≡ 0 → ⊥) → (lent : Lent)
     → (runLeaves bytes (suc n) lent .state ≡ runLeaves bytes n lent .state)
     × (runLeaves bytes (suc n) lent .ledger ≡ runLeaves bytes n lent .ledger)
+    × (runLeaves bytes (suc n) lent .registers ≡ runLeaves bytes n lent .registers)
     × SameBut n (runLeaves bytes (suc n) lent .outcomes) (runLeaves bytes n lent .outcomes)

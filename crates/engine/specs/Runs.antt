@@ -4,5 +4,5 @@ use Prim.Native.Nat.{ℕ}
 use Rattle.rules.specs.declared.Entry.{Entry}
 use Rattle.rules.specs.Lent.{Lent}
 
-abbrev pub lentWith : List ℕ → List Entry → List ℕ → Lent
-lentWith state ledger outcomes = record { state = state; ledger = ledger; outcomes = outcomes }
+abbrev pub lentWith : List ℕ → List Entry → List ℕ → List ℕ → Lent
+lentWith state ledger outcomes registers = record { state = state; ledger = ledger; outcomes = outcomes; registers = registers }

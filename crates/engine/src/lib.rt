@@ -32,13 +32,14 @@ pub fn run(
     state: &mut [u8],
     ledger: &mut [Entry],
     outcomes: &mut [u8],
+    registers: &mut [u8],
     tables: &mut [u16; tables::WORDS],
 ) -> Finished
     requires { ⌜ (room ≤ length (now ledger)) × EmptyTables (now tables) ⌝ }
-    ensures { λ r. ⌜ Runs (now (file .entry)) n room (now (state .entry)) (now (ledger .entry)) (now (outcomes .entry)) (now (state .exit)) (now (ledger .exit)) (now (outcomes .exit)) (now (tables .exit)) r ⌝ }
+    ensures { λ r. ⌜ Runs (now (file .entry)) n room (now (state .entry)) (now (ledger .entry)) (now (outcomes .entry)) (now (registers .entry)) (now (state .exit)) (now (ledger .exit)) (now (outcomes .exit)) (now (registers .exit)) (now (tables .exit)) r ⌝ }
 {
-    let b = beginning::begin(file, room, state, outcomes, tables);
+    let b = beginning::begin(file, room, state, outcomes, registers, tables);
     ledger::clear(ledger, b.places);
-    let p = command_loop::run_commands(file, state, ledger, outcomes, tables, b, n);
+    let p = command_loop::run_commands(file, state, ledger, outcomes, registers, tables, b, n);
     finish(b, p)
 }

@@ -127,7 +127,7 @@ module _ {bs : List ℕ} {place : ℕ → ℕ} {links tables : List ℕ} {n key 
   late-stands : (i : ℕ) → i < m - keyBits → Stands links key (late i) (keyBits + i)
   late-stands i h = passed-stands w (keyBits + i) (omega arith)
 
-  late-kind : (i : ℕ) → i < m - keyBits → (0x10 ≤ kindOfThere bs place (late i)) × (kindOfThere bs place (late i) ≤ 0x1A)
+  late-kind : (i : ℕ) → i < m - keyBits → (0x10 ≤ kindOfThere bs place (late i)) × (kindOfThere bs place (late i) ≤ 0x1C)
   late-kind i h = term-kinds _ (whole (late i) (declared (late-stands i h)) .isTerm)
 
   -- they are of different kinds

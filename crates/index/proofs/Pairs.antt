@@ -6,7 +6,7 @@ use lib.Dec.{eqb}
 use lib.ListN.{getD}
 use borrow.Author.Tests.{eqb-true, eq-eqb}
 use Rattle.rules.specs.declared.Term.{Term}
-use Rattle.rules.specs.declared.Term.the-variants.{PublicKey, PrivateKey, Hash, Signature, Attest, Credential, Number, IdevidRequest, LdevidRequest, Certificate, Pair}
+use Rattle.rules.specs.declared.Term.the-variants.{PublicKey, PrivateKey, Hash, Signature, Attest, Credential, Number, IdevidRequest, LdevidRequest, Certificate, Pair, Register, Quote}
 use Rattle.rules.specs.Term.{publicKeyKind, privateKeyKind, kindOf, fieldsIn, sameList, alike, keyPair}
 use Rattle.theorems.proofs.Booleans.{and-true}
 use Rattle.records.specs.Keys.{keyOf, Small}
@@ -33,6 +33,8 @@ public-fields (IdevidRequest s c k) e = absurd (omega arith)
 public-fields (LdevidRequest t c) e = absurd (omega arith)
 public-fields (Certificate k s p) e = absurd (omega arith)
 public-fields (Pair t u) e = absurd (omega arith)
+public-fields (Register i) e = absurd (omega arith)
+public-fields (Quote i t n) e = absurd (omega arith)
 
 module _ (x y : Term) where
   module _ (p : kindOf x ≡ publicKeyKind) (q : kindOf y ≡ privateKeyKind) where

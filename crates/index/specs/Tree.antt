@@ -22,7 +22,7 @@ abbrev pub keyBits : ℕ
 keyBits = 64
 
 abbrev pub termKinds : ℕ
-termKinds = 11
+termKinds = 13
 
 -- where the entry below t stands, for what is left of a key
 abbrev pub below : ℕ → ℕ → ℕ

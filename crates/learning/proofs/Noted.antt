@@ -5,16 +5,16 @@
 --     learn-there     and learning one is learning by the records
 --     ready-noted     a term that can be looked up can be learnt
 -- Assumes nothing.
-use mathlib.Core.Path.{_≡_, refl, sym, subst, _∙_}
+use mathlib.Core.Path.{_≡_, refl, sym, subst, subst⁻¹, _∙_}
 use mathlib.Core.List.{List, List·Memᴰ}
 use Prim.Native.Nat.{ℕ, suc, _*_, _<_, _≤_}
 use native.Mathlib.Omega.{arith}
 use lib.ListN.{length, getD}
 use Rattle.rules.specs.declared.Term.{Term}
-use Rattle.rules.specs.declared.Term.the-variants.{PublicKey, PrivateKey, Hash, Signature, Attest, Credential, Number, IdevidRequest, LdevidRequest, Certificate, Pair}
+use Rattle.rules.specs.declared.Term.the-variants.{PublicKey, PrivateKey, Hash, Signature, Attest, Credential, Number, IdevidRequest, LdevidRequest, Certificate, Pair, Register, Quote}
 use Rattle.rules.specs.declared.Subject.the-variants.{Tpm, Device}
 use Rattle.rules.specs.Limits.{rowWidth, partyLimit, termLimit}
-use Rattle.rules.specs.Term.{kindOf, subjectFields, fieldsIn, partsOf}
+use Rattle.rules.specs.Term.{hashKind, kindOf, subjectFields, fieldsIn, partsOf}
 use Rattle.rules.specs.Learning.{Knowledge}
 use Rattle.records.proofs.Keys.{term-kind}
 use Rattle.tables.specs.Regions.{Terms, fieldWords, fieldOf}
@@ -38,6 +38,8 @@ module _ (kind : ℕ) (field : ℕ → ℕ) where
   parts-by (LdevidRequest t c) e h = rw (e, h 0 (omega arith), h 1 (omega arith)) refl
   parts-by (Certificate k s p) e h = rw (e, h 0 (omega arith)) refl
   parts-by (Pair t u) e h = rw (e, h 0 (omega arith), h 1 (omega arith)) refl
+  parts-by (Register i) e h = rw e refl
+  parts-by (Quote i t n) e h = rw (e, h 1 (omega arith), h 2 (omega arith)) refl
 
 module _ {bs : List ℕ} {place : ℕ → ℕ} {v : Terms} {n : ℕ} (noted : Noted bs place v n) (whole : (t : ℕ) → t < n → TermRecord bs (place t)) where
   parts-there : (t : ℕ) → t < n → partsNoted v t ≡ partsThere bs place t
@@ -45,8 +47,12 @@ module _ {bs : List ℕ} {place : ℕ → ℕ} {v : Terms} {n : ℕ} (noted : No
   parts-there t l =
       parts-by (v .kind t) (fieldOf v t) (termThere bs (place t)) (noted .kinds t l ∙ sym (term-kind (kindThere bs (place t)) _ (whole t l .isTerm))) (λ i h. noted .fields t i l h)
 
-  pub terms-noted : n ≤ termLimit → ((t u : ℕ) → t < n → List·Memᴰ u (partsThere bs place t) → u < t) → TermsNoted v n
-  terms-noted few lower = record { few = few; lower = λ t u l m. lower t u l (subst (List·Memᴰ u) (parts-there t l) m) }
+  pub terms-noted : n ≤ termLimit → ((t u : ℕ) → t < n → List·Memᴰ u (partsThere bs place t) → u < t) → ((t : ℕ) → t < n → kindThere bs (place t) ≡ hashKind → getD (fieldsIn (termThere bs (place t))) 0 0 < t) → TermsNoted v n
+  terms-noted few lower hashed = record {
+    few = few;
+    lower = λ t u l m. lower t u l (subst (List·Memᴰ u) (parts-there t l) m);
+    hashed = λ t l e. subst⁻¹ (λ (u : ℕ). u < t) (noted .fields t 0 l (omega arith)) (hashed t l (sym (noted .kinds t l) ∙ e));
+  }
 
   pub learn-there : TermsNoted v n → (p t : ℕ) → t < n → (known : Knowledge) → learnNoted v p t known ≡ learnThere bs place p t known
   unfolding learnNoted learnThere

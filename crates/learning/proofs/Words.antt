@@ -29,7 +29,7 @@ use Rattle.learning.specs.There.{kindThere, termThere, TermRecord}
 
 -- the bytes of the bodies of terms, by kind
 abbrev pub bodyBytes : ℕ → ℕ
-bodyBytes k = getD (3 ∷ 3 ∷ 2 ∷ 4 ∷ 2 ∷ 6 ∷ 2 ∷ 7 ∷ 4 ∷ 7 ∷ 4 ∷ []) (k - publicKeyKind) 0
+bodyBytes k = getD (3 ∷ 3 ∷ 2 ∷ 4 ∷ 2 ∷ 6 ∷ 2 ∷ 7 ∷ 4 ∷ 7 ∷ 4 ∷ 1 ∷ 5 ∷ []) (k - publicKeyKind) 0
 
 -- the byte of a Subject tells a TPM from a device
 module _ (bs : List ℕ) (i : ℕ) where
@@ -69,7 +69,7 @@ module _ (bs : List ℕ) (at : ℕ) where
   unfolding bodyLength widths width fieldsOf sectionOf
   inside k e r =
       let h = term-kinds (kindThere bs at) (r .isTerm) in
-      let l : bodyLength (kindThere bs at) ≡ bodyBytes (kindThere bs at) = agree bodyLength bodyBytes 0x10 11 refl (kindThere bs at) (h .0) (omega (arith, h .1)) in
+      let l : bodyLength (kindThere bs at) ≡ bodyBytes (kindThere bs at) = agree bodyLength bodyBytes 0x10 13 refl (kindThere bs at) (h .0) (omega (arith, h .1)) in
       subst (λ (k : ℕ). at + 1 + bodyBytes k ≤ length bs) e (omega (arith, r .rest, l))
 
   -- 10 (identifier, attributes)
@@ -113,4 +113,4 @@ module _ (bs : List ℕ) (at : ℕ) where
   unfolding termThere termAt attributesOf
   no-attributes r l =
       let b : List ℕ = take (bodyLength (kindThere bs at)) (drop (at + 1) bs) in
-      agree (λ k. attributesOf (termAt k b)) (λ k. noAttributes) 0x12 9 refl (kindThere bs at) (omega arith) (omega (arith, term-kinds (kindThere bs at) (r .isTerm) .1))
+      agree (λ k. attributesOf (termAt k b)) (λ k. noAttributes) 0x12 11 refl (kindThere bs at) (omega arith) (omega (arith, term-kinds (kindThere bs at) (r .isTerm) .1))

@@ -6,17 +6,19 @@ use Prim.Native.Nat.{ℕ, suc, _+_, _*_, _<_, _≤_}
 use lib.Dec.{eqb}
 use lib.ListN.{length, getD}
 use Rattle.rules.specs.Limits.{rowWidth, partyLimit, termLimit}
-use Rattle.rules.specs.Term.{signatureKind, attestKind, idevidRequestKind, ldevidRequestKind, certificateKind, pairKind, fieldsIn}
+use Rattle.rules.specs.Term.{signatureKind, attestKind, idevidRequestKind, ldevidRequestKind, certificateKind, pairKind, quoteKind, hashKind, fieldsIn}
 use Rattle.rules.specs.Learning.{Knowledge, opened, each}
 use Rattle.tables.specs.Regions.{Terms, fieldWords, fieldOf}
 use Rattle.learning.specs.There.{kindThere, termThere}
 
--- the kinds with one part, the first field; a 17, whose parts stand behind its Subject; those with two, the first fields
+-- the kinds with one part, the first field; a 17, whose parts stand behind its Subject; those with two, the first
+-- fields; a 1C, behind its register
 unfoldable pub partsBy : ℕ → (ℕ → ℕ) → List ℕ
 partsBy kind field =
     cond (eqb kind signatureKind || eqb kind attestKind || eqb kind certificateKind) (field 0 ∷ [])
     (cond (eqb kind idevidRequestKind) (field 2 ∷ field 3 ∷ [])
-    (cond (eqb kind ldevidRequestKind || eqb kind pairKind) (field 0 ∷ field 1 ∷ []) []))
+    (cond (eqb kind ldevidRequestKind || eqb kind pairKind) (field 0 ∷ field 1 ∷ [])
+    (cond (eqb kind quoteKind) (field 1 ∷ field 2 ∷ []) [])))
 
 -- the parts of each term, by its kind and its fields
 unfoldable pub partsNoted : Terms → ℕ → List ℕ
@@ -37,10 +39,11 @@ pub record Ready (v : Terms) (s : List ℕ) (p t : ℕ) : Type 0 where
   pub room : rowWidth * t + rowWidth ≤ length s
   pub lower : (u w : ℕ) → u ≤ t → List·Memᴰ w (partsNoted v u) → w < u
 
--- the first n terms can be looked up, and have lower parts
+-- the first n terms can be looked up, and have lower parts; what a hash is of is lower too
 pub record TermsNoted (v : Terms) (n : ℕ) : Type 0 where
   pub few : n ≤ termLimit
   pub lower : (t u : ℕ) → t < n → List·Memᴰ u (partsNoted v t) → u < t
+  pub hashed : (t : ℕ) → t < n → v .kind t ≡ hashKind → fieldOf v t 0 < t
 
 -- the kinds and the fields of the first n terms, as their records stand in the file
 pub record Noted (bs : List ℕ) (place : ℕ → ℕ) (v : Terms) (n : ℕ) : Type 0 where

@@ -54,6 +54,7 @@ fn parts_of(tables: &[u16; tables::WORDS], t: usize) -> Parts
         0x18 => two(tables, t, 0, 1),
         0x19 => one(tables, t),
         0x1A => two(tables, t, 0, 1),
+        0x1C => two(tables, t, 1, 2),
         _ => Parts::Nothing,
     }
 }

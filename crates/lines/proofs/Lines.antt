@@ -14,7 +14,7 @@ use lib.ListN.{length, take, replicate, length-replicate}
 use lib.Seq.{take-at}
 use borrow.Author.Tests.{eq-eqb, ne-eqb, le-leb}
 use Rattle.rules.specs.declared.Entry.{Entry}
-use Rattle.rules.specs.Limits.{fileLimit, termLimit, commandLimit, stateBytes}
+use Rattle.rules.specs.Limits.{fileLimit, termLimit, commandLimit, stateBytes, registerBytes}
 use Rattle.rules.specs.File.{File, Command}
 use Rattle.rules.specs.Load.{Load, loaded, refused, load}
 use Rattle.rules.specs.State.{start}
@@ -105,26 +105,29 @@ ledger-long = length-replicate termLimit noEntry
 pub ledger-fits : termLimit ≤ length (replicate termLimit noEntry)
 ledger-fits = omega (arith, ledger-long)
 
-module _ (bs : List ℕ) (s : List ℕ) (l : List Entry) (out : List ℕ) (text s′ : List ℕ) {l′ : List Entry} {out′ before tables : List ℕ} {r : Finished} (el : length l ≡ termLimit) (ready : ListReady s out before text) (w : Runs bs (length bs) termLimit s l out s′ l′ out′ tables r) (ls : length s′ ≡ length s) where
+module _ (bs : List ℕ) (s : List ℕ) (l : List Entry) (out g : List ℕ) (text s′ : List ℕ) {l′ : List Entry} {out′ g′ before tables : List ℕ} {r : Finished} (el : length l ≡ termLimit) (ready : ListReady s out g before text) (w : Runs bs (length bs) termLimit s l out g s′ l′ out′ g′ tables r) (ls : length s′ ≡ length s) where
   abbrev lent : Lent
-  lent = lentWith s l out
+  lent = lentWith s l out g
+
+  abbrev after : Lent
+  after = lentWith s′ l′ out′ g′
 
   abbrev n : ℕ
   n = length bs
 
   long-enough : longEnough lent ≡ true
   long-enough =
-      enough-is s out l
-      ∙ rw (le-leb stateBytes (length s) (ready .state), le-leb termLimit (length l) (omega (arith, el)), le-leb commandLimit (length out) (ready .outcomes)) refl
+      enough-is s out g l
+      ∙ rw (le-leb stateBytes (length s) (ready .state), le-leb termLimit (length l) (omega (arith, el)), le-leb commandLimit (length out) (ready .outcomes), le-leb registerBytes (length g) (ready .registers)) refl
 
-  whole : Runs bs n (length l) s l out s′ l′ out′ tables r
-  whole = subst (λ (m : ℕ). Runs bs n m s l out s′ l′ out′ tables r) (sym el) w
+  whole : Runs bs n (length l) s l out g s′ l′ out′ g′ tables r
+  whole = subst (λ (m : ℕ). Runs bs n m s l out g s′ l′ out′ g′ tables r) (sym el) w
 
-  stood : r .begun .number ≡ 0 → Stood bs n lent s′ l′ tables r
-  stood z = run-stood bs n s l out s′ whole z ls
+  stood : r .begun .number ≡ 0 → Stood bs n lent after tables r
+  stood z = run-stood bs n s l out g s′ whole z ls
 
   pub head-ready : length out′ ≡ length out → HeadReady r out′ text
-  head-ready lo = record { few = λ z. stood z .few; recorded = omega (arith, lo, ready .outcomes); near = near-place bs n termLimit s l out s′ w; room = ready .room }
+  head-ready lo = record { few = λ z. stood z .few; recorded = omega (arith, lo, ready .outcomes); near = near-place bs n termLimit s l out g s′ w; room = ready .room }
 
   few-entries : entriesOf r ≤ termLimit
   few-entries = go (decLt 0 (r .begun .number))
@@ -153,7 +156,7 @@ module _ (bs : List ℕ) (s : List ℕ) (l : List Entry) (out : List ℕ) (text 
               let f : eqb (r .begun .number) 0 ≡ false = ne-eqb (r .begun .number) 0 z in
               let number = r .begun .number in
               let place = r .begun .place in
-              let q : refusal number place ≡ runAnswer bs n lent = sym (let e : ranIn r ≡ refusal number place = rw f refl in e) ∙ run-left bs n s l out s′ whole .answer in
+              let q : refusal number place ≡ runAnswer bs n lent = sym (let e : ranIn r ≡ refusal number place = rw f refl in e) ∙ run-left bs n s l out g s′ whole .answer in
               ap (λ (b : Bool). cond b (refusalLines 0 (take (r .progress .accepted + r .progress .refused) out′)) (line 0x46 (number ∷ place ∷ [])) ++ (entryLines (take k l′) ++ cond b (line 0x54 (r .progress .accepted ∷ r .progress .refused ∷ r .progress .issued ∷ [])) [])) f
               ∙ ap (λ (m : ℕ). line 0x46 (number ∷ place ∷ []) ++ (entryLines (take m l′) ++ [])) (counted ∙ sym (entries-none r z))
               ∙ ap (λ (ys : List ℕ). line 0x46 (number ∷ place ∷ []) ++ (ys ++ [])) no-lines
@@ -163,22 +166,22 @@ module _ (bs : List ℕ) (s : List ℕ) (l : List Entry) (out : List ℕ) (text 
               let z : r .begun .number ≡ 0 = omega (arith, h) in
               let f : eqb (r .begun .number) 0 ≡ true = eq-eqb (r .begun .number) 0 z in
               let st = stood z in
-              let g = fileIn bs in
+              let file = fileIn bs in
               let a = r .progress .accepted in
               let b = r .progress .refused in
               let i = r .progress .issued in
-              let loads : load bs ≡ loaded g = st .stands .holds .loads in
-              let m : length (outcomesOf g n) ≡ a + b = omega (arith, totals g n .0, st .accepted, st .refused) in
-              let e : length (reached g n .ledger) ≡ k = st .stands .enters .count ∙ entries-some r z ∙ sym counted in
+              let loads : load bs ≡ loaded file = st .stands .holds .loads in
+              let m : length (outcomesOf file n) ≡ a + b = omega (arith, totals file n .0, st .accepted, st .refused) in
+              let e : length (reached file n .ledger) ≡ k = st .stands .enters .count ∙ entries-some r z ∙ sym counted in
               let ea = st .accepted in
               let eb = st .refused in
               let ei = st .issued in
               ap (λ (t : Bool). cond t (refusalLines 0 (take (a + b) out′)) (line 0x46 (r .begun .number ∷ r .begun .place ∷ [])) ++ (entryLines (take k l′) ++ cond t (line 0x54 (a ∷ b ∷ i ∷ [])) [])) f
-              ∙ ap (λ (xs : List ℕ). refusalLines 0 xs ++ (entryLines (take k l′) ++ line 0x54 (a ∷ b ∷ i ∷ []))) (outcomes-front bs n lent g loads long-enough (run-left bs n s l out s′ whole .outcomes) m)
-              ∙ ap (λ (es : List Entry). refusalLines 0 (outcomesOf g n) ++ (entryLines es ++ line 0x54 (a ∷ b ∷ i ∷ []))) (entries-front (reached g n .ledger) l (st .ledger) e)
-              ∙ (λ j. refusalLines 0 (outcomesOf g n) ++ (entryLines (reached g n .ledger) ++ line 0x54 (ea j ∷ eb j ∷ ei j ∷ [])))
-              ∙ lines-of g n (all-commands bs g loads)
-              ∙ listing-by bs (loaded g) loads
+              ∙ ap (λ (xs : List ℕ). refusalLines 0 xs ++ (entryLines (take k l′) ++ line 0x54 (a ∷ b ∷ i ∷ []))) (outcomes-front bs n lent file loads long-enough (ap (λ (y : Lent). y .outcomes) (run-left bs n s l out g s′ whole .buffers)) m)
+              ∙ ap (λ (es : List Entry). refusalLines 0 (outcomesOf file n) ++ (entryLines es ++ line 0x54 (a ∷ b ∷ i ∷ []))) (entries-front (reached file n .ledger) l (st .ledger) e)
+              ∙ (λ j. refusalLines 0 (outcomesOf file n) ++ (entryLines (reached file n .ledger) ++ line 0x54 (ea j ∷ eb j ∷ ei j ∷ [])))
+              ∙ lines-of file n (all-commands bs file loads)
+              ∙ listing-by bs (loaded file) loads
 
       pub listed-whole : {t₃ : List ℕ} {end : ℕ} → Ended r t₂ next t₃ end → Listed (listing bs) text t₃ end
       listed-whole {t₃} {end} e = listed (subst (λ (t : List ℕ). Written text 0 t t₃ end) text-is (written-then (head .0) (written-then (mid .0) (e .0)))) (omega (arith, head .1, counted, few-entries, mid .1, e .1)) (ready .room)

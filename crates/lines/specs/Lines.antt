@@ -5,7 +5,7 @@ use mathlib.Core.List.{List, [], _∷_}
 use Prim.Native.Nat.{ℕ, _+_, _*_, _^_, _<_, _≤_}
 use lib.Dec.{eqb}
 use lib.ListN.{length, take}
-use Rattle.rules.specs.Limits.{termLimit, commandLimit, stateBytes}
+use Rattle.rules.specs.Limits.{termLimit, commandLimit, stateBytes, registerBytes}
 use Rattle.rules.specs.Listing.{line, refusalLines}
 use Rattle.tables.specs.Regions.{EmptyTables}
 use Rattle.decimal.specs.Text.{Written}
@@ -38,8 +38,9 @@ pub record LastReady (r : Finished) (out : List ℕ) (at : ℕ) : Type 0 where
 abbrev pub Ended : Finished → List ℕ → ℕ → List ℕ → ℕ → Type 0
 Ended r out at out′ n = Written out at (lastLine r) out′ n × (n ≤ at + totalBytes)
 
-pub record ListReady (s os tables out : List ℕ) : Type 0 where
+pub record ListReady (s os g tables out : List ℕ) : Type 0 where
   pub state : stateBytes ≤ length s
   pub outcomes : commandLimit ≤ length os
+  pub registers : registerBytes ≤ length g
   pub empty : EmptyTables tables
   pub room : listingBytes ≤ length out

@@ -64,10 +64,11 @@ fn list_with(
     file: &[u8],
     state: &mut [u8],
     outcomes: &mut [u8],
+    registers: &mut [u8],
     tables: &mut [u16; tables::WORDS],
     out: &mut [u8],
 ) -> usize
-    requires { ⌜ ListReady (now state) (now outcomes) (now tables) (now out) ⌝ }
+    requires { ⌜ ListReady (now state) (now outcomes) (now registers) (now tables) (now out) ⌝ }
     ensures { λ n. ⌜ Listed (listing (now (file .entry))) (now (out .entry)) (now (out .exit)) n ⌝ }
 {
     let commands = file.len();
@@ -80,6 +81,7 @@ fn list_with(
         state,
         &mut ledger,
         outcomes,
+        registers,
         tables,
     );
     let at = head(done, outcomes, out);
@@ -95,8 +97,16 @@ pub fn list_into(file: &[u8], out: &mut [u8]) -> usize
 {
     let mut state = [0u8; rules::STATE_BYTES];
     let mut outcomes = [0u8; rules::COMMAND_LIMIT];
+    let mut registers = [0u8; rules::REGISTER_BYTES];
     let mut tables = [0u16; tables::WORDS];
-    list_with(file, &mut state, &mut outcomes, &mut tables, out)
+    list_with(
+        file,
+        &mut state,
+        &mut outcomes,
+        &mut registers,
+        &mut tables,
+        out,
+    )
 }
 
 // Prints the listing of a file.

@@ -10,9 +10,9 @@ use lib.ListN.{length, getD}
 use Rattle.rules.specs.declared.Subject.{Subject}
 use Rattle.rules.specs.declared.Subject.the-variants.{Tpm, Device}
 use Rattle.rules.specs.declared.Term.{Term}
-use Rattle.rules.specs.declared.Term.the-variants.{PublicKey, PrivateKey, Hash, Signature, Attest, Credential, Number, IdevidRequest, LdevidRequest, Certificate, Pair}
-use Rattle.rules.specs.Term.{hashKind, signatureKind, attestKind, credentialKind, idevidRequestKind, ldevidRequestKind, certificateKind, pairKind, kindOf, fieldsIn, subjectFields, namesOf}
-use Rattle.rules.specs.File.{File, term, kind, names, field, hashedTerm, message, signingKey, attestedKey, credentialTerm, credentialNumber, credentialKey, idevidCertificate, idevidKey, ldevidMessage, ldevidCertificate, certifiedKey, signer, leftOf, rightOf}
+use Rattle.rules.specs.declared.Term.the-variants.{PublicKey, PrivateKey, Hash, Signature, Attest, Credential, Number, IdevidRequest, LdevidRequest, Certificate, Pair, Register, Quote}
+use Rattle.rules.specs.Term.{hashKind, signatureKind, attestKind, credentialKind, idevidRequestKind, ldevidRequestKind, certificateKind, pairKind, quoteKind, kindOf, fieldsIn, subjectFields, namesOf}
+use Rattle.rules.specs.File.{File, term, kind, names, field, hashedTerm, message, signingKey, attestedKey, credentialTerm, credentialNumber, credentialKey, idevidCertificate, idevidKey, ldevidMessage, ldevidCertificate, certifiedKey, signer, leftOf, rightOf, quotedValue, quoteNumber}
 use Rattle.theorems.proofs.Loading.{Checked}
 
 -- the fields that name terms, by the kind
@@ -25,7 +25,8 @@ namesAt k =
     (cond (eqb k idevidRequestKind) (2 ∷ 3 ∷ [])
     (cond (eqb k ldevidRequestKind) (0 ∷ 1 ∷ [])
     (cond (eqb k certificateKind) (0 ∷ 3 ∷ [])
-    (cond (eqb k pairKind) (0 ∷ 1 ∷ []) [])))))))
+    (cond (eqb k pairKind) (0 ∷ 1 ∷ [])
+    (cond (eqb k quoteKind) (1 ∷ 2 ∷ []) []))))))))
 
 abbrev named : Term → ℕ → ℕ
 named x i = getD (fieldsIn x) i 0
@@ -45,6 +46,8 @@ names-are (LdevidRequest t c) = refl
 names-are (Certificate k (Tpm n) p) = refl
 names-are (Certificate k (Device n) p) = refl
 names-are (Pair t u) = refl
+names-are (Register i) = refl
+names-are (Quote i t n) = refl
 
 in-map : (g : ℕ → ℕ) {i : ℕ} {is : List ℕ} → List·Memᴰ i is → List·Memᴰ (g i) (map g is)
 in-map g (List·Memᴰ·head e) = List·Memᴰ·head (ap g e)
@@ -116,3 +119,11 @@ module _ {f : File} {t : ℕ} (w : Checked f) (l : t < length (f .terms)) where
   pub right-declared : kind f t ≡ pairKind → rightOf f t < length (f .terms)
   unfolding rightOf
   right-declared e = field-declared pairKind 1 e (List·Memᴰ·tail (List·Memᴰ·head refl))
+
+  pub quoted-value-declared : kind f t ≡ quoteKind → quotedValue f t < length (f .terms)
+  unfolding quotedValue
+  quoted-value-declared e = field-declared quoteKind 1 e (List·Memᴰ·head refl)
+
+  pub quote-number-declared : kind f t ≡ quoteKind → quoteNumber f t < length (f .terms)
+  unfolding quoteNumber
+  quote-number-declared e = field-declared quoteKind 2 e (List·Memᴰ·tail (List·Memᴰ·head refl))

@@ -13,7 +13,7 @@ use lib.ListN.{length, getD}
 use Rattle.rules.specs.declared.Subject.{Subject}
 use Rattle.rules.specs.declared.Subject.the-variants.{Tpm, Device}
 use Rattle.rules.specs.declared.Term.{Term}
-use Rattle.rules.specs.declared.Term.the-variants.{PublicKey, PrivateKey, Hash, Signature, Attest, Credential, Number, IdevidRequest, LdevidRequest, Certificate, Pair}
+use Rattle.rules.specs.declared.Term.the-variants.{PublicKey, PrivateKey, Hash, Signature, Attest, Credential, Number, IdevidRequest, LdevidRequest, Certificate, Pair, Register, Quote}
 use Rattle.rules.specs.Attributes.{noAttributes}
 use Rattle.rules.specs.Term.{idevidRequestKind, certificateKind, kindOf, fieldsIn, subjectFields, attributesOf}
 use Rattle.rules.specs.File.{File, term, kind, field, attributes}
@@ -50,6 +50,8 @@ key-bits (IdevidRequest s c k) h = absurd (omega arith)
 key-bits (LdevidRequest t c) h = absurd (omega arith)
 key-bits (Certificate k s p) h = absurd (omega arith)
 key-bits (Pair t u) h = absurd (omega arith)
+key-bits (Register i) h = absurd (omega arith)
+key-bits (Quote i t n) h = absurd (omega arith)
 
 no-bits : (x : Term) → 0x11 < kindOf x → attributesOf x .bits ≡ 0
 unfolding kindOf attributesOf
@@ -64,6 +66,8 @@ no-bits (IdevidRequest s c k) h = refl
 no-bits (LdevidRequest t c) h = refl
 no-bits (Certificate k s p) h = refl
 no-bits (Pair t u) h = refl
+no-bits (Register i) h = refl
+no-bits (Quote i t n) h = refl
 
 pub key-attributes : (f : File) (t : ℕ) → kind f t ≤ 0x11 → field f t 1 ≡ attributes f t .bits
 unfolding kind field attributes
@@ -89,6 +93,8 @@ request-fields (IdevidRequest (Device n) c k) e = refl
 request-fields (LdevidRequest t c) e = absurd (omega arith)
 request-fields (Certificate k s p) e = absurd (omega arith)
 request-fields (Pair t u) e = absurd (omega arith)
+request-fields (Register i) e = absurd (omega arith)
+request-fields (Quote i t n) e = absurd (omega arith)
 
 certificate-fields :
     (x : Term) → kindOf x ≡ certificateKind
@@ -106,6 +112,8 @@ certificate-fields (LdevidRequest t c) e = absurd (omega arith)
 certificate-fields (Certificate k (Tpm n) p) e = refl
 certificate-fields (Certificate k (Device n) p) e = refl
 certificate-fields (Pair t u) e = absurd (omega arith)
+certificate-fields (Register i) e = absurd (omega arith)
+certificate-fields (Quote i t n) e = absurd (omega arith)
 
 -- what was read of its words, for both
 module _ {bs tables : List ℕ} {t : ℕ} (noted : TermNoted bs tables t) {s : Subject} {w : Words} (read : w ≡ wordsNoted (tablesIn tables .terms) t) where

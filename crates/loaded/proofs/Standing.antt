@@ -1,14 +1,14 @@
 -- What stands where a file is loaded: its parties and its terms.
 -- Assumes nothing.
-use mathlib.Core.Path.{_≡_, sym, ap, subst, _∙_}
+use mathlib.Core.Path.{_≡_, sym, ap, subst, subst⁻¹, _∙_}
 use mathlib.Core.List.{List, List·Memᴰ}
 use Prim.Native.Nat.{ℕ, _+_, _*_, _<_, _≤_}
 use native.Mathlib.Omega.{arith}
-use lib.ListN.{length}
-use Rattle.rules.specs.Term.{hashKind}
+use lib.ListN.{length, getD}
+use Rattle.rules.specs.Term.{hashKind, fieldsIn}
 use Rattle.rules.specs.File.{kind}
 use Rattle.state.specs.View.{view}
-use Rattle.learning.specs.There.{termThere, TermRecord, partsThere}
+use Rattle.learning.specs.There.{kindThere, termThere, TermRecord, partsThere}
 use Rattle.theorems.proofs.Loading.{Checked, checked}
 use Rattle.theorems.proofs.Terms.{declared}
 use Rattle.loaded.specs.Loaded.{fileIn, Holds, PartyHere, TermHere}
@@ -42,6 +42,7 @@ holds-kept {bs} {s} {s′} h l e = record {
     room = (omega (arith, h .there .room));
     whole = λ t m. subst (λ (place : ℕ → ℕ). TermRecord bs (place t)) (sym e) (h .there .whole t m);
     lower = λ t u m i. h .there .lower t u m (subst (λ (place : ℕ → ℕ). List·Memᴰ u (partsThere bs place t)) e i);
+    hashed = λ t m. subst⁻¹ (λ (place : ℕ → ℕ). kindThere bs (place t) ≡ hashKind → getD (fieldsIn (termThere bs (place t))) 0 0 < t) e (h .there .hashed t m);
   };
   termIs = λ t m. ap (λ (place : ℕ → ℕ). termThere bs (place t)) e ∙ h .termIs t m;
 }

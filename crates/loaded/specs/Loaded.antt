@@ -15,6 +15,7 @@ use Rattle.rules.specs.State.{learnt}
 use Rattle.rules.specs.Run.{outcome, effectOf}
 use Rattle.state.specs.View.{view}
 use Rattle.state.proofs.Exact.{stateOf}
+use Rattle.theorems.proofs.Beside.{beside}
 use Rattle.tables.specs.Regions.{fieldWords, tableWords, tablesIn, fieldOf}
 use Rattle.learning.specs.There.{termThere, TermRecord}
 use Rattle.checks.specs.There.{roleThere, TermsThere}
@@ -82,4 +83,12 @@ Decides bs s c x = (ledger : List Entry) → x ≡ outcome (fileIn bs) (stateOf 
 -- what an accepted command leaves that enters nothing in the ledger: the columns of the rules' state, the places as they were
 pub record Leaves (bs s s′ : List ℕ) (c : Command) : Type 0 where
   pub columns : (ledger : List Entry) → stateOf (view s′) ledger ≡ effectOf (fileIn bs) (stateOf (view s) ledger) c
+  pub places : view s′ .place ≡ view s .place
+
+-- the same of a command that may look at registers: what it decides, and what it leaves in them too
+abbrev pub DecidesBeside : List ℕ → List ℕ → (ℕ → ℕ → ℕ) → Command → ℕ → Type 0
+DecidesBeside bs s registers c x = (ledger : List Entry) → x ≡ outcome (fileIn bs) (beside registers (stateOf (view s) ledger)) c
+
+pub record LeavesBeside (bs s s′ : List ℕ) (registers registers′ : ℕ → ℕ → ℕ) (c : Command) : Type 0 where
+  pub columns : (ledger : List Entry) → beside registers′ (stateOf (view s′) ledger) ≡ effectOf (fileIn bs) (beside registers (stateOf (view s) ledger)) c
   pub places : view s′ .place ≡ view s .place

@@ -8,7 +8,7 @@ ghost use lib.Dec.{eqb};
 ghost use lib.ListN.{length};
 ghost use Rattle.rules.specs.Limits.{termLimit};
 ghost use Rattle.rules.specs.Term.{idevidRequestKind, certificateKind};
-ghost use Rattle.rules.specs.File.{isRole, isKind, term, kind, field, attributes, hashedTerm, message, signingKey, attestedKey, credentialTerm, credentialNumber, credentialKey, idevidCertificate, idevidKey, ldevidMessage, ldevidCertificate, certifiedKey, signer, leftOf, rightOf};
+ghost use Rattle.rules.specs.File.{isRole, isKind, term, kind, field, attributes, hashedTerm, message, signingKey, attestedKey, credentialTerm, credentialNumber, credentialKey, idevidCertificate, idevidKey, ldevidMessage, ldevidCertificate, certifiedKey, signer, leftOf, rightOf, registerOf, quotedValue, quoteNumber};
 ghost use Rattle.rules.specs.Device.{keyHas};
 ghost use Rattle.tables.specs.Regions.{fieldWords, tablesIn};
 ghost use Rattle.loaded.specs.Loaded.{fileIn, Holds, Finds, PartyHere, TermNoted, subjectBy, Learns};
@@ -205,6 +205,28 @@ pub fn right_of(file: &[u8], tables: &[u16; tables::WORDS], t: usize) -> usize
     ensures { λ r. ⌜ r ≡ rightOf (fileIn (now (file .entry))) t ⌝ }
 {
     field_of(file, tables, t, 1)
+}
+
+// The register, the value and the number of a quote body.
+pub fn register_of(file: &[u8], tables: &[u16; tables::WORDS], t: usize) -> usize
+    requires { ⌜ TermNoted (now file) (now tables) t ⌝ }
+    ensures { λ r. ⌜ r ≡ registerOf (fileIn (now (file .entry))) t ⌝ }
+{
+    field_of(file, tables, t, 0)
+}
+
+pub fn quoted_value_of(file: &[u8], tables: &[u16; tables::WORDS], t: usize) -> usize
+    requires { ⌜ TermNoted (now file) (now tables) t ⌝ }
+    ensures { λ r. ⌜ r ≡ quotedValue (fileIn (now (file .entry))) t ⌝ }
+{
+    field_of(file, tables, t, 1)
+}
+
+pub fn quote_number_of(file: &[u8], tables: &[u16; tables::WORDS], t: usize) -> usize
+    requires { ⌜ TermNoted (now file) (now tables) t ⌝ }
+    ensures { λ r. ⌜ r ≡ quoteNumber (fileIn (now (file .entry))) t ⌝ }
+{
+    field_of(file, tables, t, 2)
 }
 
 // Whether a term is noted as the private half of a key.

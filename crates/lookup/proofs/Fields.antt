@@ -2,6 +2,7 @@
 --     hash-there to issue-iak-there   the command of a record, one law a kind
 --     issue-length, issue-there       that of the kinds 40, 41 and 42, by their family
 --     issue-iaks-there                that of kind 43, with the pairs where they stand
+--     extend-there, quote-there       those of kinds 44 and 45
 --     command-ends                    where the record of a command ends in the file
 --     three-bytes, four-bytes         its body has three bytes at least, its record four
 --     one-read, two-read, known-as    the command by numbers that were read, and what is known of it
@@ -14,7 +15,7 @@ use lib.ListN.{length, getD, take, drop}
 use Rattle.rules.specs.Limits.{pairCount, pairWidth}
 use Rattle.rules.specs.Families.{requestFamilies, familyOf}
 use Rattle.rules.specs.Record.{sectionOf, fieldsOf, bodyLength, width, widths, word}
-use Rattle.rules.specs.File.{Command, hash, sign, certify, makeCredential, activateCredential, makeIdevidRequest, makeLdevidRequest, makePair, checkHash, checkSignature, checkCertificate, checkAttributes, send, selfIssue, challenge, issueIak, issue, issueIaks}
+use Rattle.rules.specs.File.{Command, hash, sign, certify, makeCredential, activateCredential, makeIdevidRequest, makeLdevidRequest, makePair, checkHash, checkSignature, checkCertificate, checkAttributes, send, selfIssue, challenge, issueIak, issue, issueIaks, extend, quote}
 use Rattle.rules.specs.Load.{commandAt, emptyPair, pairsAt}
 use Rattle.records.proofs.EachKind.{agree}
 use Rattle.learning.specs.There.{kindThere}
@@ -132,6 +133,14 @@ module _ (bs : List ℕ) (at : ℕ) where
   pub issue-iaks-there : kindThere bs at ≡ 0x43 → commandThere bs at ≡ issueIaks (getD bs (at + 1) 0) (getD bs (at + 2) 0) (pairsAt pairCount bs (at + 3))
   unfolding commandAt bodyLength widths width fieldsOf sectionOf
   issue-iaks-there e = of-kind 0x43 18 refl e ∙ (λ x. issueIaks (byte-at bs at 18 0 (omega arith) x) (byte-at bs at 18 1 (omega arith) x) (pairs-same bs at 18 pairCount 2 (omega arith) x))
+
+  pub extend-there : kindThere bs at ≡ 0x44 → commandThere bs at ≡ extend (getD bs (at + 1) 0) (getD bs (at + 2) 0) (word bs (at + 3))
+  unfolding commandAt bodyLength widths width fieldsOf sectionOf
+  extend-there e = of-kind 0x44 4 refl e ∙ (λ x. extend (byte-at bs at 4 0 (omega arith) x) (byte-at bs at 4 1 (omega arith) x) (word-at bs at 4 2 (omega arith) x))
+
+  pub quote-there : kindThere bs at ≡ 0x45 → commandThere bs at ≡ quote (getD bs (at + 1) 0) (word bs (at + 2))
+  unfolding commandAt bodyLength widths width fieldsOf sectionOf
+  quote-there = one-term 0x45 quote refl (λ b. refl)
 
 -- a command by numbers that were read
 pub one-read : (make : ℕ → ℕ → Command) {c : Command} {p m r : ℕ} → c ≡ make p m → r ≡ m → c ≡ make p r

@@ -32,7 +32,7 @@ and-true false b e = let z : _≡_ {A = ℕ} 0 1 = cc in absurd (omega arith)
 -- the kinds of commands
 pub command-range : (k : ℕ) → sectionOf k ≡ commandSection → (0x30 ≤ k) × (k ≤ lastKind)
 unfolding sectionOf
-command-range k = go (eqb k 1) (leb 0x10 k && leb k 0x1A) (leb 0x20 k && leb k 0x22) (leb 0x30 k && leb k lastKind) refl
+command-range k = go (eqb k 1) (leb 0x10 k && leb k 0x1C) (leb 0x20 k && leb k 0x22) (leb 0x30 k && leb k lastKind) refl
   where
     go : (a b c d : Bool) → (leb 0x30 k && leb k lastKind) ≡ d → _≡_ {A = ℕ} (cond a 1 (cond b 2 (cond c 3 (cond d 4 0)))) 4 → (0x30 ≤ k) × (k ≤ lastKind)
     go true b c d e s = absurd (omega arith)

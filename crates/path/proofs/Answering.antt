@@ -14,11 +14,11 @@ use lib.Seq.{sets, sets-eq}
 use borrow.Author.Tests.{eq-eqb, ne-eqb, le-leb, lt-leb}
 use Rattle.rules.specs.declared.Entry.{Entry}
 use Rattle.rules.specs.declared.PathAnswer.{PathAnswer}
-use Rattle.rules.specs.Limits.{fileLimit, termLimit, commandLimit, stateBytes, depthLimit, pathPlaces}
+use Rattle.rules.specs.Limits.{fileLimit, termLimit, commandLimit, stateBytes, registerBytes, depthLimit, pathPlaces}
 use Rattle.rules.specs.Load.{Load, loaded, refused, load}
 use Rattle.rules.specs.State.{listed, depthOf, parentOf}
 use Rattle.rules.specs.Run.{reached}
-use Rattle.rules.specs.Lent.{Answer, success, refusal, pathInNumbers, Lent, longEnough, answered, runAnswer, runLeaves, asked, steps, stepsFrom, pathAnswer, pathBuffers, pathWritten, pathListed, pathLeaves}
+use Rattle.rules.specs.Lent.{Answer, success, refusal, pathInNumbers, Lent, Called, longEnough, answered, runAnswer, runLeaves, asked, steps, stepsFrom, pathAnswer, pathBuffers, pathWritten, pathListed, pathLeaves}
 use Rattle.theorems.proofs.Ledgers.{listed-found}
 use Rattle.tables.specs.Regions.{tablesIn}
 use Rattle.loaded.specs.Loaded.{fileIn}
@@ -47,12 +47,12 @@ second-fails true b e = e
 second-fails false b e = refl
 
 -- a ledger of no places is too short
-no-room : (a c : ℕ) → roomy a 0 c ≡ false
-no-room a c = go (leb stateBytes a) (leb commandLimit c)
+no-room : (a c d : ℕ) → roomy a 0 c d ≡ false
+no-room a c d = go (leb stateBytes a) (leb commandLimit c) (leb registerBytes d)
   where
-    go : (x y : Bool) → x && leb termLimit 0 && y ≡ false
-    go true y = rw (lt-leb termLimit 0 (omega arith)) refl
-    go false y = refl
+    go : (x y z : Bool) → x && leb termLimit 0 && y && z ≡ false
+    go true y z = rw (lt-leb termLimit 0 (omega arith)) refl
+    go false y z = refl
 
 steps-length : (ledger : List Entry) (n c : ℕ) → length (steps ledger n c) ≡ n + 1
 unfolding steps
@@ -74,9 +74,9 @@ unfolding runAnswer
 run-by bs n lent b e = rw e refl
 
 -- the whole promise
-abbrev pub PathRan : List ℕ → ℕ → Lent → ℕ → List ℕ → List ℕ → List Entry → List ℕ → List ℕ → PathAnswer → Type 0
-PathRan bs n lent t list s l out list′ x =
-    (pathInNumbers x ≡ pathAnswer bs n lent t list) × (s ≡ pathBuffers bs n lent t list .state) × (l ≡ pathBuffers bs n lent t list .ledger) × (out ≡ pathBuffers bs n lent t list .outcomes) × (list′ ≡ pathLeaves bs n lent t list)
+abbrev pub PathRan : List ℕ → ℕ → Lent → ℕ → List ℕ → Lent → List ℕ → PathAnswer → Type 0
+PathRan bs n lent t list after list′ x =
+    Called (λ before. pathAnswer bs n before t list) (λ before. pathBuffers bs n before t list) lent after (pathInNumbers x) × (list′ ≡ pathLeaves bs n lent t list)
 
 module _ (bs : List ℕ) (n : ℕ) (lent : Lent) (t : ℕ) (list : List ℕ) where
   -- too short a list
@@ -132,7 +132,7 @@ module _ (bs : List ℕ) (n : ℕ) (lent : Lent) (t : ℕ) (list : List ℕ) whe
     ran-path e l = (answer-by true e ∙ ap (asked (stepsFrom t) n) l, list-by true e ∙ ap (pathListed n t list) l)
 
 -- what the rules say of a run that stood
-module _ {bs : List ℕ} {n : ℕ} {lent : Lent} {s : List ℕ} {l : List Entry} {tables : List ℕ} {r : Finished} (w : Stood bs n lent s l tables r) (t : ℕ) where
+module _ {bs : List ℕ} {n : ℕ} {lent after : Lent} {tables : List ℕ} {r : Finished} (w : Stood bs n lent after tables r) (t : ℕ) where
   abbrev ledger : List Entry
   ledger = reached (fileIn bs) n .ledger
 
@@ -158,25 +158,28 @@ module _ {bs : List ℕ} {n : ℕ} {lent : Lent} {s : List ℕ} {l : List Entry}
       go true q = omega (arith, deep, shallow q)
       go false q = omega (arith, deep, none-deep ledger q)
 
-module _ (bs : List ℕ) (n room : ℕ) (s : List ℕ) (l : List Entry) (out s′ : List ℕ) {l′ : List Entry} {out′ tables : List ℕ} {r : Finished} (list : List ℕ) (t : ℕ) (asked-for : room ≡ cond (leb pathPlaces (length list)) (length l) 0)
-    (w : Runs bs n room s l out s′ l′ out′ tables r) (ls : length s′ ≡ length s) where
+module _ (bs : List ℕ) (n room : ℕ) (s : List ℕ) (l : List Entry) (out g s′ : List ℕ) {l′ : List Entry} {out′ g′ tables : List ℕ} {r : Finished} (list : List ℕ) (t : ℕ) (asked-for : room ≡ cond (leb pathPlaces (length list)) (length l) 0)
+    (w : Runs bs n room s l out g s′ l′ out′ g′ tables r) (ls : length s′ ≡ length s) where
   abbrev lent : Lent
-  lent = lentWith s l out
+  lent = lentWith s l out g
 
-  whole : pathPlaces ≤ length list → Runs bs n (length l) s l out s′ l′ out′ tables r
-  whole long = subst (λ (m : ℕ). Runs bs n m s l out s′ l′ out′ tables r) (asked-for ∙ ap (λ (b : Bool). cond b (length l) 0) (le-leb pathPlaces (length list) long)) w
+  abbrev after : Lent
+  after = lentWith s′ l′ out′ g′
 
-  none : length list < pathPlaces → (r .begun ≡ stops 1) × ((s′ ≡ s) × ((l′ ≡ l) × (out′ ≡ out)))
+  whole : pathPlaces ≤ length list → Runs bs n (length l) s l out g s′ l′ out′ g′ tables r
+  whole long = subst (λ (m : ℕ). Runs bs n m s l out g s′ l′ out′ g′ tables r) (asked-for ∙ ap (λ (b : Bool). cond b (length l) 0) (le-leb pathPlaces (length list) long)) w
+
+  none : length list < pathPlaces → (r .begun ≡ stops 1) × (after ≡ lent)
   none short =
       let z : room ≡ 0 = asked-for ∙ ap (λ (b : Bool). cond b (length l) 0) (lt-leb pathPlaces (length list) short) in
-      run-short bs n room s l out s′ w (ap (λ (m : ℕ). roomy (length s) m (length out)) z ∙ no-room (length s) (length out))
+      run-short bs n room s l out g s′ w (ap (λ (m : ℕ). roomy (length s) m (length out) (length g)) z ∙ no-room (length s) (length out) (length g))
 
-  stood : r .begun .number ≡ 0 → (pathPlaces ≤ length list) × Stood bs n lent s′ l′ tables r
+  stood : r .begun .number ≡ 0 → (pathPlaces ≤ length list) × Stood bs n lent after tables r
   stood z = go (decLt (length list) pathPlaces)
     where
-      go : Dec (length list < pathPlaces) → (pathPlaces ≤ length list) × Stood bs n lent s′ l′ tables r
+      go : Dec (length list < pathPlaces) → (pathPlaces ≤ length list) × Stood bs n lent after tables r
       go (yes short) = absurd (let q : r .begun .number ≡ 1 = ap (λ (b : Begun). b .number) (none short .0) in omega (arith, q, z))
-      go (no h) = let long : pathPlaces ≤ length list = omega (arith, h) in (long, run-stood bs n s l out s′ (whole long) z ls)
+      go (no h) = let long : pathPlaces ≤ length list = omega (arith, h) in (long, run-stood bs n s l out g s′ (whole long) z ls)
 
   pub first-ready : FirstReady (r .begun .number) tables t
   first-ready z = depth-most (stood z .1) t
@@ -216,7 +219,7 @@ module _ (bs : List ℕ) (n room : ℕ) (s : List ℕ) (l : List Entry) (out s�
         go (no h) = omega (arith, left-is, at-is, h)
 
     pub answer-ready : AnswerReady r v
-    answer-ready = record { near = near-place bs n room s l out s′ w; short = omega (arith, left-is, first-short) }
+    answer-ready = record { near = near-place bs n room s l out g s′ w; short = omega (arith, left-is, first-short) }
 
     -- the whole
     module _ {list′ : List ℕ} (written : list′ ≡ sets list (v .at) (climbed tables l′ (v .left) (v .certificate))) (x : PathAnswer) (told : Answers r v t x) where
@@ -236,7 +239,7 @@ module _ (bs : List ℕ) (n room : ℕ) (s : List ℕ) (l : List Entry) (out s�
       ran-told : (z : r .begun .number ≡ 0) → (pathInNumbers x ≡ pathAnswer bs n lent t list) × (list′ ≡ pathLeaves bs n lent t list)
       ran-told z = go (decLt 0 (tablesIn tables .entry t)) (stood z .0) (stood z .1) (ran-path bs n lent t list (stood z .0) (stood z .1 .enough) (stood z .1 .stands .holds .loads))
         where
-          go : Dec (0 < tablesIn tables .entry t) → pathPlaces ≤ length list → (st : Stood bs n lent s′ l′ tables r) → (pathAnswer bs n lent t list ≡ cond (listed (reached (fileIn bs) n .ledger) t) (success (depthOf (reached (fileIn bs) n .ledger) t ∷ [])) (refusal 30 t))
+          go : Dec (0 < tablesIn tables .entry t) → pathPlaces ≤ length list → (st : Stood bs n lent after tables r) → (pathAnswer bs n lent t list ≡ cond (listed (reached (fileIn bs) n .ledger) t) (success (depthOf (reached (fileIn bs) n .ledger) t ∷ [])) (refusal 30 t))
               × (pathLeaves bs n lent t list ≡ cond (listed (reached (fileIn bs) n .ledger) t) (steps (reached (fileIn bs) n .ledger) (depthOf (reached (fileIn bs) n .ledger) t) t ++ drop (depthOf (reached (fileIn bs) n .ledger) t + 1) list) list)
               → (pathInNumbers x ≡ pathAnswer bs n lent t list) × (list′ ≡ pathLeaves bs n lent t list)
           go (no h) long st p =
@@ -262,22 +265,22 @@ module _ (bs : List ℕ) (n room : ℕ) (s : List ℕ) (l : List Entry) (out s�
                     ∙ sym (p .1 ∙ ap (λ (b : Bool). cond b (steps (reached (fileIn bs) n .ledger) d t ++ drop (d + 1) list) list) f),
               )
 
-      pub path-ran : PathRan bs n lent t list s′ l′ out′ list′ x
+      pub path-ran : PathRan bs n lent t list after list′ x
       path-ran = go (decLt (length list) pathPlaces) (decLt 0 (r .begun .number))
         where
-          go : Dec (length list < pathPlaces) → Dec (0 < r .begun .number) → PathRan bs n lent t list s′ l′ out′ list′ x
+          go : Dec (length list < pathPlaces) → Dec (0 < r .begun .number) → PathRan bs n lent t list after list′ x
           go (yes short) d =
-              let (b, (es, (el, eo))) = none short in
+              let (b, e) = none short in
               let one : r .begun .number ≡ 1 = ap (λ (q : Begun). q .number) b in
               let y = refused-told (λ z. omega (arith, one, z)) in
               let k = no-buffers bs n lent t list short in
-              (y .0 ∙ ap (λ (q : Begun). refusal (q .number) (q .place)) b ∙ no-answer bs n lent t list short, es ∙ ap (λ (q : Lent). q .state) k, el ∙ ap (λ (q : Lent). q .ledger) k, eo ∙ ap (λ (q : Lent). q .outcomes) k, y .1 ∙ no-list bs n lent t list short)
-          go (no g) d =
-              let long : pathPlaces ≤ length list = omega (arith, g) in
-              let run = run-left bs n s l out s′ (whole long) in
+              ((y .0 ∙ ap (λ (q : Begun). refusal (q .number) (q .place)) b ∙ no-answer bs n lent t list short, e ∙ k), y .1 ∙ no-list bs n lent t list short)
+          go (no h) d =
+              let long : pathPlaces ≤ length list = omega (arith, h) in
+              let run = run-left bs n s l out g s′ (whole long) in
               let k = buffers bs n lent t list long in
               let y = by-number d long (run .answer) in
-              (y .0, run .state ∙ ap (λ (q : Lent). q .state) k, run .ledger ∙ ap (λ (q : Lent). q .ledger) k, run .outcomes ∙ ap (λ (q : Lent). q .outcomes) k, y .1)
+              ((y .0, run .buffers ∙ k), y .1)
             where
               by-number : Dec (0 < r .begun .number) → pathPlaces ≤ length list → ranIn r ≡ runAnswer bs n lent → (pathInNumbers x ≡ pathAnswer bs n lent t list) × (list′ ≡ pathLeaves bs n lent t list)
               by-number (no h) long q = ran-told (omega (arith, h))

@@ -9,8 +9,8 @@ use lib.ListN.{getD}
 use borrow.Author.Tests.{eq-eqb, eqb-true}
 use Rattle.rules.specs.declared.Subject.the-variants.{Tpm, Device}
 use Rattle.rules.specs.declared.Term.{Term}
-use Rattle.rules.specs.declared.Term.the-variants.{PublicKey, PrivateKey, Hash, Signature, Attest, Credential, Number, IdevidRequest, LdevidRequest, Certificate, Pair}
-use Rattle.rules.specs.Term.{kindOf, subjectFields, fieldsIn, alike, publicKeyKind, privateKeyKind, hashKind, signatureKind, attestKind, credentialKind, numberKind, idevidRequestKind, ldevidRequestKind, certificateKind}
+use Rattle.rules.specs.declared.Term.the-variants.{PublicKey, PrivateKey, Hash, Signature, Attest, Credential, Number, IdevidRequest, LdevidRequest, Certificate, Pair, Register, Quote}
+use Rattle.rules.specs.Term.{kindOf, subjectFields, fieldsIn, alike, publicKeyKind, privateKeyKind, hashKind, signatureKind, attestKind, credentialKind, numberKind, idevidRequestKind, ldevidRequestKind, certificateKind, pairKind, registerKind}
 use Rattle.rules.specs.Record.{sectionOf, termSection, word}
 use Rattle.rules.specs.Load.{termAt, subjectAt}
 use Rattle.records.specs.Keys.{keyOf, Small}
@@ -122,7 +122,9 @@ module _ (k : ℕ) (body : List ℕ) (bytes : (i : ℕ) → getD body i 0 < 256)
       (when idevidRequestKind (IdevidRequest _ _ _) (subject-small body bytes 0 _ (w 3, (w 5, tt)))
       (when ldevidRequestKind (LdevidRequest _ _) (w 0, (w 2, tt))
       (when certificateKind (Certificate _ _ _) (w 0, subject-small body bytes 2 _ (w 5, tt))
-      (of (Pair _ _) (w 0, (w 2, tt))))))))))))
+      (when pairKind (Pair _ _) (w 0, (w 2, tt))
+      (when registerKind (Register _) (byte-small body bytes 0, tt)
+      (of (Quote _ _ _) (byte-small body bytes 0, (w 1, (w 3, tt)))))))))))))))
 
   pub fields-small : Small (termAt k body)
   fields-small = each-small (fieldsIn (termAt k body)) (worded .words)
@@ -130,4 +132,4 @@ module _ (k : ℕ) (body : List ℕ) (bytes : (i : ℕ) → getD body i 0 < 256)
 -- the term of a term record is of the record's kind
 pub term-kind : (k : ℕ) (body : List ℕ) → sectionOf k ≡ termSection → kindOf (termAt k body) ≡ k
 unfolding termAt kindOf
-term-kind k body h = let r = term-kinds k h in agree (λ k. kindOf (termAt k body)) (λ k. k) 0x10 11 refl k (r .0) (omega (arith, r .1))
+term-kind k body h = let r = term-kinds k h in agree (λ k. kindOf (termAt k body)) (λ k. k) 0x10 13 refl k (r .0) (omega (arith, r .1))

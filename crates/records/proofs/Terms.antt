@@ -11,7 +11,7 @@ use borrow.Author.Tests.{eq-eqb}
 use Rattle.rules.specs.declared.Subject.{Subject}
 use Rattle.rules.specs.declared.Subject.the-variants.{Tpm, Device}
 use Rattle.rules.specs.declared.Term.{Term}
-use Rattle.rules.specs.declared.Term.the-variants.{PublicKey, PrivateKey, Hash, Signature, Attest, Credential, Number, IdevidRequest, LdevidRequest, Certificate, Pair}
+use Rattle.rules.specs.declared.Term.the-variants.{PublicKey, PrivateKey, Hash, Signature, Attest, Credential, Number, IdevidRequest, LdevidRequest, Certificate, Pair, Register, Quote}
 use Rattle.rules.specs.Term.{kindOf, subjectFields, fieldsIn, sameList, alike, publicKeyKind}
 use Rattle.rules.specs.Record.{word}
 use Rattle.rules.specs.Load.{subjectAt}
@@ -32,7 +32,7 @@ subject-number bs i = number-either (eqb (getD bs i 0) 0) (word bs (i + 1))
 
 -- how many fields the terms of a kind have
 abbrev sizeOf : ℕ → ℕ
-sizeOf k = getD (2 ∷ 2 ∷ 1 ∷ 2 ∷ 1 ∷ 3 ∷ 1 ∷ 4 ∷ 2 ∷ 4 ∷ 2 ∷ []) (k - publicKeyKind) 0
+sizeOf k = getD (2 ∷ 2 ∷ 1 ∷ 2 ∷ 1 ∷ 3 ∷ 1 ∷ 4 ∷ 2 ∷ 4 ∷ 2 ∷ 1 ∷ 3 ∷ []) (k - publicKeyKind) 0
 
 sized : (t : Term) → (length (fieldsIn t) ≡ sizeOf (kindOf t)) × (length (fieldsIn t) ≤ 4)
 unfolding fieldsIn kindOf subjectFields
@@ -49,6 +49,8 @@ sized (LdevidRequest t c) = (refl, lit≤ tt)
 sized (Certificate k (Tpm m) p) = (refl, lit≤ tt)
 sized (Certificate k (Device m) p) = (refl, lit≤ tt)
 sized (Pair t u) = (refl, lit≤ tt)
+sized (Register i) = (refl, lit≤ tt)
+sized (Quote i t n) = (refl, lit≤ tt)
 
 -- the first n numbers of two lists agree
 abbrev sameFirst : ℕ → List ℕ → List ℕ → Bool

@@ -1,4 +1,5 @@
--- Fields as numbers: a field of one kind of term is that kind, another a number below 9; 0 is no field. A list of fields is packed a byte each, the first in the lowest.
+-- Fields as numbers: a field of one kind of term is that kind, another a number below 0C; 0 is no field. A list of
+-- fields is packed a byte each, the first in the lowest.
 use mathlib.Core.Path.{_≡_}
 use mathlib.Core.Bool.{cond}
 use mathlib.Core.List.{List, [], _∷_}
@@ -6,7 +7,7 @@ use Prim.Native.Nat.{ℕ, _+_, _*_, _%_, _≤_}
 use lib.Dec.{eqb}
 use lib.ListN.{getD}
 use Rattle.rules.specs.declared.Field.{Field}
-use Rattle.rules.specs.declared.Field.the-variants.{RoleField, IdentifierField, AttributesField, SubjectField, PartyField, AnyTerm, TermOf, SignedAttest, IakPairField}
+use Rattle.rules.specs.declared.Field.the-variants.{RoleField, IdentifierField, AttributesField, SubjectField, PartyField, AnyTerm, TermOf, SignedAttest, IakPairField, RegisterField, HashedPair, SignedQuote}
 use Rattle.rules.specs.Limits.{pairCount, pairWidth}
 use Rattle.rules.specs.Record.{lastKind, fieldsOf}
 
@@ -27,6 +28,9 @@ codeOf AnyTerm = 6
 codeOf (TermOf k) = k
 codeOf SignedAttest = 7
 codeOf IakPairField = 8
+codeOf RegisterField = 9
+codeOf HashedPair = 0x0A
+codeOf SignedQuote = 0x0B
 
 unfoldable pub packed : List Field → ℕ
 packed [] = 0
@@ -44,7 +48,10 @@ lowField n =
     (cond (eqb (n % 256) 6) AnyTerm
     (cond (eqb (n % 256) 7) SignedAttest
     (cond (eqb (n % 256) 8) IakPairField
-    (TermOf (n % 256))))))))))
+    (cond (eqb (n % 256) 9) RegisterField
+    (cond (eqb (n % 256) 0x0A) HashedPair
+    (cond (eqb (n % 256) 0x0B) SignedQuote
+    (TermOf (n % 256)))))))))))))
 
 -- a table of the packed fields of each kind from 00 to the last
 abbrev pub FieldRows : List ℕ → Type 0

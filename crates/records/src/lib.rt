@@ -6,7 +6,7 @@ ghost use mathlib.Core.List.{[], _∷_};
 ghost use Prim.Native.Nat.{_+_, _<_, _≤_};
 ghost use lib.ListN.{length, getD};
 ghost use Rattle.rules.specs.Attributes.{has as hasFlag};
-ghost use Rattle.rules.specs.Term.{subjectFields, fieldsIn};
+ghost use Rattle.rules.specs.Term.{registerKind, quoteKind, subjectFields, fieldsIn};
 ghost use Rattle.rules.specs.Record.{lastKind, sectionOf, bodyLength, fieldsOf, width as widthOf, termSection, word};
 ghost use Rattle.rules.specs.Load.{termAt, subjectAt};
 ghost use Rattle.records.specs.Codes.{packed, lowField, FieldRows};
@@ -28,9 +28,9 @@ pub fn section_of(kind: u8) -> u8
 {
     match kind {
         0x01 => 1,
-        0x10..=0x1A => 2,
+        0x10..=0x1C => 2,
         0x20..=0x22 => 3,
-        0x30..=0x43 => 4,
+        0x30..=0x45 => 4,
         _ => 0,
     }
 }
@@ -38,7 +38,7 @@ pub fn section_of(kind: u8) -> u8
 // The fields of a record at most.
 pub const FIELD_LIMIT: usize = 6;
 
-// The fields of each kind from 00 to 43, packed: a byte each (low_field), the first in the lowest.
+// The fields of each kind from 00 to 45, packed: a byte each (low_field), the first in the lowest.
 const FIELDS: [u64; rules::KIND_COUNT] = [
     0,
     // From 01 on.
@@ -69,8 +69,8 @@ const FIELDS: [u64; rules::KIND_COUNT] = [
     0x1906,
     0x110410,
     0x0606,
-    0,
-    0,
+    0x09,
+    0x160609,
     0,
     0,
     0,
@@ -113,6 +113,8 @@ const FIELDS: [u64; rules::KIND_COUNT] = [
     0x190605,
     0x190605,
     0x080808080505,
+    0x0A0905,
+    0x0B05,
 ];
 
 // The packed fields of each kind, for a caller to keep: a constant is written anew wherever it stands.
@@ -131,7 +133,7 @@ pub fn fields_in(table: &[u64; rules::KIND_COUNT], kind: u8) -> u64
     if k <= rules::LAST_KIND { table[k] } else { 0 }
 }
 
-// The lowest of packed fields: a byte that is the kind of the terms that it takes, or a number below 9.
+// The lowest of packed fields: a byte that is the kind of the terms that it takes, or a number below 0C.
 pub fn low_field(fields: u64) -> Field
     ensures { λ r. ⌜ r ≡ lowField fields ⌝ }
 {
@@ -146,6 +148,9 @@ pub fn low_field(fields: u64) -> Field
         6 => Field::AnyTerm,
         7 => Field::SignedAttest,
         8 => Field::IakPairField,
+        9 => Field::RegisterField,
+        0x0A => Field::HashedPair,
+        0x0B => Field::SignedQuote,
         _ => Field::TermOf(code),
     }
 }
@@ -164,17 +169,18 @@ pub fn width(f: Field) -> usize
         Field::TermOf(_) => 2,
         Field::SignedAttest => 2,
         Field::IakPairField => rules::PAIR_WIDTH,
+        Field::RegisterField => 1,
+        Field::HashedPair => 2,
+        Field::SignedQuote => 2,
     }
 }
 
 // The bytes of a term's body.
 fn term_length(kind: u8) -> usize
-    requires { ⌜ (0x10 ≤ kind) × (kind ≤ 0x1A) ⌝ }
+    requires { ⌜ (0x10 ≤ kind) × (kind ≤ 0x1C) ⌝ }
     ensures { λ r. ⌜ r ≡ bodyLength kind ⌝ }
 {
     match kind {
-        0x10 => 3,
-        0x11 => 3,
         0x12 => 2,
         0x13 => 4,
         0x14 => 2,
@@ -183,7 +189,10 @@ fn term_length(kind: u8) -> usize
         0x17 => 7,
         0x18 => 4,
         0x19 => 7,
-        _ => 4,
+        0x1A => 4,
+        0x1B => 1,
+        0x1C => 5,
+        _ => 3,
     }
 }
 
@@ -201,18 +210,14 @@ fn command_length(kind: u8) -> usize
         0x35 => 3,
         0x36 => 3,
         0x37 => 3,
-        0x38 => 5,
-        0x39 => 5,
-        0x3A => 5,
         0x3B => 4,
         0x3C => 4,
         0x3D => 3,
-        0x3E => 5,
         0x3F => 6,
-        0x40 => 5,
-        0x41 => 5,
-        0x42 => 5,
-        _ => 18,
+        0x43 => 18,
+        0x44 => 4,
+        0x45 => 3,
+        _ => 5,
     }
 }
 
@@ -222,9 +227,9 @@ fn length_of(kind: u8) -> usize
 {
     match kind {
         0x01 => 1,
-        0x10..=0x1A => term_length(kind),
+        0x10..=0x1C => term_length(kind),
         0x20..=0x22 => 3,
-        0x30..=0x43 => command_length(kind),
+        0x30..=0x45 => command_length(kind),
         _ => 0,
     }
 }
@@ -284,9 +289,19 @@ fn tag_at(body: &[u8], i: usize) -> u16
     if body[i] == 0 { 0 } else { 1 }
 }
 
-// The words of the term of a kind with a body, read where its fields stand.
-pub fn words_in(kind: u8, body: &[u8]) -> Words
-    requires { ⌜ (sectionOf kind ≡ termSection) × (bodyLength kind ≤ length (now body)) ⌝ }
+// The words of a quote body with a body.
+fn quote_words(body: &[u8]) -> Words
+    requires { ⌜ 4 < length (now body) ⌝ }
+    ensures { λ r. ⌜ r ≡ wordsOf (fieldsIn (termAt quoteKind (now (body .entry)))) ⌝ }
+{
+    let i = body[0] as u16;
+    let t = word_at(body, 1);
+    four(i, t, word_at(body, 3), 0)
+}
+
+// The words of the term of a kind with a body of two bytes or more: a register alone has one.
+fn long_words_in(kind: u8, body: &[u8]) -> Words
+    requires { ⌜ (sectionOf kind ≡ termSection) × ((bodyLength kind ≤ length (now body)) × (kind ≡ registerKind → ⊥)) ⌝ }
     ensures { λ r. ⌜ r ≡ wordsOf (fieldsIn (termAt kind (now (body .entry)))) ⌝ }
 {
     let first = word_at(body, 0);
@@ -313,7 +328,20 @@ pub fn words_in(kind: u8, body: &[u8]) -> Words
             let n = word_at(body, 3);
             four(first, tag, n, word_at(body, 5))
         }
-        _ => four(first, word_at(body, 2), 0, 0),
+        0x1A => four(first, word_at(body, 2), 0, 0),
+        _ => quote_words(body),
+    }
+}
+
+// The words of the term of a kind with a body, read where its fields stand.
+pub fn words_in(kind: u8, body: &[u8]) -> Words
+    requires { ⌜ (sectionOf kind ≡ termSection) × (bodyLength kind ≤ length (now body)) ⌝ }
+    ensures { λ r. ⌜ r ≡ wordsOf (fieldsIn (termAt kind (now (body .entry)))) ⌝ }
+{
+    if kind == 0x1B {
+        four(body[0] as u16, 0, 0, 0)
+    } else {
+        long_words_in(kind, body)
     }
 }
 

@@ -1,4 +1,5 @@
 pub mod OfFamilies
 pub mod OfSubjects
 pub mod OfTogether
+pub mod OfRegisters
 pub mod OfStock

@@ -101,9 +101,9 @@ pub issuedAlready-holds : Holds issuedAlready
 unfolding result
 issuedAlready-holds = refl
 
--- A kind above 43, at byte 2.
+-- A kind above the last, at byte 2.
 abbrev pub unknownKind : Situation
-unknownKind = record { file = written (aDevice ∷ (0x44 ∷ []) ∷ []); gives = notLoaded 3 2 }
+unknownKind = record { file = written (aDevice ∷ (0x46 ∷ []) ∷ []); gives = notLoaded 3 2 }
 
 pub unknownKind-holds : Holds unknownKind
 unfolding result

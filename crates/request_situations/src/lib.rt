@@ -11,6 +11,14 @@ pub fn of_together() -> u64 {
     22
 }
 
+pub fn of_registers() -> u64 {
+    24
+}
+
+pub fn of_shown() -> u64 {
+    14
+}
+
 pub fn of_stock() -> u64 {
     14
 }

@@ -20,7 +20,7 @@ use Rattle.rules.proofs.Term as declared
 use Rattle.rules.specs.declared.Subject.{Subject}
 use Rattle.rules.specs.declared.Subject.the-variants.{Tpm, Device}
 use Rattle.rules.specs.declared.Term.{Term}
-use Rattle.rules.specs.declared.Term.the-variants.{PublicKey, PrivateKey, Hash, Signature, Attest, Credential, Number, IdevidRequest, LdevidRequest, Certificate, Pair}
+use Rattle.rules.specs.declared.Term.the-variants.{PublicKey, PrivateKey, Hash, Signature, Attest, Credential, Number, IdevidRequest, LdevidRequest, Certificate, Pair, Register, Quote}
 use Rattle.rules.specs.Term.{kindOf, fieldsIn, subjectFields, subjectOf, publicKeyKind, signatureKind, pairKind}
 use Rattle.rules.specs.File.{File, term, kind, isKind, field, message, idevidCertificate, idevidKey, certifiedKey, signer, leftOf, rightOf, subject}
 use Rattle.theorems.proofs.Loading.{Checked}
@@ -47,6 +47,8 @@ tag-kind (IdevidRequest s c k) = refl
 tag-kind (LdevidRequest t c) = refl
 tag-kind (Certificate k s p) = refl
 tag-kind (Pair t u) = refl
+tag-kind (Register i) = refl
+tag-kind (Quote i t n) = refl
 
 pub other-kind : (f : File) (t n : ℕ) (ks : List ℕ) {x : Term} → x ≡ term f t → T (not (hasKey ks n)) → OneOf ks (tagOf declared.the-type x) → kind f t ≡ publicKeyKind + n → ⊥
 unfolding kind

@@ -9,11 +9,11 @@ use Rattle.rules.specs.Attributes.{has, sameAttributes}
 use Rattle.rules.specs.Families.{familyOf}
 use Rattle.rules.specs.Term.{kindOf, subjectFields, fieldsIn, subjectOf, attributesOf, sameSubject, isDeviceSubject, isTpmSubject, sameList, alike, anyAlike, keyPair, partsOf}
 use Rattle.rules.specs.Record.{width, widths, sectionOf, fieldsOf, bodyLength, word, cut, pieces}
-use Rattle.rules.specs.File.{File, roleOf, isRole, term, kind, isKind, parts, field, hashedTerm, message, signingKey, attestedKey, credentialTerm, credentialNumber, credentialKey, idevidCertificate, idevidKey, ldevidMessage, ldevidCertificate, certifiedKey, signer, leftOf, rightOf, subject, attributes, paired, someTerm, halfIn, someSetup, isHold, isOtherHold, isSigningKey, isSigner, isSigningKeyFor, holdsKey, signsFor, signsForRole, signsForSome}
+use Rattle.rules.specs.File.{File, roleOf, isRole, term, kind, isKind, parts, field, hashedTerm, message, signingKey, attestedKey, credentialTerm, credentialNumber, credentialKey, idevidCertificate, idevidKey, ldevidMessage, ldevidCertificate, certifiedKey, signer, leftOf, rightOf, registerOf, quotedValue, quoteNumber, subject, attributes, paired, someTerm, halfIn, someSetup, isHold, isOtherHold, isSigningKey, isSigner, isSigningKeyFor, holdsKey, signsFor, signsForRole, signsForSome}
 use Rattle.rules.specs.Load.{Load, loaded, refused, first, refuseUnless, subjectAt, termAt, setupAt, emptyPair, pairsAt, commandAt, sectionFault, countFault, declaredFault, fieldFault, fieldsFault, alikeFault, mayLearn, mayHold, maySign, allowedFault, setupFault, recordFault, withParty, withTerm, withSetup, withCommand, enter, settle, step, feed, emptyFile, load, commandsOf}
 use Rattle.rules.specs.Learning.{grant, each, opened, learn}
-use Rattle.rules.specs.State.{State, credentialOpen, nothing, taught, start, put, listed, depthOf, parentOf, endOf, learnt, ticketed, opening, closing, entered}
-use Rattle.rules.specs.Device.{deviceRole, keyHas, holdsHalf, hashTests, hashEffect, signTests, certifyTests, makeCredentialTests, activateCredentialTests, bothKnownTests, mayBeSentByDesk, maySend, sendTests, selfIssueTests, checkRole, checkTests}
+use Rattle.rules.specs.State.{State, credentialOpen, nothing, taught, startingAt, startRegisters, start, put, listed, depthOf, parentOf, endOf, learnt, ticketed, opening, closing, entered, showing}
+use Rattle.rules.specs.Device.{deviceRole, keyHas, holdsHalf, hashTests, noTicket, hashEffect, signTests, certifyTests, makeCredentialTests, activateCredentialTests, bothKnownTests, mayBeSentByDesk, maySend, sendTests, selfIssueTests, checkRole, checkTests, extendTests, quoteTests}
 use Rattle.rules.specs.Desk.{requestBody, requestSignature, formTests, proofTests, knowers, numberTests, iakOf, ekCertificateOf, ekOf, challengeTests, challengeEffect, calledFor, endEk, allEndAt, issueIakTests, issueIakEffect, attestSignatureOf, newKeyOf, parentCertificateOf, issueTests, issueEffect, pairTests, certificatesOf, isAmong, anyTwice, issueIaksTests, issueIaksEffect}
 use Rattle.rules.specs.Run.{testsOf, effectOf, outcome, after, run, outcomes, firstCommands, reached, outcomesOf, zeros, others, accepted, refusals, issued}
 use Rattle.rules.specs.Limits.{commandLimit}
@@ -40,12 +40,12 @@ resultOf (refused number place) = notLoaded number place
 
 -- "unfolding result" opens the rules, loading and the listing with them
 unfoldable pub result : List ℕ → Result
-unfolding triples resultOf applies firstOf refusalOf has sameAttributes kindOf subjectFields fieldsIn subjectOf attributesOf sameSubject isDeviceSubject isTpmSubject sameList alike anyAlike keyPair partsOf width widths sectionOf fieldsOf bodyLength word cut pieces roleOf isRole term kind isKind parts field hashedTerm message signingKey attestedKey credentialTerm credentialNumber credentialKey idevidCertificate idevidKey ldevidMessage ldevidCertificate certifiedKey signer leftOf rightOf subject attributes paired someTerm halfIn someSetup isHold isOtherHold isSigningKey isSigner isSigningKeyFor holdsKey signsFor signsForRole signsForSome first refuseUnless subjectAt termAt setupAt familyOf emptyPair pairsAt commandAt sectionFault countFault declaredFault fieldFault fieldsFault alikeFault mayLearn mayHold maySign allowedFault setupFault recordFault withParty withTerm withSetup withCommand enter settle step feed emptyFile load commandsOf grant each opened learn nothing taught start put listed depthOf parentOf endOf learnt ticketed opening closing entered deviceRole keyHas holdsHalf hashTests hashEffect signTests certifyTests makeCredentialTests activateCredentialTests bothKnownTests mayBeSentByDesk maySend sendTests selfIssueTests checkRole checkTests requestBody requestSignature formTests proofTests knowers numberTests iakOf ekCertificateOf ekOf challengeTests challengeEffect calledFor endEk allEndAt issueIakTests issueIakEffect attestSignatureOf newKeyOf parentCertificateOf issueTests issueEffect pairTests certificatesOf isAmong anyTwice issueIaksTests issueIaksEffect testsOf effectOf outcome after run outcomes firstCommands reached outcomesOf zeros others accepted refusals issued digits decimal numbers line refusalLines entryLines lines listing
+unfolding triples resultOf applies firstOf refusalOf has sameAttributes kindOf subjectFields fieldsIn subjectOf attributesOf sameSubject isDeviceSubject isTpmSubject sameList alike anyAlike keyPair partsOf width widths sectionOf fieldsOf bodyLength word cut pieces roleOf isRole term kind isKind parts field hashedTerm message signingKey attestedKey credentialTerm credentialNumber credentialKey idevidCertificate idevidKey ldevidMessage ldevidCertificate certifiedKey signer leftOf rightOf registerOf quotedValue quoteNumber subject attributes paired someTerm halfIn someSetup isHold isOtherHold isSigningKey isSigner isSigningKeyFor holdsKey signsFor signsForRole signsForSome first refuseUnless subjectAt termAt setupAt familyOf emptyPair pairsAt commandAt sectionFault countFault declaredFault fieldFault fieldsFault alikeFault mayLearn mayHold maySign allowedFault setupFault recordFault withParty withTerm withSetup withCommand enter settle step feed emptyFile load commandsOf grant each opened learn nothing taught startingAt startRegisters start put listed depthOf parentOf endOf learnt ticketed opening closing entered showing deviceRole keyHas holdsHalf hashTests noTicket hashEffect signTests certifyTests makeCredentialTests activateCredentialTests bothKnownTests mayBeSentByDesk maySend sendTests selfIssueTests checkRole checkTests extendTests quoteTests requestBody requestSignature formTests proofTests knowers numberTests iakOf ekCertificateOf ekOf challengeTests challengeEffect calledFor endEk allEndAt issueIakTests issueIakEffect attestSignatureOf newKeyOf parentCertificateOf issueTests issueEffect pairTests certificatesOf isAmong anyTwice issueIaksTests issueIaksEffect testsOf effectOf outcome after run outcomes firstCommands reached outcomesOf zeros others accepted refusals issued digits decimal numbers line refusalLines entryLines lines listing
 result bytes = resultOf (load bytes)
 
 -- what the commands from place n on give where the ledger is another before them, a state that no file comes to
 unfoldable pub withLedger : State → List Entry → State
-withLedger s entries = record { knows = s .knows; table = s .table; mark = s .mark; desk = s .desk; request = s .request; ledger = entries }
+withLedger s entries = record { knows = s .knows; table = s .table; mark = s .mark; desk = s .desk; request = s .request; registers = s .registers; ledger = entries }
 
 unfoldable pub outcomesWith : List Entry → ℕ → Load → List ℕ
 outcomesWith entries n (loaded f) = outcomes f (drop n (commandsOf f)) (withLedger (reached f n) entries)
@@ -55,12 +55,12 @@ outcomesWith entries n (refused number place) = number ∷ []
 unfoldable pub outcomesKnowing : Load → List ℕ
 outcomesKnowing (loaded f) =
     outcomes f (commandsOf f)
-    (record { knows = λ p t. true; table = start f .table; mark = start f .mark; desk = start f .desk; request = start f .request; ledger = [] })
+    (record { knows = λ p t. true; table = start f .table; mark = start f .mark; desk = start f .desk; request = start f .request; registers = start f .registers; ledger = [] })
 outcomesKnowing (refused number place) = number ∷ []
 
 -- the same where besides every credential is open at party 0 with the request that stands before it: the outcomes and the ledger
 unfoldable pub allOpen : File → State
-allOpen f = record { knows = λ p t. true; table = start f .table; mark = λ t. credentialOpen; desk = λ t. 0; request = λ t. t - 1; ledger = [] }
+allOpen f = record { knows = λ p t. true; table = start f .table; mark = λ t. credentialOpen; desk = λ t. 0; request = λ t. t - 1; registers = start f .registers; ledger = [] }
 
 unfoldable pub resultOpen : Load → List ℕ × List (ℕ × ℕ × ℕ)
 resultOpen (loaded f) = (outcomes f (commandsOf f) (allOpen f), triples (run f (commandsOf f) (allOpen f) .ledger))
@@ -70,3 +70,8 @@ resultOpen (refused number place) = (number ∷ [], [])
 unfoldable pub boards : List ℕ → ℕ → ℕ → Answer
 unfolding asked inStock stockAmong stock boardsLeft
 boards bytes party iaks = asked (boardsLeft party iaks) commandLimit (load bytes)
+
+-- what a register of a party shows after the first n commands, the refusal where the file does not load
+unfoldable pub shownBy : ℕ → ℕ → ℕ → Load → ℕ
+shownBy n party i (loaded f) = reached f n .registers party i
+shownBy n party i (refused number place) = number

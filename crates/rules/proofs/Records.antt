@@ -81,6 +81,14 @@ certificate key subject signer = 0x19 ∷ (words (key ∷ []) ++ subject ++ word
 abbrev pub pair : ℕ → ℕ → Bytes
 pair t u = 0x1A ∷ words (t ∷ u ∷ [])
 
+-- register
+abbrev pub register : ℕ → Bytes
+register i = 0x1B ∷ i ∷ []
+
+-- register, value, number
+abbrev pub quoteBody : ℕ → ℕ → ℕ → Bytes
+quoteBody i value number = 0x1C ∷ i ∷ words (value ∷ number ∷ [])
+
 -- Set-up, 20 to 22: party, term.
 abbrev pub learns : ℕ → ℕ → Bytes
 learns p t = 0x20 ∷ p ∷ words (t ∷ [])
@@ -139,3 +147,11 @@ issueIaks desk returning pairs = 0x43 ∷ desk ∷ returning ∷ words pairs
 -- an empty pair
 abbrev pub noPair : List ℕ
 noPair = 0xFFFF ∷ 0xFFFF ∷ []
+
+-- 44: party, register, hash
+abbrev pub extend : ℕ → ℕ → ℕ → Bytes
+extend p i r = 0x44 ∷ p ∷ i ∷ words (r ∷ [])
+
+-- 45: party, signature of a quote body
+abbrev pub quote : ℕ → ℕ → Bytes
+quote p r = 0x45 ∷ p ∷ words (r ∷ [])

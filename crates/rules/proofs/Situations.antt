@@ -8,8 +8,8 @@ use Rattle.rules.specs.Load.{load}
 use Rattle.rules.specs.Lent.{Lent, success, refusal, longEnough, runLeaves, askAnswer}
 use Rattle.rules.specs.Stock.{stockAnswer, stockLeaves}
 use Rattle.rules.specs.Listing.{listing}
-use Rattle.rules.proofs.Computed.{Result, ran, notLoaded, result, withLedger, outcomesWith, outcomesKnowing, allOpen, resultOpen, boards}
-use Rattle.rules.proofs.Records.{Bytes, written, aDevice, aTpmMaker, anOemDesk, anOwnerDesk, tpm, device, publicKey, privateKey, hash, signature, attest, credential, number, idevidRequest, ldevidRequest, certificate, pair, learns, holds, signsWith, makeHash, sign, certify, makeCredential, activateCredential, makeIdevidRequest, makeLdevidRequest, makePair, send, challenge, issueIak, issue, issueIaks, noPair}
+use Rattle.rules.proofs.Computed.{Result, ran, notLoaded, result, withLedger, outcomesWith, outcomesKnowing, allOpen, resultOpen, boards, shownBy}
+use Rattle.rules.proofs.Records.{Bytes, written, aDevice, aTpmMaker, anOemDesk, anOwnerDesk, tpm, device, publicKey, privateKey, hash, signature, attest, credential, number, idevidRequest, ldevidRequest, certificate, pair, register, quoteBody, learns, holds, signsWith, makeHash, sign, certify, makeCredential, activateCredential, makeIdevidRequest, makeLdevidRequest, makePair, send, challenge, issueIak, issue, issueIaks, noPair, extend, quote}
 
 -- A file and what it gives.
 pub record Situation : Type 0 where
@@ -625,6 +625,112 @@ privateSigned-holds : Holds privateSigned
 unfolding result
 privateSigned-holds = refl
 
+-- Registers and quotes (request 6 of document 02). Parties: two devices and a desk. Terms: 0 the 1B of register 5, 1 a
+-- number, 2 and 3 the first device's key, 4 the other's; 5 the pair of 0 and 2, 6 its hash, which register 5 shows once
+-- extended; 7 the quote body of 6, signed by either in 8 and 9; 10 that of 0, signed by the other in 11; 12 the hash of
+-- 7, signed in 13; 14 a pair that names 6.
+abbrev attesting : List Bytes → Bytes
+attesting commands =
+    written
+    ((aDevice ∷ aDevice ∷ anOwnerDesk ∷ [])
+    ++ (register 5
+    ∷ number 9
+    ∷ publicKey 5 0x0B
+    ∷ privateKey 5 0x0B
+    ∷ privateKey 6 0x0B
+    ∷ pair 0 2
+    ∷ hash 5
+    ∷ quoteBody 5 6 1
+    ∷ signature 7 3
+    ∷ signature 7 4
+    ∷ quoteBody 5 0 1
+    ∷ signature 10 4
+    ∷ hash 7
+    ∷ signature 12 3
+    ∷ pair 6 2
+    ∷ [])
+    ++ (learns 0 1 ∷ learns 0 2 ∷ learns 1 1 ∷ holds 0 3 ∷ holds 1 4 ∷ [])
+    ++ commands)
+
+-- A quote of a value before the register shows it, and then.
+abbrev quotedBefore : Situation
+quotedBefore = record { file = attesting (quote 0 8 ∷ extend 0 5 6 ∷ quote 0 8 ∷ []); gives = ran (33 ∷ 0 ∷ 0 ∷ []) [] 2 1 0 }
+
+quotedBefore-holds : Holds quotedBefore
+unfolding result
+quotedBefore-holds = refl
+
+-- The same extension again: the old value is gone.
+abbrev extendedAgain : Situation
+extendedAgain = record { file = attesting (extend 0 5 6 ∷ extend 0 5 6 ∷ []); gives = ran (0 ∷ 33 ∷ []) [] 1 1 0 }
+
+extendedAgain-holds : Holds extendedAgain
+unfolding result
+extendedAgain-holds = refl
+
+-- The other device's register still shows its 1B.
+abbrev otherRegister : Situation
+otherRegister = record { file = attesting (extend 0 5 6 ∷ quote 1 9 ∷ quote 1 11 ∷ []); gives = ran (0 ∷ 33 ∷ 0 ∷ []) [] 2 1 0 }
+
+otherRegister-holds : Holds otherRegister
+unfolding result
+otherRegister-holds = refl
+
+-- An extension teaches nothing: a pair that names its r.
+abbrev notLearnt : Situation
+notLearnt = record { file = attesting (extend 0 5 6 ∷ makePair 0 14 ∷ []); gives = ran (0 ∷ 14 ∷ []) [] 1 1 0 }
+
+notLearnt-holds : Holds notLearnt
+unfolding result
+notLearnt-holds = refl
+
+-- Hash of a 1C signed by a Restricted key.
+abbrev quoteHashed : Situation
+quoteHashed = record { file = attesting (extend 0 5 6 ∷ quote 0 8 ∷ makeHash 0 12 ∷ sign 0 13 ∷ []); gives = ran (fine 3 (17 ∷ [])) [] 3 1 0 }
+
+quoteHashed-holds : Holds quoteHashed
+unfolding result
+quoteHashed-holds = refl
+
+-- 14 before 33: the other device does not know term 2, and register 4 is empty.
+abbrev unknownFirst : Situation
+unknownFirst = record { file = attesting (extend 1 4 6 ∷ []); gives = ran (14 ∷ []) [] 0 1 0 }
+
+unknownFirst-holds : Holds unknownFirst
+unfolding result
+unknownFirst-holds = refl
+
+-- A quote by a key that is not Restricted. Terms: 2 the key, 3 the quote body of the 1B, 4 signed by it.
+abbrev unrestrictedQuote : Situation
+unrestrictedQuote = record {
+  file =
+      written
+      (aDevice
+      ∷ register 5
+      ∷ number 9
+      ∷ privateKey 5 0x0A
+      ∷ quoteBody 5 0 1
+      ∷ signature 3 2
+      ∷ learns 0 1
+      ∷ holds 0 2
+      ∷ quote 0 4
+      ∷ []);
+  gives = ran (16 ∷ []) [] 0 1 0;
+}
+
+unrestrictedQuote-holds : Holds unrestrictedQuote
+unfolding result
+unrestrictedQuote-holds = refl
+
+-- What the registers of a device and of a desk show before the commands.
+device-starts : shownBy 0 0 5 (load (attesting [])) ≡ 0
+unfolding result shownBy
+device-starts = refl
+
+desk-shows-nothing : shownBy 0 2 5 (load (attesting [])) ≡ 0xFFFF
+unfolding result shownBy
+desk-shows-nothing = refl
+
 -- A desk that sends a number.
 abbrev deskSends : Situation
 deskSends = record { file = written (parties ++ terms ++ setup ++ (send oem dev theNumber ∷ [])); gives = ran (13 ∷ []) [] 0 1 0 }
@@ -685,7 +791,7 @@ stocked-gives = refl
 
 -- No buffers and no IAKs per board: 1 and not 39.
 unlent : Lent
-unlent = record { state = []; ledger = []; outcomes = [] }
+unlent = record { state = []; ledger = []; outcomes = []; registers = [] }
 
 unlent-refused : stockAnswer [] unlent 0 0 ≡ refusal 1 0
 unfolding unlent longEnough askAnswer stockAnswer

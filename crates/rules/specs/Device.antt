@@ -6,9 +6,10 @@ use Rattle.rules.specs.Limits.{device, oemDesk, ownerDesk}
 use Rattle.rules.specs.Refusals.{Test, need}
 use Rattle.rules.specs.Attributes as flag
 use Rattle.rules.specs.Attributes.{has}
-use Rattle.rules.specs.Term.{publicKeyKind, hashKind, attestKind, credentialKind, certificateKind}
-use Rattle.rules.specs.File.{File, isRole, isKind, hashedTerm, message, signingKey, attestedKey, credentialTerm, credentialNumber, credentialKey, certifiedKey, signer, attributes, halfIn}
+use Rattle.rules.specs.Term.{publicKeyKind, hashKind, attestKind, credentialKind, certificateKind, quoteKind}
+use Rattle.rules.specs.File.{File, isRole, isKind, hashedTerm, message, signingKey, attestedKey, credentialTerm, credentialNumber, credentialKey, certifiedKey, signer, leftOf, rightOf, registerOf, quotedValue, quoteNumber, attributes, halfIn}
 use Rattle.rules.specs.State.{State, learnt, ticketed}
+use lib.Dec.{eqb}
 
 -- "Device commands (role 0)"
 unfoldable pub deviceRole : File → ℕ → Test
@@ -26,9 +27,13 @@ holdsHalf f s p k = halfIn f (s .table p) k
 unfoldable pub hashTests : File → State → ℕ → ℕ → List Test
 hashTests f s p r = deviceRole f p ∷ need 14 (s .knows p (hashedTerm f r)) ∷ []
 
--- "r also enters the TPM table, unless the content is a 14"
+-- "unless the content is a 14"; "Hashing a 1C gives no ticket" (request 6 of document 02)
+unfoldable pub noTicket : File → ℕ → Bool
+noTicket f t = isKind f attestKind t || isKind f quoteKind t
+
+-- "r also enters the TPM table"
 unfoldable pub hashEffect : File → State → ℕ → ℕ → State
-hashEffect f s p r = cond (isKind f attestKind (hashedTerm f r)) (learnt f s p r) (ticketed (learnt f s p r) p r)
+hashEffect f s p r = cond (noTicket f (hashedTerm f r)) (learnt f s p r) (ticketed (learnt f s p r) p r)
 
 -- 31: "key held, Sign set. Restricted: the message is a 12 in this TPM's table. Otherwise it is known."
 unfoldable pub signTests : File → State → ℕ → ℕ → List Test
@@ -103,3 +108,23 @@ checkRole f p = need 13 (isRole f device p || isRole f oemDesk p || isRole f own
 
 unfoldable pub checkTests : File → State → ℕ → ℕ → ℕ → Bool → List Test
 checkTests f s p t u true-check = checkRole f p ∷ need 14 (s .knows p t) ∷ need 14 (s .knows p u) ∷ need 18 true-check ∷ []
+
+-- 44 (party, register, r a 12 over a pair of old value and t; request 6 of document 02): "needs t known and teaches the
+-- party nothing"
+unfoldable pub extendTests : File → State → ℕ → ℕ → ℕ → List Test
+extendTests f s p i r =
+    deviceRole f p
+    ∷ need 14 (s .knows p (rightOf f (hashedTerm f r)))
+    ∷ need 33 (eqb (s .registers p i) (leftOf f (hashedTerm f r)))
+    ∷ []
+
+-- 45 (party, r a 13 over a 1C): "needs the number known, the key held, Sign and Restricted"
+unfoldable pub quoteTests : File → State → ℕ → ℕ → List Test
+quoteTests f s p r =
+    deviceRole f p
+    ∷ need 14 (s .knows p (quoteNumber f (message f r)))
+    ∷ need 15 (s .table p (signingKey f r))
+    ∷ need 16 (keyHas f (signingKey f r) flag.sign)
+    ∷ need 16 (keyHas f (signingKey f r) flag.restricted)
+    ∷ need 33 (eqb (s .registers p (registerOf f (message f r))) (quotedValue f (message f r)))
+    ∷ []

@@ -22,8 +22,8 @@ pub record IakPair : Type 0 where
   pub credential : ℕ
   pub certificate : ℕ
 
--- A command, 30 to 43, with its fields in the order of its body; 40, 41 and 42 are one with the family of the certificate. The pairs of a 43 are
--- those that are not empty.
+-- A command, 30 to 45, with its fields in the order of its body; 40, 41 and 42 are one with the family of the
+-- certificate. The pairs of a 43 are those that are not empty.
 pub data Command : Type 0 where
   hash sign certify makeCredential activateCredential makeIdevidRequest makeLdevidRequest makePair : ℕ → ℕ → Command
   checkHash checkSignature checkCertificate checkAttributes send : ℕ → ℕ → ℕ → Command
@@ -32,6 +32,8 @@ pub data Command : Type 0 where
   issueIak : ℕ → ℕ → ℕ → ℕ → Command
   issue : Family → ℕ → ℕ → ℕ → Command
   issueIaks : ℕ → ℕ → List IakPair → Command
+  extend : ℕ → ℕ → ℕ → Command
+  quote : ℕ → ℕ → Command
 
 -- What the records so far declare. Section: that of the last record. Set-up records and commands: the latest first.
 pub record File : Type 0 where
@@ -121,6 +123,16 @@ leftOf f t = field f t 0
 
 unfoldable pub rightOf : File → ℕ → ℕ
 rightOf f t = field f t 1
+
+-- 1B: its register; 1C: its register, its value and its number
+unfoldable pub registerOf : File → ℕ → ℕ
+registerOf f t = field f t 0
+
+unfoldable pub quotedValue : File → ℕ → ℕ
+quotedValue f t = field f t 1
+
+unfoldable pub quoteNumber : File → ℕ → ℕ
+quoteNumber f t = field f t 2
 
 unfoldable pub subject : File → ℕ → Subject
 subject f t = subjectOf (term f t)

@@ -1,4 +1,5 @@
 -- What Run and Path answer, and what they leave in every lent place (document 01, "Run and Path", "When the desk says no").
+use mathlib.Core.Path.{_≡_}
 use mathlib.Core.Bool.{Bool, cond, _&&_}
 use mathlib.Core.List.{List, [], _∷_, _++_}
 use Prim.Native.Nat.{ℕ, zero, suc, _+_, _-_, _/_, _%_, _^_}
@@ -11,7 +12,7 @@ use Rattle.rules.specs.declared.RunAnswer.{RunAnswer}
 use Rattle.rules.specs.declared.RunAnswer.the-variants as ran
 use Rattle.rules.specs.declared.PathAnswer.{PathAnswer}
 use Rattle.rules.specs.declared.PathAnswer.the-variants as path
-use Rattle.rules.specs.Limits.{fileLimit, partyLimit, termLimit, commandLimit, stateBytes, pathPlaces}
+use Rattle.rules.specs.Limits.{fileLimit, partyLimit, termLimit, commandLimit, stateBytes, registerCount, registerBytes, pathPlaces}
 use Rattle.rules.specs.File.{File}
 use Rattle.rules.specs.Load.{Load, loaded, refused, load as loadFile}
 use Rattle.rules.specs.State.{State, start, listed, depthOf, parentOf}
@@ -47,6 +48,7 @@ pub record Lent : Type 0 where
   pub state : List ℕ
   pub ledger : List Entry
   pub outcomes : List ℕ
+  pub registers : List ℕ
 
 -- a byte of bits, bit p for party p, of the first n parties
 unfoldable pub bits : ℕ → (ℕ → Bool) → ℕ
@@ -71,6 +73,15 @@ unfoldable pub rows : State → ℕ → List ℕ → List ℕ
 rows s t [] = []
 rows s t (place ∷ places) = row s t place ++ rows s (suc t) places
 
+-- the bytes of n registers of a party from i on, two each, and those of n parties from p on (request 6 of document 02)
+unfoldable pub registerRow : (ℕ → ℕ) → ℕ → ℕ → List ℕ
+registerRow registers i zero = []
+registerRow registers i (suc n) = high (registers i) ∷ low (registers i) ∷ registerRow registers (suc i) n
+
+unfoldable pub registerRows : (ℕ → ℕ → ℕ) → ℕ → ℕ → List ℕ
+registerRows registers p zero = []
+registerRows registers p (suc n) = registerRow (registers p) 0 registerCount ++ registerRows registers (suc p) n
+
 -- a first part of n places, zero where nothing applies, and what lies beyond it
 unfoldable pub firstPart {ℓ} : {A : Type ℓ} → ℕ → A → List A → List A → List A
 firstPart n none new old = new ++ (replicate (n - length new) none ++ drop n old)
@@ -93,13 +104,21 @@ loadWritten state (refused number place) = firstPart stateBytes 0 [] state
 unfoldable pub loadLeaves : List ℕ → List ℕ → List ℕ
 loadLeaves bs state = cond (leb stateBytes (length state) && leb (length bs) fileLimit) (loadWritten state (loadFile bs)) state
 
-unfoldable pub written : List ℕ → List Entry → List ℕ → Lent → Lent
-written state ledger outcomes lent =
-    record { state = firstPart stateBytes 0 state (lent .state); ledger = firstPart termLimit noEntry ledger (lent .ledger); outcomes = firstPart commandLimit 0 outcomes (lent .outcomes) }
+-- the first parts of all buffers written
+unfoldable pub written : List ℕ → List Entry → List ℕ → List ℕ → Lent → Lent
+written state ledger outcomes registers lent =
+    record {
+      state = firstPart stateBytes 0 state (lent .state);
+      ledger = firstPart termLimit noEntry ledger (lent .ledger);
+      outcomes = firstPart commandLimit 0 outcomes (lent .outcomes);
+      registers = firstPart registerBytes 0 registers (lent .registers);
+    }
 
 -- 1: "buffer short"
 unfoldable pub longEnough : Lent → Bool
-longEnough lent = leb stateBytes (length (lent .state)) && leb termLimit (length (lent .ledger)) && leb commandLimit (length (lent .outcomes))
+longEnough lent =
+    leb stateBytes (length (lent .state)) && leb termLimit (length (lent .ledger)) && leb commandLimit (length (lent .outcomes))
+    && leb registerBytes (length (lent .registers))
 
 unfoldable pub answered : ℕ → Load → Answer
 answered n (loaded f) = success (accepted f n ∷ refusals f n ∷ issued f n ∷ [])
@@ -110,12 +129,17 @@ unfoldable pub runAnswer : List ℕ → ℕ → Lent → Answer
 runAnswer bs n lent = cond (longEnough lent) (answered n (loadFile bs)) (refusal 1 0)
 
 unfoldable pub leaves : ℕ → Lent → Load → Lent
-leaves n lent (loaded f) = written (rows (reached f n) 0 (f .places)) (reached f n .ledger) (outcomesOf f n) lent
-leaves n lent (refused number place) = written [] [] [] lent
+leaves n lent (loaded f) =
+    written (rows (reached f n) 0 (f .places)) (reached f n .ledger) (outcomesOf f n) (registerRows (reached f n .registers) 0 partyLimit) lent
+leaves n lent (refused number place) = written [] [] [] [] lent
 
 -- the buffers after Run: 1 and 2 leave all untouched, 3 to 12 the first parts zero
 unfoldable pub runLeaves : List ℕ → ℕ → Lent → Lent
 runLeaves bs n lent = cond (longEnough lent && leb (length bs) fileLimit) (leaves n lent (loadFile bs)) lent
+
+-- What a call answers and leaves, both by the buffers that were lent.
+abbrev pub Called : {A : Type 0} → (Lent → A) → (Lent → Lent) → Lent → Lent → A → Type 0
+Called answer leaves before after r = (r ≡ answer before) × (after ≡ leaves before)
 
 -- A call above Run (Path, and requests 9 and 11 to 14 of document 02): n commands are run, and of a file that loads something is asked, by the
 -- file and the state after them. Run's refusals come first; the buffers are left as Run leaves them, whatever is answered.

@@ -39,6 +39,17 @@ pairWidth = 4
 abbrev pub emptyField : ℕ
 emptyField = 0xFFFF
 
+-- registers of a device's TPM (request 6 of document 02); an empty one shows emptyField
+abbrev pub registerCount : ℕ
+registerCount = 24
+
+-- bytes of a party's registers, two each, and of those of all parties
+abbrev pub registerWidth : ℕ
+registerWidth = 2 * registerCount
+
+abbrev pub registerBytes : ℕ
+registerBytes = partyLimit * registerWidth
+
 -- roles of parties
 abbrev pub device : ℕ
 device = 0

@@ -7,15 +7,15 @@ use lib.ListN.{getD, length}
 use Rattle.rules.specs.declared.Subject.{Subject}
 use Rattle.rules.specs.declared.Subject.the-variants.{Tpm, Device}
 use Rattle.rules.specs.declared.Term.{Term}
-use Rattle.rules.specs.declared.Term.the-variants.{PublicKey, PrivateKey, Hash, Signature, Attest, Credential, Number, IdevidRequest, LdevidRequest, Certificate, Pair}
-use Rattle.rules.specs.Limits.{fileLimit, partyLimit, termLimit, pairCount, pairWidth, emptyField, roleCount, device, tpmMaker}
+use Rattle.rules.specs.declared.Term.the-variants.{PublicKey, PrivateKey, Hash, Signature, Attest, Credential, Number, IdevidRequest, LdevidRequest, Certificate, Pair, Register, Quote}
+use Rattle.rules.specs.Limits.{fileLimit, partyLimit, termLimit, pairCount, pairWidth, emptyField, registerCount, roleCount, device, tpmMaker}
 use Rattle.rules.specs.Attributes.{attributesLimit, fixedTpm, has, sameAttributes, deskKeyAttributes}
-use Rattle.rules.specs.Term.{publicKeyKind, privateKeyKind, hashKind, signatureKind, attestKind, credentialKind, numberKind, idevidRequestKind, ldevidRequestKind, certificateKind, anyAlike, isTpmSubject}
+use Rattle.rules.specs.Term.{publicKeyKind, privateKeyKind, hashKind, signatureKind, attestKind, credentialKind, numberKind, idevidRequestKind, ldevidRequestKind, certificateKind, pairKind, registerKind, quoteKind, anyAlike, isTpmSubject}
 use Rattle.rules.specs.Families.{familyOf}
 use Rattle.rules.specs.declared.Field.{Field}
-use Rattle.rules.specs.declared.Field.the-variants.{RoleField, IdentifierField, AttributesField, SubjectField, PartyField, AnyTerm, TermOf, SignedAttest, IakPairField}
+use Rattle.rules.specs.declared.Field.the-variants.{RoleField, IdentifierField, AttributesField, SubjectField, PartyField, AnyTerm, TermOf, SignedAttest, IakPairField, RegisterField, HashedPair, SignedQuote}
 use Rattle.rules.specs.Record.{width, fieldsOf, sectionOf, partySection, termSection, setupSection, word, Piece, whole, fault, pieces}
-use Rattle.rules.specs.File.{Setup, learns, holds, signsWith, Command, hash, sign, certify, makeCredential, activateCredential, makeIdevidRequest, makeLdevidRequest, makePair, checkHash, checkSignature, checkCertificate, checkAttributes, send, selfIssue, challenge, issueIak, issue, issueIaks, IakPair, File, isRole, isKind, message, subject, attributes, signer, someSetup, isOtherHold, isSigner, holdsKey, signsForRole}
+use Rattle.rules.specs.File.{Setup, learns, holds, signsWith, Command, hash, sign, certify, makeCredential, activateCredential, makeIdevidRequest, makeLdevidRequest, makePair, checkHash, checkSignature, checkCertificate, checkAttributes, send, selfIssue, challenge, issueIak, issue, issueIaks, extend, quote, IakPair, File, isRole, isKind, hashedTerm, message, subject, attributes, signer, someSetup, isOtherHold, isSigner, holdsKey, signsForRole}
 
 -- the first of two refusals, where 0 is none
 unfoldable pub first : ℕ → ℕ → ℕ
@@ -41,7 +41,9 @@ termAt k bs =
     (cond (eqb k idevidRequestKind) (IdevidRequest (subjectAt bs 0) (word bs 3) (word bs 5))
     (cond (eqb k ldevidRequestKind) (LdevidRequest (word bs 0) (word bs 2))
     (cond (eqb k certificateKind) (Certificate (word bs 0) (subjectAt bs 2) (word bs 5))
-    (Pair (word bs 0) (word bs 2)))))))))))
+    (cond (eqb k pairKind) (Pair (word bs 0) (word bs 2))
+    (cond (eqb k registerKind) (Register (getD bs 0 0))
+    (Quote (getD bs 0 0) (word bs 1) (word bs 3)))))))))))))
 
 -- the set-up record of a kind with a body
 unfoldable pub setupAt : ℕ → List ℕ → Setup
@@ -81,7 +83,9 @@ commandAt k bs =
     (cond (eqb k 0x3E) (challenge (getD bs 0 0) (word bs 1) (word bs 3))
     (cond (eqb k 0x3F) (issueIak (getD bs 0 0) (getD bs 1 0) (word bs 2) (word bs 4))
     (cond (eqb k 0x43) (issueIaks (getD bs 0 0) (getD bs 1 0) (pairsAt pairCount bs 2))
-    (issue (familyOf k) (getD bs 0 0) (word bs 1) (word bs 3))))))))))))))))))
+    (cond (eqb k 0x44) (extend (getD bs 0 0) (getD bs 1 0) (word bs 2))
+    (cond (eqb k 0x45) (quote (getD bs 0 0) (word bs 1))
+    (issue (familyOf k) (getD bs 0 0) (word bs 1) (word bs 3))))))))))))))))))))
 
 -- 5: a section goes before one that has begun
 unfoldable pub sectionFault : File → ℕ → ℕ
@@ -102,6 +106,10 @@ declaredFault f t = refuseUnless 7 (ltb t (length (f .terms)))
 abbrev pub kindFault : File → ℕ → ℕ → ℕ
 kindFault f k t = first (declaredFault f t) (refuseUnless 8 (isKind f k t))
 
+-- a term of one kind over a term of another
+abbrev pub overFault : File → ℕ → ℕ → ℕ → ℕ → ℕ
+overFault f outer t inner u = first (declaredFault f t) (first (refuseUnless 8 (isKind f outer t)) (refuseUnless 8 (isKind f inner u)))
+
 -- 7, 8: what is wrong with a field at a place of a body
 unfoldable pub fieldFault : File → Field → ℕ → List ℕ → ℕ
 fieldFault f RoleField i bs = refuseUnless 7 (ltb (getD bs i 0) roleCount)
@@ -111,11 +119,11 @@ fieldFault f SubjectField i bs = refuseUnless 7 (ltb (getD bs i 0) 2)
 fieldFault f PartyField i bs = refuseUnless 7 (ltb (getD bs i 0) (length (f .roles)))
 fieldFault f AnyTerm i bs = declaredFault f (word bs i)
 fieldFault f (TermOf k) i bs = kindFault f k (word bs i)
-fieldFault f SignedAttest i bs =
-    first (declaredFault f (word bs i))
-    (first (refuseUnless 8 (isKind f signatureKind (word bs i)))
-    (refuseUnless 8 (isKind f attestKind (message f (word bs i)))))
+fieldFault f SignedAttest i bs = overFault f signatureKind (word bs i) attestKind (message f (word bs i))
 fieldFault f IakPairField i bs = cond (emptyPair bs i) 0 (first (kindFault f credentialKind (word bs i)) (kindFault f certificateKind (word bs (i + 2))))
+fieldFault f RegisterField i bs = refuseUnless 7 (ltb (getD bs i 0) registerCount)
+fieldFault f HashedPair i bs = overFault f hashKind (word bs i) pairKind (hashedTerm f (word bs i))
+fieldFault f SignedQuote i bs = overFault f signatureKind (word bs i) quoteKind (message f (word bs i))
 
 -- the fields in their order
 unfoldable pub fieldsFault : File → List Field → ℕ → List ℕ → ℕ

@@ -5,7 +5,7 @@ use Prim.Native.Nat.{ℕ, zero, suc, _+_, _*_, _-_}
 use lib.Dec.{eqb, ltb, leb}
 use lib.ListN.{getD, length, take, drop, replicate}
 use Rattle.rules.specs.declared.Field.{Field}
-use Rattle.rules.specs.declared.Field.the-variants.{RoleField, IdentifierField, AttributesField, SubjectField, PartyField, AnyTerm, TermOf, SignedAttest, IakPairField}
+use Rattle.rules.specs.declared.Field.the-variants.{RoleField, IdentifierField, AttributesField, SubjectField, PartyField, AnyTerm, TermOf, SignedAttest, IakPairField, RegisterField, HashedPair, SignedQuote}
 use Rattle.rules.specs.Limits.{pairCount, pairWidth}
 use Rattle.rules.specs.Term.{publicKeyKind, privateKeyKind, hashKind, signatureKind, credentialKind, numberKind, idevidRequestKind, ldevidRequestKind, certificateKind, pairKind}
 
@@ -20,6 +20,9 @@ width AnyTerm = 2
 width (TermOf k) = 2
 width SignedAttest = 2
 width IakPairField = pairWidth
+width RegisterField = 1
+width HashedPair = 2
+width SignedQuote = 2
 
 unfoldable pub widths : List Field → ℕ
 widths [] = 0
@@ -40,21 +43,21 @@ commandSection = 4
 
 -- the last kind of the last section; the kinds from 00 to it
 abbrev pub lastKind : ℕ
-lastKind = 0x43
+lastKind = 0x45
 
 abbrev pub kindCount : ℕ
 kindCount = lastKind + 1
 
--- the section of a kind: 01, 10 to 1A, 20 to 22, 30 to 43
+-- the section of a kind: 01, 10 to 1C, 20 to 22, 30 to 45
 unfoldable pub sectionOf : ℕ → ℕ
 sectionOf k =
     cond (eqb k 0x01) partySection
-    (cond (leb 0x10 k && leb k 0x1A) termSection
+    (cond (leb 0x10 k && leb k 0x1C) termSection
     (cond (leb 0x20 k && leb k 0x22) setupSection
     (cond (leb 0x30 k && leb k lastKind) commandSection
     0)))
 
--- 10 to 1A
+-- 10 to 1C
 termRows : List (List Field)
 termRows =
     (IdentifierField ∷ AttributesField ∷ [])
@@ -68,13 +71,15 @@ termRows =
     ∷ (AnyTerm ∷ TermOf certificateKind ∷ [])
     ∷ (TermOf publicKeyKind ∷ SubjectField ∷ TermOf privateKeyKind ∷ [])
     ∷ (AnyTerm ∷ AnyTerm ∷ [])
+    ∷ (RegisterField ∷ [])
+    ∷ (RegisterField ∷ AnyTerm ∷ TermOf numberKind ∷ [])
     ∷ []
 
 -- 20 to 22
 setupRows : List (List Field)
 setupRows = (PartyField ∷ AnyTerm ∷ []) ∷ (PartyField ∷ TermOf privateKeyKind ∷ []) ∷ (PartyField ∷ TermOf privateKeyKind ∷ []) ∷ []
 
--- 30 to 43
+-- 30 to 45
 commandRows : List (List Field)
 commandRows =
     (PartyField ∷ TermOf hashKind ∷ [])
@@ -97,6 +102,8 @@ commandRows =
     ∷ (PartyField ∷ AnyTerm ∷ TermOf certificateKind ∷ [])
     ∷ (PartyField ∷ AnyTerm ∷ TermOf certificateKind ∷ [])
     ∷ (PartyField ∷ PartyField ∷ replicate pairCount IakPairField)
+    ∷ (PartyField ∷ RegisterField ∷ HashedPair ∷ [])
+    ∷ (PartyField ∷ SignedQuote ∷ [])
     ∷ []
 
 -- the fields of a kind's body

@@ -6,10 +6,10 @@ use lib.Dec.{eqb}
 use lib.ListN.{length, take}
 use Rattle.rules.specs.Refusals.{Test, refusalOf}
 use Rattle.rules.specs.Attributes.{sameAttributes}
-use Rattle.rules.specs.File.{File, Command, hash, sign, certify, makeCredential, activateCredential, makeIdevidRequest, makeLdevidRequest, makePair, checkHash, checkSignature, checkCertificate, checkAttributes, send, selfIssue, challenge, issueIak, issue, issueIaks, hashedTerm, signingKey, credentialNumber, idevidCertificate, idevidKey, ldevidMessage, ldevidCertificate, leftOf, rightOf, signer, attributes, paired}
+use Rattle.rules.specs.File.{File, Command, hash, sign, certify, makeCredential, activateCredential, makeIdevidRequest, makeLdevidRequest, makePair, checkHash, checkSignature, checkCertificate, checkAttributes, send, selfIssue, challenge, issueIak, issue, issueIaks, extend, quote, hashedTerm, signingKey, credentialNumber, idevidCertificate, idevidKey, ldevidMessage, ldevidCertificate, leftOf, rightOf, signer, attributes, paired}
 use Rattle.rules.specs.Load.{commandsOf}
-use Rattle.rules.specs.State.{State, start, learnt}
-use Rattle.rules.specs.Device.{hashTests, hashEffect, signTests, certifyTests, makeCredentialTests, activateCredentialTests, bothKnownTests, sendTests, selfIssueTests, checkTests}
+use Rattle.rules.specs.State.{State, start, learnt, showing}
+use Rattle.rules.specs.Device.{hashTests, hashEffect, signTests, certifyTests, makeCredentialTests, activateCredentialTests, bothKnownTests, sendTests, selfIssueTests, checkTests, extendTests, quoteTests}
 use Rattle.rules.specs.Desk.{challengeTests, challengeEffect, issueIakTests, issueIakEffect, issueTests, issueEffect, issueIaksTests, issueIaksEffect}
 
 -- what a command has to pass
@@ -32,6 +32,8 @@ testsOf f s (challenge p q r) = challengeTests f s p q r
 testsOf f s (issueIak p q c r) = issueIakTests f s p q c r
 testsOf f s (issue family p q r) = issueTests f s family p q r
 testsOf f s (issueIaks p q xs) = issueIaksTests f s p q xs
+testsOf f s (extend p i r) = extendTests f s p i r
+testsOf f s (quote p r) = quoteTests f s p r
 
 -- what an accepted command leaves: "The party learns r unless said."
 unfoldable pub effectOf : File → State → Command → State
@@ -53,6 +55,8 @@ effectOf f s (challenge p q r) = challengeEffect f s p q r
 effectOf f s (issueIak p q c r) = issueIakEffect f s p q c r
 effectOf f s (issue family p q r) = issueEffect f s p q r
 effectOf f s (issueIaks p q xs) = issueIaksEffect f s p q xs
+effectOf f s (extend p i r) = showing s p i r
+effectOf f s (quote p r) = learnt f s p r
 
 -- a command's outcome: 0, or the refusal
 unfoldable pub outcome : File → State → Command → ℕ

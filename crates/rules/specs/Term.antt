@@ -7,7 +7,7 @@ use Rattle.rules.specs.declared.Attributes.{Attributes}
 use Rattle.rules.specs.declared.Subject.{Subject}
 use Rattle.rules.specs.declared.Subject.the-variants.{Tpm, Device}
 use Rattle.rules.specs.declared.Term.{Term}
-use Rattle.rules.specs.declared.Term.the-variants.{PublicKey, PrivateKey, Hash, Signature, Attest, Credential, Number, IdevidRequest, LdevidRequest, Certificate, Pair}
+use Rattle.rules.specs.declared.Term.the-variants.{PublicKey, PrivateKey, Hash, Signature, Attest, Credential, Number, IdevidRequest, LdevidRequest, Certificate, Pair, Register, Quote}
 use Rattle.rules.specs.Attributes.{noAttributes}
 
 -- kinds of terms
@@ -44,6 +44,12 @@ certificateKind = 0x19
 abbrev pub pairKind : ℕ
 pairKind = 0x1A
 
+abbrev pub registerKind : ℕ
+registerKind = 0x1B
+
+abbrev pub quoteKind : ℕ
+quoteKind = 0x1C
+
 unfoldable pub kindOf : Term → ℕ
 kindOf (PublicKey id a) = publicKeyKind
 kindOf (PrivateKey id a) = privateKeyKind
@@ -56,6 +62,8 @@ kindOf (IdevidRequest s c k) = idevidRequestKind
 kindOf (LdevidRequest t c) = ldevidRequestKind
 kindOf (Certificate k s p) = certificateKind
 kindOf (Pair t u) = pairKind
+kindOf (Register i) = registerKind
+kindOf (Quote i t n) = quoteKind
 
 -- "A Subject is one of two things, a TPM or a device: a byte 0 or 1, then a two-byte number."
 unfoldable pub subjectFields : Subject → List ℕ → List ℕ
@@ -75,6 +83,8 @@ fieldsIn (IdevidRequest s c k) = subjectFields s (c ∷ k ∷ [])
 fieldsIn (LdevidRequest t c) = t ∷ c ∷ []
 fieldsIn (Certificate k s p) = k ∷ subjectFields s (p ∷ [])
 fieldsIn (Pair t u) = t ∷ u ∷ []
+fieldsIn (Register i) = i ∷ []
+fieldsIn (Quote i t n) = i ∷ t ∷ n ∷ []
 
 -- the Subject of a request or a certificate
 unfoldable pub subjectOf : Term → Subject
@@ -89,6 +99,8 @@ subjectOf (IdevidRequest s c k) = s
 subjectOf (LdevidRequest t c) = Tpm 0
 subjectOf (Certificate k s p) = s
 subjectOf (Pair t u) = Tpm 0
+subjectOf (Register i) = Tpm 0
+subjectOf (Quote i t n) = Tpm 0
 
 -- the attributes of a key
 unfoldable pub attributesOf : Term → Attributes
@@ -103,6 +115,8 @@ attributesOf (IdevidRequest s c k) = noAttributes
 attributesOf (LdevidRequest t c) = noAttributes
 attributesOf (Certificate k s p) = noAttributes
 attributesOf (Pair t u) = noAttributes
+attributesOf (Register i) = noAttributes
+attributesOf (Quote i t n) = noAttributes
 
 unfoldable pub sameSubject : Subject → Subject → Bool
 sameSubject (Tpm m) (Tpm n) = eqb m n
@@ -136,7 +150,8 @@ anyAlike t (u ∷ us) = alike t u || anyAlike t us
 unfoldable pub keyPair : Term → Term → Bool
 keyPair a b = eqb (kindOf a) publicKeyKind && eqb (kindOf b) privateKeyKind && sameList (fieldsIn a) (fieldsIn b)
 
--- "Parts: 13 has its message; 14 and 19 the public key; 17 certificate and key; 18 and 1A both; others none."
+-- "Parts: 13 has its message; 14 and 19 the public key; 17 certificate and key; 18 and 1A both; others none."; a 1C has
+-- value and number (request 6 of document 02)
 unfoldable pub partsOf : Term → List ℕ
 partsOf (PublicKey id a) = []
 partsOf (PrivateKey id a) = []
@@ -149,6 +164,8 @@ partsOf (IdevidRequest s c k) = c ∷ k ∷ []
 partsOf (LdevidRequest t c) = t ∷ c ∷ []
 partsOf (Certificate k s p) = k ∷ []
 partsOf (Pair t u) = t ∷ u ∷ []
+partsOf (Register i) = []
+partsOf (Quote i t n) = t ∷ n ∷ []
 
 -- the terms that a term names, in the order of its body
 unfoldable pub namesOf : Term → List ℕ
@@ -163,3 +180,5 @@ namesOf (IdevidRequest s c k) = c ∷ k ∷ []
 namesOf (LdevidRequest t c) = t ∷ c ∷ []
 namesOf (Certificate k s p) = k ∷ p ∷ []
 namesOf (Pair t u) = t ∷ u ∷ []
+namesOf (Register i) = []
+namesOf (Quote i t n) = t ∷ n ∷ []

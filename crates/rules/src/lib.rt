@@ -22,8 +22,15 @@ pub const DEPTH_LIMIT: u16 = 8;
 
 pub const PATH_PLACES: usize = 9;
 
+// Registers of a device's TPM, bytes of a party's registers, and of those of all parties.
+pub const REGISTER_COUNT: usize = 24;
+
+pub const REGISTER_WIDTH: usize = 2 * REGISTER_COUNT;
+
+pub const REGISTER_BYTES: usize = PARTY_LIMIT * REGISTER_WIDTH;
+
 // The last kind of the last section, and the kinds from 00 to it.
-pub const LAST_KIND: usize = 0x43;
+pub const LAST_KIND: usize = 0x45;
 
 pub const KIND_COUNT: usize = LAST_KIND + 1;
 
@@ -171,6 +178,8 @@ pub enum Term {
     LdevidRequest(u16, u16),
     Certificate(u16, Subject, u16),
     Pair(u16, u16),
+    Register(u8),
+    Quote(u8, u16, u16),
 }
 
 pub fn kind_of(t: Term) -> u8
@@ -188,6 +197,8 @@ pub fn kind_of(t: Term) -> u8
         Term::LdevidRequest(_, _) => 0x18,
         Term::Certificate(_, _, _) => 0x19,
         Term::Pair(_, _) => 0x1A,
+        Term::Register(_) => 0x1B,
+        Term::Quote(_, _, _) => 0x1C,
     }
 }
 
@@ -219,6 +230,10 @@ pub enum Field {
     SignedAttest,
     // A credential and a certificate, or an empty pair.
     IakPairField,
+    RegisterField,
+    // A hash of a pair; a signature over a quote body.
+    HashedPair,
+    SignedQuote,
 }
 
 // A line of the ledger: an issued certificate, its parent and how many steps lead to an endorsement certificate.

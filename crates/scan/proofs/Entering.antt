@@ -18,9 +18,9 @@ use borrow.Author.Tests.{eqb-true, eqb-false, eq-eqb, ne-eqb, ltb-true, leb-true
 use Rattle.rules.specs.declared.Term.{Term}
 use Rattle.rules.specs.declared.Term.the-variants.{Hash}
 use Rattle.rules.specs.Limits.{fileLimit, partyLimit, termLimit, rowWidth, stateBytes, roleCount}
-use Rattle.rules.specs.Term.{partsOf}
+use Rattle.rules.specs.Term.{hashKind, fieldsIn, partsOf, namesOf}
 use Rattle.rules.specs.Record.{lastKind, width, widths, fieldsOf, sectionOf, bodyLength, word, partySection, termSection, setupSection, commandSection}
-use Rattle.rules.specs.File.{File, Setup, learns, holds, signsWith, Command, term, parts, roleOf, holdsKey, someSetup, isHold}
+use Rattle.rules.specs.File.{File, Setup, learns, holds, signsWith, Command, term, parts, names, roleOf, holdsKey, someSetup, isHold}
 use Rattle.rules.specs.Load.{termAt, setupAt, commandAt, sectionFault, countFault, fieldsFault, recordFault, withParty, withTerm, withSetup, withCommand, enter, emptyFile}
 use Rattle.rules.specs.Learning.{grant, each, opened, learn}
 use Rattle.rules.specs.State.{nothing, taught, put}
@@ -32,7 +32,7 @@ use Rattle.theorems.proofs.Pieces.{bodyAt, body-length}
 use Rattle.theorems.proofs.Terms.{declared}
 use Rattle.state.specs.View.{Columns, view, withKnows, withTable, withPlace}
 use Rattle.state.proofs.Exact.{view-zero}
-use Rattle.learning.specs.There.{termThere, TermRecord, partsThere, learnThere}
+use Rattle.learning.specs.There.{kindThere, termThere, TermRecord, partsThere, learnThere}
 use Rattle.learning.proofs.Opening.{opened-same}
 use Rattle.checks.specs.There.{roleThere, TermsThere}
 use Rattle.setup.specs.Allowed.{noKey, setupLeaves, signersLeave}
@@ -90,7 +90,7 @@ empty-of m bs s signers clear l room unsigned =
       partiesWhole = (omega arith);
       partiesFirst = λ h. refl;
       role = λ p h. absurd (omega arith);
-      there = record { few = (omega arith); room = (omega arith); whole = λ t h. absurd (omega arith); lower = λ t u h. absurd (omega arith) };
+      there = record { few = (omega arith); room = (omega arith); whole = λ t h. absurd (omega arith); lower = λ t u h. absurd (omega arith); hashed = λ t h. absurd (omega arith) };
       termIs = λ t h. absurd (omega arith);
       place = λ t h. absurd (omega arith);
       placeBeyond = λ t h. ap (λ (c : Columns). c .place t) v;
@@ -113,6 +113,7 @@ there-kept bs s s′ n l e d = record {
   room = (omega (arith, d .room));
   whole = λ t h. subst (λ (c : ℕ → ℕ). TermRecord bs (c t)) e (d .whole t h);
   lower = λ t u h m. d .lower t u h (subst⁻¹ (λ (c : ℕ → ℕ). List·Memᴰ u (partsThere bs c t)) e m);
+  hashed = λ t h. subst (λ (c : ℕ → ℕ). kindThere bs (c t) ≡ hashKind → getD (fieldsIn (termThere bs (c t))) 0 0 < t) e (d .hashed t h);
 }
 
 -- the columns but knows and table
@@ -281,6 +282,11 @@ put-other : (c : ℕ → ℕ) (t x u : ℕ) → (u ≡ t → ⊥) → put c t x 
 unfolding put
 put-other c t x u e = rw (ne-eqb u t e) refl
 
+-- what a hash is of is among the terms that it names
+hash-names : (bs : List ℕ) (at : ℕ) → kindThere bs at ≡ hashKind → List·Memᴰ (getD (fieldsIn (termThere bs at)) 0 0) (namesOf (termThere bs at))
+unfolding termThere termAt fieldsIn namesOf
+hash-names bs at e = rw e (List·Memᴰ·head refl)
+
 -- a term record
 module _ (f : File) (bs s s′ signers signers′ : List ℕ) (n : Tally) (at : ℕ) (d : Describes f bs s signers n at) (size : length s′ ≡ length s)
     (first : at < length bs) (isTerm : sectionOf (getD bs at 0) ≡ termSection) (rest : at + 1 + bodyLength (getD bs at 0) ≤ length bs)
@@ -326,12 +332,13 @@ module _ (f : File) (bs s s′ signers signers′ : List ℕ) (n : Tally) (at : 
   few-terms = subst (λ (x : ℕ). x ≤ termLimit) more-terms (c′ .fewTerms)
 
   there-next : TermsThere bs s′ (n .terms + 1)
-  unfolding partsThere parts
+  unfolding partsThere parts names withTerm
   there-next = record {
     few = few-terms;
     room = (omega (arith, d .there .room));
     whole = λ t h. whole-go t h (decLt t (n .terms));
     lower = λ t u h m. c′ .lower t u (subst (λ (x : Term). List·Memᴰ u (partsOf x)) (term-is t h) m);
+    hashed = λ t h k. subst⁻¹ (λ (x : Term). getD (fieldsIn x) 0 0 < t) (term-is t h) (c′ .namesLower t _ (rw more-terms (omega arith)) (subst (λ (x : Term). List·Memᴰ (getD (fieldsIn x) 0 0) (namesOf x)) (term-is t h) (hash-names bs (view s′ .place t) k)));
   }
 
   knows-next : view s′ .knows ≡ taught after-term (f .setup)
@@ -375,7 +382,7 @@ section-go false false false false = omega arith
 
 last-section : (k : ℕ) → sectionOf k ≤ commandSection
 unfolding sectionOf
-last-section k = section-go (eqb k 1) (leb 0x10 k && leb k 0x1A) (leb 0x20 k && leb k 0x22) (leb 0x30 k && leb k lastKind)
+last-section k = section-go (eqb k 1) (leb 0x10 k && leb k 0x1C) (leb 0x20 k && leb k 0x22) (leb 0x30 k && leb k lastKind)
 
 section-right : (f : File) (k : ℕ) → sectionFault f k ≡ 0 → f .section ≤ sectionOf k
 unfolding sectionFault
@@ -448,7 +455,7 @@ each-named f body = ((λ h. (h .0, h .1 .0)), ((λ h. (h .0, h .1 .0 .0)), ((λ 
 named : (f : File) (body : List ℕ) (k : ℕ) → sectionOf k ≡ setupSection → fieldsFault f (fieldsOf k) 0 body ≡ 0 → (getD body 0 0 < length (f .roles)) × (word body 1 < length (f .terms))
 unfolding sectionOf
 named f body k e none =
-    let r = within 0x20 k 0x22 (third (eqb k 1) (leb 0x10 k && leb k 0x1A) _ (leb 0x30 k && leb k lastKind) e) in
+    let r = within 0x20 k 0x22 (third (eqb k 1) (leb 0x10 k && leb k 0x1C) _ (leb 0x30 k && leb k lastKind) e) in
     fields.each (Named f body) 3 0x20 (each-named f body) k (r .0) (omega arith) (passed f body (fieldsOf k) 0 none)
 
 room-for-term : (f : File) (k : ℕ) → countFault f k ≡ 0 → sectionOf k ≡ termSection → length (f .terms) < termLimit

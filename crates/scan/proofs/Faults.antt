@@ -17,21 +17,21 @@ use lib.ListN.{length, getD, drop}
 use lib.Seq.{drop-cons}
 use borrow.Author.Tests.{ltb-true, ltb-false, eqb-true, eqb-false, eq-eqb, ne-eqb, lt-leb, le-leb}
 use Rattle.rules.specs.declared.Field.{Field}
-use Rattle.rules.specs.declared.Field.the-variants.{RoleField, IdentifierField, AttributesField, SubjectField, PartyField, AnyTerm, TermOf, SignedAttest, IakPairField}
+use Rattle.rules.specs.declared.Field.the-variants.{RoleField, IdentifierField, AttributesField, SubjectField, PartyField, AnyTerm, TermOf, SignedAttest, IakPairField, RegisterField, HashedPair, SignedQuote}
 use Rattle.rules.specs.declared.Term.{Term}
 use Rattle.rules.specs.declared.Term.the-variants.{Hash}
 use Rattle.rules.specs.Limits.{partyLimit, tpmMaker}
 use Rattle.rules.specs.Attributes.{has, fixedTpm}
-use Rattle.rules.specs.Term.{publicKeyKind, privateKeyKind, signatureKind, credentialKind, numberKind, certificateKind, kindOf, fieldsIn, attributesOf, alike, anyAlike}
+use Rattle.rules.specs.Term.{publicKeyKind, privateKeyKind, hashKind, signatureKind, attestKind, pairKind, quoteKind, credentialKind, numberKind, certificateKind, kindOf, fieldsIn, attributesOf, alike, anyAlike}
 use Rattle.rules.specs.Record.{width, fieldsOf, sectionOf, bodyLength, termSection, setupSection, word}
-use Rattle.rules.specs.File.{File, Setup, learns, holds, signsWith, isRole, term, kind, isKind, field, message, signer, subject, attributes, parts, someSetup, isOtherHold, isSigner, isSigningKeyFor, holdsKey, signsForRole}
+use Rattle.rules.specs.File.{File, Setup, learns, holds, signsWith, isRole, term, kind, isKind, field, hashedTerm, message, signer, subject, attributes, parts, someSetup, isOtherHold, isSigner, isSigningKeyFor, holdsKey, signsForRole}
 use Rattle.rules.specs.Load.{first, refuseUnless, termAt, setupAt, emptyPair, sectionFault, countFault, declaredFault, kindFault, fieldFault, fieldsFault, alikeFault, mayLearn, mayHold, maySign, allowedFault, setupFault, recordFault, enter, loaded, refused, feed}
 use Rattle.records.proofs.Keys.{term-kind}
 use Rattle.state.specs.View.{view, inOther}
 use Rattle.tables.specs.Regions.{Terms, fieldOf}
 use Rattle.learning.specs.There.{termThere}
 use Rattle.learning.specs.Noted.{Noted}
-use Rattle.checks.specs.There.{headFault, roleThere, kindFaultNoted, fieldFaultNoted, anyAlikeThere}
+use Rattle.checks.specs.There.{headFault, roleThere, kindFaultNoted, innerFaultNoted, fieldFaultNoted, anyAlikeThere}
 use Rattle.setup.specs.Allowed.{noKey, signsThere, mayLearnThere, mayHoldThere, maySignThere, allowedThere}
 use Rattle.theorems.proofs.LoadingFields.{SetupFields, first-zero, setup-passed}
 use Rattle.theorems.proofs.Loading.{Checked, Good, good-checked}
@@ -226,6 +226,14 @@ module _ (f : File) (bs s signers : List ℕ) (n : Tally) (at : ℕ) (d : Descri
       let m : List·Memᴰ (message f t) (parts f t) = rw (parts-signature f t e) (List·Memᴰ·head refl) in
       omega (arith, good-checked f g .lower t (message f t) m)
 
+  -- and so is what a declared hash is of
+  hashed-declared : (t : ℕ) → t < n .terms → kind f t ≡ hashKind → hashedTerm f t < n .terms
+  unfolding hashedTerm field
+  hashed-declared t h e =
+      let l = d .there .hashed t h (kind-same t h ∙ e) in
+      let u : getD (fieldsIn (termThere bs (view s .place t))) 0 0 ≡ getD (fieldsIn (term f t)) 0 0 = ap (λ (x : Term). getD (fieldsIn x) 0 0) (d .termIs t h) in
+      omega arith
+
   declared-below : (t : ℕ) → ltb t (length (f .terms)) ≡ true → t < n .terms
   declared-below t h = omega (arith, ltb-true t (length (f .terms)) h)
 
@@ -237,16 +245,26 @@ module _ (f : File) (bs s signers : List ℕ) (n : Tally) (at : ℕ) (d : Descri
     kind-noted : (t : ℕ) → t < n .terms → v .kind t ≡ kind f t
     kind-noted t h = noted .kinds t h ∙ kind-same t h
 
-    message-noted : (t : ℕ) → t < n .terms → fieldOf v t 0 ≡ message f t
-    unfolding message field
-    message-noted t h = noted .fields t 0 h (omega arith) ∙ ap (λ (x : Term). getD (fieldsIn x) 0 0) (d .termIs t h)
+    content-noted : (t : ℕ) → t < n .terms → fieldOf v t 0 ≡ field f t 0
+    unfolding field
+    content-noted t h = noted .fields t 0 h (omega arith) ∙ ap (λ (x : Term). getD (fieldsIn x) 0 0) (d .termIs t h)
 
     kind-fault-same : (k t : ℕ) → kindFaultNoted v (n .terms) k t ≡ kindFault f k t
     unfolding declaredFault isKind
     kind-fault-same k t = then-same 6 _ _ _ _ (declared-same t) (λ h. rw (kind-noted t (declared-below t h)))
 
+    -- a term whose first field is another
+    inner-same : (outer inner t : ℕ) → (t < n .terms → kind f t ≡ outer → field f t 0 < n .terms)
+        → innerFaultNoted v (n .terms) outer inner t ≡ first (declaredFault f t) (first (refuseUnless 8 (isKind f outer t)) (refuseUnless 8 (isKind f inner (field f t 0))))
+    unfolding declaredFault isKind
+    inner-same outer inner t below = then-same 6 _ _ _ _ (declared-same t) (λ h.
+        let b = declared-below t h in
+        then-same 7 _ _ _ _ (rw (kind-noted t b)) (λ e.
+        let k = eqb-true (kind f t) outer e in
+        rw (content-noted t b, kind-noted (field f t 0) (below b k))))
+
     pub field-same : (x : Field) (i : ℕ) (body : List ℕ) → fieldFaultNoted v (n .parties) (n .terms) x i body ≡ fieldFault f x i body
-    unfolding fieldFaultNoted fieldFault declaredFault isKind
+    unfolding fieldFaultNoted fieldFault declaredFault isKind message hashedTerm
     field-same RoleField i body = refl
     field-same IdentifierField i body = refl
     field-same AttributesField i body = refl
@@ -254,13 +272,12 @@ module _ (f : File) (bs s signers : List ℕ) (n : Tally) (at : ℕ) (d : Descri
     field-same PartyField i body = rw (d .partiesAre)
     field-same AnyTerm i body = rw (d .termsAre)
     field-same (TermOf k) i body = kind-fault-same k (word body i)
-    field-same SignedAttest i body = then-same 6 _ _ _ _ (declared-same (word body i)) (λ h.
-        let b = declared-below (word body i) h in
-        then-same 7 _ _ _ _ (rw (kind-noted (word body i) b)) (λ e.
-        let k = eqb-true (kind f (word body i)) signatureKind e in
-        rw (message-noted (word body i) b, kind-noted (message f (word body i)) (message-declared (word body i) b k))))
+    field-same SignedAttest i body = inner-same signatureKind attestKind (word body i) (message-declared (word body i))
     field-same IakPairField i body =
         ap₂ (λ a b. cond (emptyPair body i) 0 (first a b)) (kind-fault-same credentialKind (word body i)) (kind-fault-same certificateKind (word body (i + 2)))
+    field-same RegisterField i body = refl
+    field-same HashedPair i body = inner-same hashKind pairKind (word body i) (hashed-declared (word body i))
+    field-same SignedQuote i body = inner-same signatureKind quoteKind (word body i) (message-declared (word body i))
 
   -- the keys of the 22s are declared terms
   key-declared : (p k : ℕ) → List·Memᴰ (signsWith p k) (f .setup) → k < noKey

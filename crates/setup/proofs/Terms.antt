@@ -28,7 +28,7 @@ certificate-ends there h e k = omega (arith, inside _ _ certificateKind k (stand
 
 module _ {bs s : List ℕ} {v : Terms} {n : ℕ} (there : TermsThere bs s n) (noted : Noted bs (view s .place) v n) where
   pub looked-up : TermsNoted v n
-  looked-up = terms-noted noted (there .whole) (there .few) (there .lower)
+  looked-up = terms-noted noted (there .whole) (there .few) (there .lower) (there .hashed)
 
   pub ready : {p t : ℕ} → p < partyLimit → t < n → Ready v s p t
   ready h l = ready-noted looked-up h (omega (arith, there .few, there .room)) l

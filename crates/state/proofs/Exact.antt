@@ -18,16 +18,17 @@ use native.Mathlib.Decide.{decLt}
 use lib.ListN.{length, getD, take, drop, replicate, length-drop, length-replicate, getD-replicate, take-append-drop, List·getD-append, List·getD-eq-default}
 use lib.Seq.{take-add, drop-drop, drop-cons, getD-drop, ext-getD}
 use Rattle.rules.specs.declared.Entry.{Entry}
-use Rattle.rules.specs.Limits.{rowWidth, partyLimit, termLimit, stateBytes}
+use Rattle.rules.specs.Limits.{rowWidth, partyLimit, termLimit, stateBytes, emptyField}
 use Rattle.rules.specs.Record.{word}
 use Rattle.rules.specs.State.{State}
 use Rattle.rules.specs.Lent.{bits, high, low, row, rows}
 use Rattle.state.specs.View.{Columns, view, bit}
 use Rattle.state.proofs.Bits.{bit-small}
 
--- a state of the rules with these columns, and a ledger
+-- a state of the rules with these columns, and a ledger; its registers are empty, and what they show stands in bytes
+-- of their own
 abbrev pub stateOf : Columns → List Entry → State
-stateOf v ledger = record { knows = v .knows; table = v .table; mark = v .mark; desk = v .desk; request = v .request; ledger = ledger }
+stateOf v ledger = record { knows = v .knows; table = v .table; mark = v .mark; desk = v .desk; request = v .request; registers = λ p i. emptyField; ledger = ledger }
 
 -- the bytes are bytes
 abbrev pub Bytes : List ℕ → Type 0

@@ -214,6 +214,7 @@ module _ (f : File) (ck : Checked f) (s : State) (inv : Invariant f s) where
       grows = record { knows = λ x u h. learn-kept f p r (s .knows) x u h; table = λ x k h. h; used = used-kept; listed = λ c h. h };
       opened = opened-next;
       ledger = inl refl;
+      shows = λ q j. inl refl;
     }
 
   -- what a desk's signature on a certificate shuts out: the signing key of a TPM maker
@@ -342,6 +343,7 @@ module _ (f : File) (ck : Checked f) (s : State) (inv : Invariant f s) where
       };
       opened = iakOpened;
       ledger = inr iakGained;
+      shows = λ q j. inl refl;
     }
 
   -- 40, 41, 42
@@ -515,4 +517,5 @@ module _ (f : File) (ck : Checked f) (s : State) (inv : Invariant f s) where
       };
       opened = λ c k h. inl (h, refl, refl);
       ledger = inr newGained;
+      shows = λ q j. inl refl;
     }

@@ -3,26 +3,28 @@
 use mathlib.Core.Path.{_≡_, refl, sym, ap, subst, subst⁻¹, _∙_}
 use mathlib.Core.Logic.{_⊎_, inl, inr, ⊎-elim}
 use mathlib.Core.Bool.{Bool, true, false, cond, not, _&&_, _||_}
-use mathlib.Core.List.{List, [], _∷_, List·Memᴰ}
+use mathlib.Core.List.{[], _∷_, List·Memᴰ}
 use Prim.Native.Nat.{ℕ, _<_}
 use lib.Dec.{T, T-not, eqb, eqb-refl}
+use borrow.Author.Tests.{eqb-true}
 use lib.ListN.{length}
 use Rattle.rules.specs.declared.Attributes.{Attributes}
 use Rattle.rules.specs.Limits.{device, tpmMaker, oemDesk, ownerDesk}
 use Rattle.rules.specs.Attributes as flag
 use Rattle.rules.specs.Attributes.{has, deskKeyAttributes}
 use Rattle.rules.specs.Term.{publicKeyKind, privateKeyKind, hashKind, signatureKind, attestKind, credentialKind, numberKind, idevidRequestKind, ldevidRequestKind, certificateKind, pairKind}
-use Rattle.rules.specs.File.{File, holds, signsWith, hash, sign, certify, makeCredential, activateCredential, makeIdevidRequest, makeLdevidRequest, makePair, send, selfIssue, roleOf, isKind, isRole, kind, parts, attributes, message, signingKey, certifiedKey, signer, hashedTerm, attestedKey, credentialTerm, credentialNumber, credentialKey, idevidCertificate, idevidKey, ldevidMessage, ldevidCertificate, leftOf, rightOf}
-use Rattle.rules.specs.State.{State, numberUsed, listed, learnt, ticketed}
-use Rattle.rules.specs.Device.{deviceRole, keyHas, holdsHalf, hashEffect, signTests, certifyTests, makeCredentialTests, activateCredentialTests, bothKnownTests, mayBeSentByDesk, maySend, sendTests, selfIssueTests}
+use Rattle.rules.specs.File.{File, holds, signsWith, hash, sign, certify, makeCredential, activateCredential, makeIdevidRequest, makeLdevidRequest, makePair, send, selfIssue, extend, quote, roleOf, isKind, isRole, kind, parts, attributes, message, signingKey, certifiedKey, signer, hashedTerm, attestedKey, credentialTerm, credentialNumber, credentialKey, idevidCertificate, idevidKey, ldevidMessage, ldevidCertificate, leftOf, rightOf, registerOf, quotedValue, quoteNumber}
+use Rattle.rules.specs.State.{State, numberUsed, listed, learnt, ticketed, showing}
+use Rattle.rules.specs.Device.{deviceRole, keyHas, holdsHalf, noTicket, hashEffect, signTests, certifyTests, makeCredentialTests, activateCredentialTests, bothKnownTests, mayBeSentByDesk, maySend, sendTests, selfIssueTests, extendTests, quoteTests}
 use Rattle.rules.specs.Run.{testsOf, effectOf, outcome}
 use Rattle.theorems.specs.Residency.{Inside, Held, Endorsement}
 use Rattle.theorems.proofs.Passing.{Passed, passed}
 use Rattle.theorems.proofs.Inside.{inside-none, inside-one, inside-two}
-use Rattle.theorems.proofs.Learning.{grant-kept, grant-only, learn-kept, inside-known}
+use Rattle.theorems.proofs.Learning.{grant-kept, grant-only, learn-kept, learn-known, inside-known}
 use Rattle.theorems.proofs.Loading.{Checked, Wellformed}
-use Rattle.theorems.proofs.Terms.{isKind-kind, isRole-role, pair-kinds, half-found, parts-publicKey, parts-hash, parts-credential, parts-number, parts-signature, parts-attest, parts-idevidRequest, parts-ldevidRequest, parts-certificate, parts-pair}
-use Rattle.theorems.proofs.Invariant.{KnownToDevice, Attested, Good, Invariant, Fresh, Grows, Step, good-grows}
+use Rattle.theorems.proofs.Terms.{isKind-kind, isRole-role, pair-kinds, half-found, parts-publicKey, parts-hash, parts-credential, parts-number, parts-signature, parts-attest, parts-idevidRequest, parts-ldevidRequest, parts-certificate, parts-pair, parts-register, parts-quote}
+use Rattle.theorems.proofs.Invariant.{KnownToDevice, Attested, Good, Shown, Invariant, Fresh, Grows, Step, good-grows}
+use Rattle.theorems.proofs.Registers.{extend-passed, quote-passed}
 use Rattle.theorems.proofs.Booleans.{and-true, or-true, not-both}
 
 pub desk-fixed : has deskKeyAttributes flag.fixedTpm ≡ true
@@ -127,6 +129,7 @@ module _ (f : File) (ck : Checked f) (s : State) (inv : Invariant f s) where
     grows = learnt-grows f s p t;
     opened = λ c k h. inl (h, refl, refl);
     ledger = inl refl;
+    shows = λ q j. inl refl;
   }
 
   -- 30
@@ -150,6 +153,7 @@ module _ (f : File) (ck : Checked f) (s : State) (inv : Invariant f s) where
     };
     opened = λ c k e. inl (e, refl, refl);
     ledger = inl refl;
+    shows = λ q j. inl refl;
   }
 
   either-step : (b : Bool) (s₁ s₂ : State) → Step f s s₁ → Step f s s₂ → Step f s (cond b s₁ s₂)
@@ -159,7 +163,7 @@ module _ (f : File) (ck : Checked f) (s : State) (inv : Invariant f s) where
   pub hash-step : (p r : ℕ) → Wellformed f (hash p r) → Step f s (effectOf f s (hash p r))
   unfolding effectOf hashEffect
   hash-step p r w =
-      either-step (isKind f attestKind (hashedTerm f r)) (learnt f s p r) (ticketed (learnt f s p r) p r)
+      either-step (noTicket f (hashedTerm f r)) (learnt f s p r) (ticketed (learnt f s p r) p r)
       (learn-step p r (w .0) (hash-fresh (learnt f s p r) p r (w .1))) (ticket-step p r (w .0) (w .1))
 
   -- 31
@@ -439,3 +443,76 @@ module _ (f : File) (ck : Checked f) (s : State) (inv : Invariant f s) where
 
       nobody : (m : ℕ) → List·Memᴰ (signsWith m (signer f r)) (f .setup) → ⊥
       nobody m g = no-device-signer p m (signer f r) (isRole-role f device p (h .0)) (h .1 .1 .0) g
+
+  -- 44: nobody learns anything; the register shows a hash
+  pub extend-step : (p i r : ℕ) → Wellformed f (extend p i r) → outcome f s (extend p i r) ≡ 0 → Step f s (effectOf f s (extend p i r))
+  unfolding effectOf extendTests deviceRole showing
+  extend-step p i r w e = record {
+    learner = p;
+    lesson = t;
+    declared = w .0;
+    learnt = sym (learn-known f p t (s .knows) (h .1 .0));
+    fresh = λ u j. fresh-inside (showing s p i r) same p t u p (h .1 .0) (isRole-role f device p (h .0)) j;
+    tableOnly = λ q k x. inl x;
+    grows = same;
+    opened = λ c k x. inl (x, refl, refl);
+    ledger = inl refl;
+    shows = λ q j. go q j (eqb q p && eqb j i);
+  }
+    where
+      t : ℕ
+      t = rightOf f (hashedTerm f r)
+
+      h : Passed (extendTests f s p i r)
+      h = extend-passed f s p i r e
+
+      same : Grows f s (showing s p i r)
+      same = record { knows = λ q u x. x; table = λ q k x. x; used = λ n k x. x; listed = λ c x. x }
+
+      go : (q j : ℕ) (b : Bool) → (cond b r (s .registers q j) ≡ s .registers q j) ⊎ (kind f (cond b r (s .registers q j)) ≡ hashKind)
+      go q j true = inr (w .1)
+      go q j false = inl refl
+
+  -- 45: what is in the quote body is what the register shows, which is no more than a 1B or a 12, and a number that the
+  -- device knows
+  shown-fresh : (s′ : State) (q t u : ℕ) → Shown f t → Inside f t u → Fresh f s s′ q u
+  shown-fresh s′ q t u x i =
+      ⊎-elim (λ k. subst⁻¹ (Fresh f s s′ q) (inside-none f t u (parts-register f t k) i) (fresh-plain k tt)) (λ k. hash-fresh s′ q t k u i) x
+
+  pub quote-step : (p r : ℕ) → Wellformed f (quote p r) → outcome f s (quote p r) ≡ 0 → Step f s (effectOf f s (quote p r))
+  unfolding effectOf quoteTests deviceRole
+  quote-step p r w e = learn-step p r (w .0) fresh
+    where
+      s′ : State
+      s′ = learnt f s p r
+
+      b : ℕ
+      b = message f r
+
+      h : Passed (quoteTests f s p r)
+      h = quote-passed f s p r e
+
+      k : kind f (quoteNumber f b) ≡ numberKind
+      k = ck .quoteNumberKind b (w .2)
+
+      own : Fresh f s s′ p r
+      own = signature-fresh s′ p r (w .1) (signature-good s′ r (w .1) (λ a c. absurd (differ f b attestKind (w .2) tt a)))
+
+      value : Shown f (quotedValue f b)
+      value = subst (Shown f) (eqb-true _ _ (h .1 .1 .1 .1 .1 .0)) (inv .shown p (registerOf f b))
+
+      number : Fresh f s s′ p (quoteNumber f b)
+      number = record {
+        good = number-good f s′ (quoteNumber f b) k;
+        number = λ x. inl (h .1 .0);
+        credential = λ x. absurd (differ f (quoteNumber f b) credentialKind k tt x);
+      }
+
+      fresh : (u : ℕ) → Inside f r u → Fresh f s s′ p u
+      fresh u i =
+          ⊎-elim (λ q. subst⁻¹ (Fresh f s s′ p) q own)
+          (λ j. ⊎-elim (λ q. subst⁻¹ (Fresh f s s′ p) q (fresh-plain (w .2) tt))
+          (⊎-elim (shown-fresh s′ p (quotedValue f b) u value)
+          (λ j. subst⁻¹ (Fresh f s s′ p) (inside-none f (quoteNumber f b) u (parts-number f (quoteNumber f b) k) j) number))
+          (inside-two f b u (quotedValue f b) (quoteNumber f b) (parts-quote f b (w .2)) j))
+          (inside-one f r u b (parts-signature f r (w .1)) i)

@@ -15,11 +15,11 @@ use Rattle.rules.specs.declared.Entry.{Entry}
 use Rattle.rules.specs.declared.Family.{Family}
 use Rattle.rules.specs.Families.{iakFamily}
 use Rattle.rules.specs.Term.{attestKind, credentialKind, numberKind}
-use Rattle.rules.specs.File.{File, Command, hash, sign, certify, makeCredential, activateCredential, makeIdevidRequest, makeLdevidRequest, makePair, checkHash, checkSignature, checkCertificate, checkAttributes, send, selfIssue, challenge, issueIak, issue, issueIaks, IakPair, kind, isKind, hashedTerm, credentialNumber}
+use Rattle.rules.specs.File.{File, Command, hash, sign, certify, makeCredential, activateCredential, makeIdevidRequest, makeLdevidRequest, makePair, checkHash, checkSignature, checkCertificate, checkAttributes, send, selfIssue, challenge, issueIak, issue, issueIaks, extend, quote, IakPair, kind, isKind, hashedTerm, credentialNumber}
 use Rattle.rules.specs.Load.{commandsOf}
 use Rattle.rules.specs.Learning.{Knowledge, each, learn}
-use Rattle.rules.specs.State.{State, start, numberUsed, credentialOpen, credentialClosed, put, learnt, ticketed, opening, closing, entered}
-use Rattle.rules.specs.Device.{hashEffect}
+use Rattle.rules.specs.State.{State, start, numberUsed, credentialOpen, credentialClosed, put, learnt, ticketed, opening, closing, entered, showing}
+use Rattle.rules.specs.Device.{noTicket, hashEffect}
 use Rattle.rules.specs.Desk.{challengeEffect, issueIakTests, calledFor, issueIakEffect, issueEffect, issueIaksEffect, certificatesOf, ekCertificateOf, parentCertificateOf}
 use Rattle.rules.specs.Run.{effectOf, outcome, reached}
 use Rattle.theorems.specs.Residency.{Inside, Teaches, Accepted, Known, bySetup, byCommand, EntryAt, Parent, ofIak, ofPair, onRequest, OfFamily}
@@ -90,8 +90,8 @@ pairs-knows f p q [] s = refl
 pairs-knows f p q (x ∷ xs) s = pairs-knows f p q xs (withPair f s p q x)
 
 lesson : (f : File) (s : State) (c : Command) → Lesson f s c
-unfolding effectOf hashEffect learnt challengeEffect opening issueIakEffect issueEffect entered closing
-lesson f s (hash p r) = lesson-one f s (hash p r) p r (refl, refl) (hash-knows f s p r (isKind f attestKind (hashedTerm f r))) (λ q t h. h)
+unfolding effectOf hashEffect learnt challengeEffect opening issueIakEffect issueEffect entered closing showing
+lesson f s (hash p r) = lesson-one f s (hash p r) p r (refl, refl) (hash-knows f s p r (noTicket f (hashedTerm f r))) (λ q t h. h)
 lesson f s (sign p r) = lesson-one f s (sign p r) p r (refl, refl) refl (λ q t h. h)
 lesson f s (certify p r) = lesson-one f s (certify p r) p r (refl, refl) refl (λ q t h. h)
 lesson f s (makeCredential p r) = lesson-one f s (makeCredential p r) p r (refl, refl) refl (λ q t h. h)
@@ -109,6 +109,8 @@ lesson f s (challenge p q r) = lesson-one f s (challenge p q r) p r (refl, refl)
 lesson f s (issueIak p q c r) = lesson-one f s (issueIak p q c r) p r (refl, refl) refl (λ q t h. h)
 lesson f s (issue family p q r) = lesson-one f s (issue family p q r) p r (refl, refl) refl (λ q t h. h)
 lesson f s (issueIaks p q xs) = record { learner = p; terms = certificatesOf xs; teaches = λ t m. (refl, m); knows = pairs-knows f p q xs s; only = λ q t h. h }
+lesson f s (extend p i r) = silent f s (extend p i r) refl (λ q t h. h)
+lesson f s (quote p r) = lesson-one f s (quote p r) p r (refl, refl) refl (λ q t h. h)
 
 -- what becomes of the state at the command of ordinal n
 pub data Next (f : File) (n : ℕ) : Type 0 where
@@ -249,8 +251,8 @@ module _ (f : File) (ck : Checked f) where
       (b .0, b .1 ∙ a .1, b .2 ∙ a .2)
 
   marks : (s : State) (c : Command) → Wellformed f c → (x : ℕ) → kind f x ≡ credentialKind → effectOf f s c .mark x ≡ credentialOpen → Marks s (effectOf f s c) c x
-  unfolding effectOf hashEffect learnt challengeEffect issueEffect entered
-  marks s (hash p r) w x k h = hash-marks s p r x (isKind f attestKind (hashedTerm f r)) h
+  unfolding effectOf hashEffect learnt challengeEffect issueEffect entered showing
+  marks s (hash p r) w x k h = hash-marks s p r x (noTicket f (hashedTerm f r)) h
   marks s (sign p r) w x k h = inl (h, refl, refl)
   marks s (certify p r) w x k h = inl (h, refl, refl)
   marks s (makeCredential p r) w x k h = inl (h, refl, refl)
@@ -268,6 +270,8 @@ module _ (f : File) (ck : Checked f) where
   marks s (issueIak p q c r) w x k h = inl (close-stays s p q c r x h (ℕ-discrete x c))
   marks s (issue family p q r) w x k h = inl (h, refl, refl)
   marks s (issueIaks p q xs) w x k h = inl (pairs-stay p q xs s x h)
+  marks s (extend p i r) w x k h = inl (h, refl, refl)
+  marks s (quote p r) w x k h = inl (h, refl, refl)
 
   pub opened-by : (n c : ℕ) → kind f c ≡ credentialKind → reached f n .mark c ≡ credentialOpen → OpenedBy n c
   unfolding start
@@ -381,8 +385,8 @@ module _ (f : File) (ck : Checked f) where
       )
 
   entries : (s : State) → Invariant f s → (c : Command) → Wellformed f c → outcome f s c ≡ 0 → Entries s (effectOf f s c .ledger) c
-  unfolding effectOf hashEffect learnt challengeEffect opening issueIakEffect issueEffect entered closing
-  entries s inv (hash p r) w z = no-entry s _ (hash p r) (hash-ledger s p r (isKind f attestKind (hashedTerm f r)))
+  unfolding effectOf hashEffect learnt challengeEffect opening issueIakEffect issueEffect entered closing showing
+  entries s inv (hash p r) w z = no-entry s _ (hash p r) (hash-ledger s p r (noTicket f (hashedTerm f r)))
   entries s inv (sign p r) w z = no-entry s _ (sign p r) refl
   entries s inv (certify p r) w z = no-entry s _ (certify p r) refl
   entries s inv (makeCredential p r) w z = no-entry s _ (makeCredential p r) refl
@@ -404,6 +408,8 @@ module _ (f : File) (ck : Checked f) where
   entries s inv (issueIaks p q xs) w z =
       let b = pairs-entries p q xs s inv (w .0) (w .1) (w .2) (pairs-accepted f s p q xs z) in
       (b .0, b .1, λ e m. let a = b .2 e m in (iakFamily, a .ofFamily, pair p q (a .credential) xs refl refl (a .member) (a .isCredential) (a .opened) (a .desk) (a .parent)))
+  entries s inv (extend p i r) w z = no-entry s _ (extend p i r) refl
+  entries s inv (quote p r) w z = no-entry s _ (quote p r) refl
 
   made-parent : (n : ℕ) (c : Command) (family : Family) (e : Entry) → Accepted f n c → Makes (reached f n) c family e → Parent f (suc n) family (e .certificate) (e .parent)
   made-parent n c family e a (iak p q x i h k m d g) =

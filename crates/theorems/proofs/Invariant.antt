@@ -13,7 +13,7 @@ use Rattle.rules.specs.declared.Family.{Family}
 use Rattle.rules.specs.declared.Subject.the-variants.{Device}
 use Rattle.rules.specs.Limits.{device, tpmMaker, oemDesk, depthLimit}
 use Rattle.rules.specs.Attributes.{has, restricted, fixedTpm, iakAttributes, ekAttributes}
-use Rattle.rules.specs.Term.{privateKeyKind, hashKind, signatureKind, attestKind, credentialKind, numberKind, certificateKind, isDeviceSubject}
+use Rattle.rules.specs.Term.{privateKeyKind, hashKind, signatureKind, attestKind, credentialKind, numberKind, certificateKind, registerKind, isDeviceSubject}
 use Rattle.rules.specs.File.{File, holds, signsWith, roleOf, kind, subject, attributes, message, signingKey, certifiedKey, signer, hashedTerm, attestedKey, credentialTerm, credentialNumber, credentialKey, signsForRole}
 use Rattle.rules.specs.Learning.{Knowledge, learn}
 use Rattle.rules.specs.State.{State, numberUsed, credentialOpen, listed}
@@ -86,6 +86,13 @@ pub record EntryGood (f : File) (s : State) (i : ℕ) (e : Entry) : Type 0 where
   pub earlier : Earlier f (s .ledger) i e
   pub held : DeviceHolds f (certifiedKey f (e .certificate)) (certifiedKey f (e .parent))
 
+-- What a register may show: a starting value or a hash. Opening a quote opens its value, and the value is what a
+-- register shows (refusal 33): it has no parts and is no private key, so a 45 teaches no private key, nor any signature
+-- or certificate but r. (No term of the file has the number that an empty register shows, and what is not declared
+-- counts as a hash.)
+abbrev pub Shown : File → ℕ → Type 0
+Shown f t = (kind f t ≡ registerKind) ⊎ (kind f t ≡ hashKind)
+
 pub record Invariant (f : File) (s : State) : Type 0 where
   pub closed : Closed f (s .knows)
   pub party : (p t : ℕ) → s .knows p t ≡ true → p < length (f .roles)
@@ -95,6 +102,7 @@ pub record Invariant (f : File) (s : State) : Type 0 where
   pub entries : (i : ℕ) (e : Entry) → getElem? (s .ledger) i ≡ some e → EntryGood f s i e
   pub once : (i j : ℕ) (e g : Entry) → getElem? (s .ledger) i ≡ some e → getElem? (s .ledger) j ≡ some g → e .certificate ≡ g .certificate → i ≡ j
   pub oneEk : OneEk f (s .ledger)
+  pub shown : (p i : ℕ) → Shown f (s .registers p i)
 
 -- parents stand earlier
 pub descends : (f : File) (s : State) → Invariant f s → Descends (s .ledger)
@@ -147,6 +155,7 @@ pub record Step (f : File) (s s′ : State) : Type 0 where
       (c : ℕ) → kind f c ≡ credentialKind → s′ .mark c ≡ credentialOpen
       → ((s .mark c ≡ credentialOpen) × (s .desk c ≡ s′ .desk c) × (s .request c ≡ s′ .request c)) ⊎ Open f s′ c (s′ .desk c) (s′ .request c)
   pub ledger : (s′ .ledger ≡ s .ledger) ⊎ Gained f s s′
+  pub shows : (p i : ℕ) → (s′ .registers p i ≡ s .registers p i) ⊎ (kind f (s′ .registers p i) ≡ hashKind)
 
 module _ (f : File) (ck : Checked f) (s s′ : State) (g : Grows f s s′) where
   device-grows : (u : ℕ) → KnownToDevice f s u → KnownToDevice f s′ u
@@ -324,4 +333,5 @@ module _ (f : File) (ck : Checked f) (s s′ : State) (inv : Invariant f s) (st 
     entries = entries-next;
     once = once-next;
     oneEk = one-ek-next;
+    shown = λ p i. ⊎-elim (λ e. subst⁻¹ (Shown f) e (inv .shown p i)) inr (st .shows p i);
   }

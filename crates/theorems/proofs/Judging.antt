@@ -48,7 +48,7 @@ no-number f ck t n c k i =
     omega arith)
     (inside-one f t n (certifiedKey f t) (parts-certificate f t c) i)
 
-formed-certificate : (f : File) (xs : List IakPair) → PairsFormed f xs → (t : ℕ) → List·Memᴰ t (certificatesOf xs) → kind f t ≡ certificateKind
+pub formed-certificate : (f : File) (xs : List IakPair) → PairsFormed f xs → (t : ℕ) → List·Memᴰ t (certificatesOf xs) → kind f t ≡ certificateKind
 unfolding certificatesOf
 formed-certificate f [] w t m = elim m [ ]
 formed-certificate f (x ∷ xs) w t m = ⊎-elim (λ e. ap (kind f) e ∙ w .1) (λ n. formed-certificate f xs (w .2) t n) (List·Memᴰ·cases-cons m)

@@ -130,6 +130,11 @@ pub learn-own : (f : File) (p t : ℕ) (known : Knowledge) → learn f p t known
 unfolding learn
 learn-own f p t = own f p (suc t) t (le-refl (suc t))
 
+-- "A term already known needs no second opening."
+pub learn-known : (f : File) (p t : ℕ) (known : Knowledge) → known p t ≡ true → learn f p t known ≡ known
+unfolding learn opened
+learn-known f p t known e = rw e
+
 pub learn-only : (f : File) (p t : ℕ) (known : Knowledge) (q u : ℕ) → learn f p t known q u ≡ true → (known q u ≡ true) ⊎ ((q ≡ p) × Inside f t u)
 unfolding learn
 learn-only f p t = only f p (suc t) t

@@ -8,6 +8,8 @@ pub mod Loading
 pub mod Terms
 pub mod Passing
 pub mod Running
+pub mod Beside
+pub mod Registers
 pub mod Ledgers
 pub mod Ends
 pub mod Invariant
@@ -39,3 +41,6 @@ pub mod Cut
 pub mod Asking
 pub mod StockFalls
 pub mod StockLaws
+pub mod RegisterLaws
+pub mod SignatureLaws
+pub mod QuoteLaws

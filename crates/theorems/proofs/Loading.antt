@@ -10,12 +10,12 @@ use lib.Dec.{eqb, ltb, leb}
 use borrow.Author.Tests.{ltb-true, leb-true, eqb-true, eqb-false, not-true}
 use lib.ListN.{getD, length, length-append, take, drop}
 use Rattle.rules.specs.declared.Term.{Term}
-use Rattle.rules.specs.Limits.{fileLimit, partyLimit, termLimit, pairCount, pairWidth, device, tpmMaker}
+use Rattle.rules.specs.Limits.{fileLimit, partyLimit, termLimit, pairCount, pairWidth, registerCount, device, tpmMaker}
 use Rattle.rules.specs.Attributes.{fixedTpm, has, deskKeyAttributes}
 use Rattle.rules.specs.Families.{requestFamilies}
-use Rattle.rules.specs.Term.{publicKeyKind, privateKeyKind, hashKind, signatureKind, attestKind, credentialKind, numberKind, idevidRequestKind, ldevidRequestKind, certificateKind, pairKind, fieldsIn, isTpmSubject, anyAlike}
+use Rattle.rules.specs.Term.{publicKeyKind, privateKeyKind, hashKind, signatureKind, attestKind, credentialKind, numberKind, idevidRequestKind, ldevidRequestKind, certificateKind, pairKind, registerKind, quoteKind, fieldsIn, isTpmSubject, anyAlike}
 use Rattle.rules.specs.Record.{fieldsOf, lastKind, kindCount, sectionOf, partySection, termSection, setupSection, commandSection, bodyLength, word, Piece, whole, fault, cut, pieces}
-use Rattle.rules.specs.File.{File, Setup, learns, holds, signsWith, Command, hash, sign, certify, makeCredential, activateCredential, makeIdevidRequest, makeLdevidRequest, makePair, checkHash, checkSignature, checkCertificate, checkAttributes, send, selfIssue, challenge, issueIak, issue, issueIaks, IakPair, roleOf, term, kind, parts, names, field, message, signingKey, subject, attributes, signer, credentialNumber, attestedKey, certifiedKey, idevidCertificate, ldevidCertificate, signsForRole}
+use Rattle.rules.specs.File.{File, Setup, learns, holds, signsWith, Command, hash, sign, certify, makeCredential, activateCredential, makeIdevidRequest, makeLdevidRequest, makePair, checkHash, checkSignature, checkCertificate, checkAttributes, send, selfIssue, challenge, issueIak, issue, issueIaks, extend, quote, IakPair, roleOf, term, kind, parts, names, field, hashedTerm, message, registerOf, quoteNumber, signingKey, subject, attributes, signer, credentialNumber, attestedKey, certifiedKey, idevidCertificate, ldevidCertificate, signsForRole}
 use Rattle.rules.specs.Load.{termAt, setupAt, emptyPair, pairsAt, commandAt, sectionFault, countFault, fieldsFault, alikeFault, setupFault, allowedFault, recordFault, withParty, withTerm, withSetup, withCommand, enter, Load, loaded, refused, settle, step, feed, emptyFile, load}
 use Rattle.theorems.proofs.Terms.{declared}
 use Rattle.theorems.proofs.FamilyRows.{row-of-kind}
@@ -48,6 +48,8 @@ Wellformed f (challenge p q r) = (p < length (f .roles)) × (kind f r ≡ creden
 Wellformed f (issueIak p q c r) = (p < length (f .roles)) × (q < length (f .roles)) × (kind f c ≡ credentialKind) × (kind f r ≡ certificateKind)
 Wellformed f (issue family p q r) = (p < length (f .roles)) × (kind f r ≡ certificateKind) × (q < length (f .terms)) × List·Memᴰ family requestFamilies
 Wellformed f (issueIaks p q xs) = (p < length (f .roles)) × (q < length (f .roles)) × PairsFormed f xs
+Wellformed f (extend p i r) = (p < length (f .roles)) × (kind f r ≡ hashKind) × (kind f (hashedTerm f r) ≡ pairKind) × (i < registerCount) × (r < length (f .terms))
+Wellformed f (quote p r) = (p < length (f .roles)) × (kind f r ≡ signatureKind) × (kind f (message f r) ≡ quoteKind)
 
 -- what holds of every file that loads
 pub record Checked (f : File) : Type 0 where
@@ -62,6 +64,9 @@ pub record Checked (f : File) : Type 0 where
   pub ldevidCertificateKind : (t : ℕ) → kind f t ≡ ldevidRequestKind → kind f (ldevidCertificate f t) ≡ certificateKind
   pub signerKind : (t : ℕ) → kind f t ≡ certificateKind → kind f (signer f t) ≡ privateKeyKind
   pub signingKeyKind : (t : ℕ) → kind f t ≡ signatureKind → kind f (signingKey f t) ≡ privateKeyKind
+  pub quoteNumberKind : (t : ℕ) → kind f t ≡ quoteKind → kind f (quoteNumber f t) ≡ numberKind
+  pub quoteRegister : (t : ℕ) → kind f t ≡ quoteKind → registerOf f t < registerCount
+  pub startRegister : (t : ℕ) → kind f t ≡ registerKind → registerOf f t < registerCount
   pub learnsParty : (p t : ℕ) → List·Memᴰ (learns p t) (f .setup) → p < length (f .roles)
   pub learnsAllowed :
       (p t : ℕ) → List·Memᴰ (learns p t) (f .setup)
@@ -101,12 +106,12 @@ pairs-formed f (suc n) bs i h = pair-formed f bs i (pairsAt n bs (i + pairWidth)
 module _ (f : File) (bs : List ℕ) where
   each-command : Each (CommandPassed f bs) (kindCount - 0x30) 0x30
   unfolding fieldsOf sectionOf commandAt
-  each-command = ((λ h. (h .0, h .1 .0 .1, h .1 .0 .0)), ((λ h. (h .0, h .1 .0 .1)), ((λ h. (h .0, h .1 .0 .0, h .1 .0 .1)), ((λ h. (h .0, h .1 .0 .1)), ((λ h. (h .0, h .1 .0 .1)), ((λ h. (h .0, h .1 .0 .1)), ((λ h. (h .0, h .1 .0 .1)), ((λ h. (h .0, h .1 .0 .1)), ((λ h. (h .0, h .1 .0 .1, h .1 .0 .0, h .1 .1 .0)), ((λ h. (h .0, h .1 .0 .1, h .1 .1 .0 .1)), ((λ h. (h .0, h .1 .0 .1, h .1 .1 .0 .1)), ((λ h. (h .0, h .1 .0 .1)), ((λ h. (h .0, h .1 .0, h .1 .1 .0)), ((λ h. (h .0, h .1 .0 .1)), ((λ h. (h .0, h .1 .1 .0 .1, h .1 .0)), ((λ h. (h .0, h .1 .0, h .1 .1 .0 .1, h .1 .1 .1 .0 .1)), ((λ h. (h .0, h .1 .1 .0 .1, h .1 .0, row-of-kind _)), ((λ h. (h .0, h .1 .1 .0 .1, h .1 .0, row-of-kind _)), ((λ h. (h .0, h .1 .1 .0 .1, h .1 .0, row-of-kind _)), ((λ h. (h .0, h .1 .0, pairs-formed f pairCount bs 2 (h .1 .1))), tt))))))))))))))))))))
+  each-command = ((λ h. (h .0, h .1 .0 .1, h .1 .0 .0)), ((λ h. (h .0, h .1 .0 .1)), ((λ h. (h .0, h .1 .0 .0, h .1 .0 .1)), ((λ h. (h .0, h .1 .0 .1)), ((λ h. (h .0, h .1 .0 .1)), ((λ h. (h .0, h .1 .0 .1)), ((λ h. (h .0, h .1 .0 .1)), ((λ h. (h .0, h .1 .0 .1)), ((λ h. (h .0, h .1 .0 .1, h .1 .0 .0, h .1 .1 .0)), ((λ h. (h .0, h .1 .0 .1, h .1 .1 .0 .1)), ((λ h. (h .0, h .1 .0 .1, h .1 .1 .0 .1)), ((λ h. (h .0, h .1 .0 .1)), ((λ h. (h .0, h .1 .0, h .1 .1 .0)), ((λ h. (h .0, h .1 .0 .1)), ((λ h. (h .0, h .1 .1 .0 .1, h .1 .0)), ((λ h. (h .0, h .1 .0, h .1 .1 .0 .1, h .1 .1 .1 .0 .1)), ((λ h. (h .0, h .1 .1 .0 .1, h .1 .0, row-of-kind _)), ((λ h. (h .0, h .1 .1 .0 .1, h .1 .0, row-of-kind _)), ((λ h. (h .0, h .1 .1 .0 .1, h .1 .0, row-of-kind _)), ((λ h. (h .0, h .1 .0, pairs-formed f pairCount bs 2 (h .1 .1))), ((λ h. (h .0, h .1 .1 .0 .1, h .1 .1 .0 .2, h .1 .0, h .1 .1 .0 .0)), ((λ h. (h .0, h .1 .0 .0, h .1 .0 .1)), tt))))))))))))))))))))))
 
   command-passed : (k : ℕ) → sectionOf k ≡ commandSection → fieldsFault f (fieldsOf k) 0 bs ≡ 0 → Wellformed f (commandAt k bs)
   unfolding sectionOf
   command-passed k s e =
-      let r = within 0x30 k lastKind (fourth (eqb k 1) (leb 0x10 k && leb k 0x1A) (leb 0x20 k && leb k 0x22) _ s) in
+      let r = within 0x30 k lastKind (fourth (eqb k 1) (leb 0x10 k && leb k 0x1C) (leb 0x20 k && leb k 0x22) _ s) in
       each (CommandPassed f bs) (kindCount - 0x30) 0x30 each-command k (r .0) (omega arith) (passed f bs (fieldsOf k) 0 e)
 
 -- The invariant: what holds after every record. A section that has not begun is empty.
@@ -127,7 +132,7 @@ pairs-stay f section c [] w = tt
 pairs-stay f section c (x ∷ xs) w = (w .0, w .1, pairs-stay f section c xs (w .2))
 
 wellformed-stays : (f : File) (section : ℕ) (c b : Command) → Wellformed f b → Wellformed (withCommand f section c) b
-unfolding withCommand kind term message field
+unfolding withCommand kind term hashedTerm message field
 wellformed-stays f section c (hash p r) w = w
 wellformed-stays f section c (sign p r) w = w
 wellformed-stays f section c (certify p r) w = w
@@ -146,6 +151,8 @@ wellformed-stays f section c (challenge p q r) w = w
 wellformed-stays f section c (issueIak p q d r) w = w
 wellformed-stays f section c (issue family p q r) w = w
 wellformed-stays f section c (issueIaks p q xs) w = (w .0, w .1, pairs-stay f section c xs (w .2))
+wellformed-stays f section c (extend p i r) w = w
+wellformed-stays f section c (quote p r) w = w
 
 module _ (f : File) (g : Good f) where
   party-good : (role : ℕ) → f .section ≤ partySection → length (f .roles) < partyLimit → Good (withParty f role)
@@ -226,7 +233,7 @@ last-section false false false false h x y z = absurd (omega arith)
 
 pub command-section : (k : ℕ) → 0 < sectionOf k → (sectionOf k ≡ partySection → ⊥) → (sectionOf k ≡ termSection → ⊥) → (sectionOf k ≡ setupSection → ⊥) → sectionOf k ≡ commandSection
 unfolding sectionOf
-command-section k h x y z = last-section (eqb k 1) (leb 0x10 k && leb k 0x1A) (leb 0x20 k && leb k 0x22) (leb 0x30 k && leb k lastKind) h x y z
+command-section k h x y z = last-section (eqb k 1) (leb 0x10 k && leb k 0x1C) (leb 0x20 k && leb k 0x22) (leb 0x30 k && leb k lastKind) h x y z
 
 module _ (f : File) (place k : ℕ) (bs : List ℕ) (g : Good f) (known : 0 < sectionOf k) (none : recordFault f k bs ≡ 0) where
   in-order : f .section ≤ sectionOf k
@@ -345,7 +352,7 @@ fields-by f g t k e other =
     subst (λ (j : ℕ). Named (f .terms) t (fieldsOf j) 0 (fieldsIn (term f t))) e (g .names t (declared f t (λ h. other (sym e ∙ h))))
 
 pub good-checked : (f : File) → Good f → Checked f
-unfolding parts names term kind fieldsOf sectionOf credentialNumber attestedKey certifiedKey idevidCertificate ldevidCertificate signer signingKey field
+unfolding parts names term kind fieldsOf sectionOf credentialNumber attestedKey certifiedKey idevidCertificate ldevidCertificate signer signingKey registerOf quoteNumber field
 good-checked f g =
     let s = g .setups in
     record {
@@ -360,6 +367,9 @@ good-checked f g =
       ldevidCertificateKind = λ t e. fields-by f g t ldevidRequestKind e (omega arith) .1 .0 .1;
       signerKind = λ t e. fields-by f g t certificateKind e (omega arith) .1 .1 .0 .1;
       signingKeyKind = λ t e. fields-by f g t signatureKind e (omega arith) .1 .0 .1;
+      quoteNumberKind = λ t e. fields-by f g t quoteKind e (omega arith) .1 .1 .0 .1;
+      quoteRegister = λ t e. fields-by f g t quoteKind e (omega arith) .0;
+      startRegister = λ t e. fields-by f g t registerKind e (omega arith) .0;
       learnsParty = s .learnsParty;
       learnsAllowed = s .learnsAllowed;
       holdsParty = s .holdsParty;

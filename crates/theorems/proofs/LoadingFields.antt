@@ -12,12 +12,12 @@ use lib.ListN.{getD, length}
 use Rattle.rules.specs.declared.Subject.{Subject}
 use Rattle.rules.specs.declared.Subject.the-variants.{Tpm, Device}
 use Rattle.rules.specs.declared.Term.the-variants.{IdevidRequest, Certificate}
-use Rattle.rules.specs.Limits.{pairWidth}
-use Rattle.rules.specs.Term.{privateKeyKind, signatureKind, attestKind, credentialKind, idevidRequestKind, certificateKind, kindOf, fieldsIn, subjectFields}
+use Rattle.rules.specs.Limits.{pairWidth, registerCount}
+use Rattle.rules.specs.Term.{privateKeyKind, hashKind, pairKind, quoteKind, signatureKind, attestKind, credentialKind, idevidRequestKind, certificateKind, kindOf, fieldsIn, subjectFields}
 use Rattle.rules.specs.declared.Field.{Field}
-use Rattle.rules.specs.declared.Field.the-variants.{RoleField, IdentifierField, AttributesField, SubjectField, PartyField, AnyTerm, TermOf, SignedAttest, IakPairField}
+use Rattle.rules.specs.declared.Field.the-variants.{RoleField, IdentifierField, AttributesField, SubjectField, PartyField, AnyTerm, TermOf, SignedAttest, IakPairField, RegisterField, HashedPair, SignedQuote}
 use Rattle.rules.specs.Record.{lastKind, width, fieldsOf, sectionOf, termSection, setupSection, word}
-use Rattle.rules.specs.File.{File, Setup, learns, holds, signsWith, kind, isKind, term, message}
+use Rattle.rules.specs.File.{File, Setup, learns, holds, signsWith, kind, isKind, term, hashedTerm, message}
 use Rattle.rules.specs.Load.{first, refuseUnless, declaredFault, kindFault, emptyPair, fieldFault, fieldsFault, subjectAt, termAt, setupAt}
 use Rattle.theorems.proofs.LoadingTerms.{Names}
 use Rattle.theorems.proofs.Booleans.{and-true}
@@ -51,6 +51,9 @@ Passed f AnyTerm i bs = word bs i < length (f .terms)
 Passed f (TermOf k) i bs = (word bs i < length (f .terms)) × (kind f (word bs i) ≡ k)
 Passed f SignedAttest i bs = (kind f (word bs i) ≡ signatureKind) × (kind f (message f (word bs i)) ≡ attestKind)
 Passed f IakPairField i bs = (emptyPair bs i ≡ true) ⊎ ((kind f (word bs i) ≡ credentialKind) × (kind f (word bs (i + 2)) ≡ certificateKind))
+Passed f RegisterField i bs = getD bs i 0 < registerCount
+Passed f HashedPair i bs = (word bs i < length (f .terms)) × (kind f (word bs i) ≡ hashKind) × (kind f (hashedTerm f (word bs i)) ≡ pairKind)
+Passed f SignedQuote i bs = (kind f (word bs i) ≡ signatureKind) × (kind f (message f (word bs i)) ≡ quoteKind)
 
 abbrev pub size : Field → ℕ
 size RoleField = 1
@@ -62,6 +65,9 @@ size AnyTerm = 2
 size (TermOf k) = 2
 size SignedAttest = 2
 size IakPairField = pairWidth
+size RegisterField = 1
+size HashedPair = 2
+size SignedQuote = 2
 
 abbrev pub AllPassed : File → List Field → ℕ → List ℕ → Type 0
 AllPassed f [] i bs = Unit {0}
@@ -95,6 +101,11 @@ field-passed f (TermOf k) i bs e =
 field-passed f SignedAttest i bs e =
     (is-kind f signatureKind (word bs i) (first-zero _ _ (first-zero _ _ e .1) .0), is-kind f attestKind (message f (word bs i)) (first-zero _ _ (first-zero _ _ e .1) .1))
 field-passed f IakPairField i bs e = pair-passed f i bs (emptyPair bs i) refl e
+field-passed f RegisterField i bs e = ltb-true (getD bs i 0) registerCount (refuse-zero 7 (ltb (getD bs i 0) registerCount) (omega arith) e)
+field-passed f HashedPair i bs e =
+    (declared-below f (word bs i) (first-zero _ _ e .0), is-kind f hashKind (word bs i) (first-zero _ _ (first-zero _ _ e .1) .0), is-kind f pairKind (hashedTerm f (word bs i)) (first-zero _ _ (first-zero _ _ e .1) .1))
+field-passed f SignedQuote i bs e =
+    (is-kind f signatureKind (word bs i) (first-zero _ _ (first-zero _ _ e .1) .0), is-kind f quoteKind (message f (word bs i)) (first-zero _ _ (first-zero _ _ e .1) .1))
 
 sized : (x : Field) → width x ≡ size x
 unfolding width
@@ -107,6 +118,9 @@ sized AnyTerm = refl
 sized (TermOf k) = refl
 sized SignedAttest = refl
 sized IakPairField = refl
+sized RegisterField = refl
+sized HashedPair = refl
+sized SignedQuote = refl
 
 pub passed : (f : File) (bs : List ℕ) (xs : List Field) (i : ℕ) → fieldsFault f xs i bs ≡ 0 → AllPassed f xs i bs
 unfolding fieldsFault
@@ -171,9 +185,9 @@ by-subject P a b (Tpm n) = a n
 by-subject P a b (Device n) = b n
 
 module _ (f : File) (bs : List ℕ) where
-  each-term : Each (TermNames f bs) 11 0x10
+  each-term : Each (TermNames f bs) 13 0x10
   unfolding fieldsOf sectionOf termAt kind term kindOf fieldsIn subjectFields
-  each-term = ((λ h. h), ((λ h. h), ((λ h. h), ((λ h. h), ((λ h. h), ((λ h. h), ((λ h. h), (request, ((λ h. h), (certificate, ((λ h. h), tt)))))))))))
+  each-term = ((λ h. h), ((λ h. h), ((λ h. h), ((λ h. h), ((λ h. h), ((λ h. h), ((λ h. h), (request, ((λ h. h), (certificate, ((λ h. h), ((λ h. h), ((λ h. h), tt)))))))))))))
     where
       request : TermNames f bs idevidRequestKind
       request h = by-subject (λ s. Names (f .terms) (length (f .terms)) (IdevidRequest s (word bs 3) (word bs 5))) (λ n. h) (λ n. h) (subjectAt bs 0)
@@ -188,11 +202,11 @@ module _ (f : File) (bs : List ℕ) where
   pub term-names : (k : ℕ) → sectionOf k ≡ termSection → fieldsFault f (fieldsOf k) 0 bs ≡ 0 → Names (f .terms) (length (f .terms)) (termAt k bs)
   unfolding sectionOf
   term-names k s e =
-      let r = within 0x10 k 0x1A (second (eqb k 1) _ (leb 0x20 k && leb k 0x22) (leb 0x30 k && leb k lastKind) s) in
-      each (TermNames f bs) 11 0x10 each-term k (r .0) (omega arith) (passed f bs (fieldsOf k) 0 e)
+      let r = within 0x10 k 0x1C (second (eqb k 1) _ (leb 0x20 k && leb k 0x22) (leb 0x30 k && leb k lastKind) s) in
+      each (TermNames f bs) 13 0x10 each-term k (r .0) (omega arith) (passed f bs (fieldsOf k) 0 e)
 
   pub setup-passed : (k : ℕ) → sectionOf k ≡ setupSection → fieldsFault f (fieldsOf k) 0 bs ≡ 0 → SetupFields f (setupAt k bs)
   unfolding sectionOf
   setup-passed k s e =
-      let r = within 0x20 k 0x22 (third (eqb k 1) (leb 0x10 k && leb k 0x1A) _ (leb 0x30 k && leb k lastKind) s) in
+      let r = within 0x20 k 0x22 (third (eqb k 1) (leb 0x10 k && leb k 0x1C) _ (leb 0x30 k && leb k lastKind) s) in
       each (SetupPassed f bs) 3 0x20 each-setup k (r .0) (omega arith) (passed f bs (fieldsOf k) 0 e)

@@ -12,9 +12,10 @@ use lib.ListN.{getD, length, length-append, List·getD-append, List·getD-eq-def
 use lib.Seq.{getD-append-seam}
 use Rattle.rules.specs.declared.Subject.the-variants.{Tpm, Device}
 use Rattle.rules.specs.declared.Term.{Term}
-use Rattle.rules.specs.declared.Term.the-variants.{PublicKey, PrivateKey, Hash, Signature, Attest, Credential, Number, IdevidRequest, LdevidRequest, Certificate, Pair}
+use Rattle.rules.specs.Limits.{registerCount}
+use Rattle.rules.specs.declared.Term.the-variants.{PublicKey, PrivateKey, Hash, Signature, Attest, Credential, Number, IdevidRequest, LdevidRequest, Certificate, Pair, Register, Quote}
 use Rattle.rules.specs.declared.Field.{Field}
-use Rattle.rules.specs.declared.Field.the-variants.{RoleField, IdentifierField, AttributesField, SubjectField, PartyField, AnyTerm, TermOf, SignedAttest, IakPairField}
+use Rattle.rules.specs.declared.Field.the-variants.{RoleField, IdentifierField, AttributesField, SubjectField, PartyField, AnyTerm, TermOf, SignedAttest, IakPairField, RegisterField, HashedPair, SignedQuote}
 use Rattle.rules.specs.Term.{kindOf, fieldsIn, subjectFields, partsOf, namesOf, sameList, alike, anyAlike}
 use Rattle.rules.specs.Record.{fieldsOf, sectionOf}
 use Rattle.theorems.proofs.Booleans.{or-left, or-right}
@@ -37,6 +38,9 @@ span AnyTerm = 1
 span (TermOf k) = 1
 span SignedAttest = 1
 span IakPairField = 2
+span RegisterField = 1
+span HashedPair = 1
+span SignedQuote = 1
 
 -- what loading checked of a field of the term of number n
 abbrev NamesAt : List Term → ℕ → Field → ℕ → Type 0
@@ -49,6 +53,9 @@ NamesAt ts n AnyTerm x = x < n
 NamesAt ts n (TermOf k) x = (x < n) × (kindAt ts x ≡ k)
 NamesAt ts n SignedAttest x = Unit {0}
 NamesAt ts n IakPairField x = Unit {0}
+NamesAt ts n RegisterField x = x < registerCount
+NamesAt ts n HashedPair x = Unit {0}
+NamesAt ts n SignedQuote x = Unit {0}
 
 -- the same of the fields from the place i on
 abbrev pub Named : List Term → ℕ → List Field → ℕ → List ℕ → Type 0
@@ -107,6 +114,9 @@ module _ (ts : List Term) (t : Term) where
   field-stays n x (TermOf k) l h = let b = h .0 in (b, ap kindOf (at-before x (omega arith)) ∙ h .1)
   field-stays n x SignedAttest l h = tt
   field-stays n x IakPairField l h = tt
+  field-stays n x RegisterField l h = h
+  field-stays n x HashedPair l h = tt
+  field-stays n x SignedQuote l h = tt
 
   names-stay : (n : ℕ) (fs : List Field) (i : ℕ) (xs : List ℕ) → n ≤ length ts → Named ts n fs i xs → Named more n fs i xs
   names-stay n [] i xs l h = tt
@@ -178,6 +188,8 @@ names-below ts n (LdevidRequest t c) h = (h .0, (h .1 .0 .0, tt))
 names-below ts n (Certificate k (Tpm i) p) h = (h .0 .0, (h .1 .1 .0 .0, tt))
 names-below ts n (Certificate k (Device i) p) h = (h .0 .0, (h .1 .1 .0 .0, tt))
 names-below ts n (Pair t v) h = (h .0, (h .1 .0, tt))
+names-below ts n (Register i) h = tt
+names-below ts n (Quote i t v) h = (h .1 .0, (h .1 .1 .0 .0, tt))
 
 -- a term names only lower ones
 pub named-lower : (ts : List Term) → AllName ts → (t u : ℕ) → t < length ts → List·Memᴰ u (namesOf (at ts t)) → u < t
@@ -201,6 +213,8 @@ parts-named (IdevidRequest s c k) u m = m
 parts-named (LdevidRequest t c) u m = m
 parts-named (Certificate k s p) u m = one-of-two m
 parts-named (Pair t v) u m = m
+parts-named (Register i) u m = m
+parts-named (Quote i t n) u m = m
 
 -- the parts of a term are lower ones, also of one that is not declared
 pub parts-lower : (ts : List Term) → AllName ts → (t u : ℕ) → List·Memᴰ u (partsOf (at ts t)) → u < t

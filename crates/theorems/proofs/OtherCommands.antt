@@ -16,10 +16,10 @@ use Rattle.rules.specs.declared.Signers.{Signers}
 use Rattle.rules.specs.declared.Subject.{Subject}
 use Rattle.rules.specs.Limits.{tpmMaker, oemDesk, ownerDesk}
 use Rattle.rules.specs.Term.{sameSubject}
-use Rattle.rules.specs.File.{File, Setup, learns, holds, signsWith, Command, hash, sign, certify, makeCredential, activateCredential, makeIdevidRequest, makeLdevidRequest, makePair, checkHash, checkSignature, checkCertificate, checkAttributes, send, selfIssue, challenge, issueIak, issue, issueIaks, IakPair, roleOf, isRole, term, kind, isKind, parts, field, hashedTerm, message, signingKey, attestedKey, credentialTerm, credentialNumber, credentialKey, idevidCertificate, idevidKey, ldevidMessage, ldevidCertificate, certifiedKey, signer, leftOf, rightOf, subject, attributes, paired, halfIn, someSetup, isSigningKeyFor, holdsKey, signsFor, signsForRole, signsForSome}
+use Rattle.rules.specs.File.{File, Setup, learns, holds, signsWith, Command, hash, sign, certify, makeCredential, activateCredential, makeIdevidRequest, makeLdevidRequest, makePair, checkHash, checkSignature, checkCertificate, checkAttributes, send, selfIssue, challenge, issueIak, issue, issueIaks, extend, quote, IakPair, roleOf, isRole, term, kind, isKind, parts, field, hashedTerm, message, signingKey, attestedKey, credentialTerm, credentialNumber, credentialKey, idevidCertificate, idevidKey, ldevidMessage, ldevidCertificate, certifiedKey, signer, leftOf, rightOf, registerOf, quotedValue, quoteNumber, subject, attributes, paired, halfIn, someSetup, isSigningKeyFor, holdsKey, signsFor, signsForRole, signsForSome}
 use Rattle.rules.specs.Learning.{Knowledge, learn}
-use Rattle.rules.specs.State.{State, taught, start, learnt}
-use Rattle.rules.specs.Device.{deviceRole, keyHas, holdsHalf, hashTests, hashEffect, signTests, certifyTests, makeCredentialTests, activateCredentialTests, bothKnownTests, mayBeSentByDesk, maySend, sendTests, selfIssueTests, checkRole, checkTests}
+use Rattle.rules.specs.State.{State, taught, startRegisters, start, learnt}
+use Rattle.rules.specs.Device.{deviceRole, keyHas, holdsHalf, hashTests, hashEffect, signTests, certifyTests, makeCredentialTests, activateCredentialTests, bothKnownTests, mayBeSentByDesk, maySend, sendTests, selfIssueTests, checkRole, checkTests, extendTests, quoteTests, noTicket}
 use Rattle.rules.specs.Desk.{requestBody, requestSignature, formTests, proofTests, iakOf, ekCertificateOf, ekOf, challengeTests, challengeEffect, calledFor, endEk, allEndAt, issueIakTests, issueIakEffect, attestSignatureOf, newKeyOf, parentCertificateOf, issueTests, issueEffect, pairTests, issueIaksTests, issueIaksEffect}
 use Rattle.rules.specs.Run.{testsOf, effectOf, outcome, after, run, outcomes}
 use Rattle.rules.specs.Lent.{success, refusal}
@@ -45,8 +45,8 @@ module _ (f : File) (section : ℕ) (cs : List Command) where
   taught-same (signsWith q k ∷ xs) = taught-same xs
 
   pub start-same : start g ≡ start f
-  unfolding start holdsKey
-  start-same = ap (λ (known : Knowledge). record { knows = known; table = holdsKey f; mark = λ t. 0; desk = λ t. 0; request = λ t. 0; ledger = [] }) (taught-same (f .setup))
+  unfolding start holdsKey startRegisters isRole roleOf
+  start-same = ap (λ (known : Knowledge). record { knows = known; table = holdsKey f; mark = λ t. 0; desk = λ t. 0; request = λ t. 0; registers = startRegisters f; ledger = [] }) (taught-same (f .setup))
 
   signing-same : (role k : ℕ) (xs : List Setup) → someSetup (isSigningKeyFor g role k) xs ≡ someSetup (isSigningKeyFor f role k) xs
   unfolding someSetup isSigningKeyFor isRole roleOf
@@ -97,7 +97,7 @@ module _ (f : File) (section : ℕ) (cs : List Command) where
       rw (iak-effect-same s p q (x .credential) (x .certificate), pairs-effect-same (issueIakEffect f s p q (x .credential) (x .certificate)) p q xs)
 
   tests-same : (s : State) (c : Command) → testsOf g s c ≡ testsOf f s c
-  unfolding testsOf deviceRole keyHas holdsHalf halfIn hashTests signTests certifyTests makeCredentialTests activateCredentialTests bothKnownTests mayBeSentByDesk maySend sendTests selfIssueTests checkRole checkTests issueIaksTests isRole roleOf isKind kind hashedTerm message signingKey attestedKey credentialTerm credentialNumber credentialKey idevidCertificate idevidKey ldevidMessage ldevidCertificate certifiedKey signer leftOf rightOf attributes paired field term
+  unfolding testsOf deviceRole keyHas holdsHalf halfIn hashTests signTests certifyTests makeCredentialTests activateCredentialTests bothKnownTests mayBeSentByDesk maySend sendTests selfIssueTests checkRole checkTests extendTests quoteTests issueIaksTests isRole roleOf isKind kind hashedTerm message signingKey attestedKey credentialTerm credentialNumber credentialKey idevidCertificate idevidKey ldevidMessage ldevidCertificate certifiedKey signer leftOf rightOf registerOf quotedValue quoteNumber attributes paired field term
   tests-same s (hash p r) = refl
   tests-same s (sign p r) = refl
   tests-same s (certify p r) = refl
@@ -116,9 +116,11 @@ module _ (f : File) (section : ℕ) (cs : List Command) where
   tests-same s (issueIak p q c r) = iak-same s p q c r
   tests-same s (issue family p q r) = issue-same s family p q r
   tests-same s (issueIaks p q xs) = rw (pairs-same s p q xs)
+  tests-same s (extend p i r) = refl
+  tests-same s (quote p r) = refl
 
   pub effect-same : (s : State) (c : Command) → effectOf g s c ≡ effectOf f s c
-  unfolding effectOf hashEffect challengeEffect issueEffect learnt learn parts isKind kind hashedTerm credentialNumber parentCertificateOf requestBody ldevidCertificate leftOf field term
+  unfolding effectOf noTicket hashEffect challengeEffect issueEffect learnt learn parts isKind kind hashedTerm credentialNumber parentCertificateOf requestBody ldevidCertificate leftOf field term
   effect-same s (hash p r) = refl
   effect-same s (sign p r) = refl
   effect-same s (certify p r) = refl
@@ -137,6 +139,8 @@ module _ (f : File) (section : ℕ) (cs : List Command) where
   effect-same s (issueIak p q c r) = iak-effect-same s p q c r
   effect-same s (issue family p q r) = refl
   effect-same s (issueIaks p q xs) = pairs-effect-same s p q xs
+  effect-same s (extend p i r) = refl
+  effect-same s (quote p r) = refl
 
   pub outcome-same : (s : State) (c : Command) → outcome g s c ≡ outcome f s c
   unfolding outcome

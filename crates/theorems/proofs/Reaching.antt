@@ -1,19 +1,20 @@
 -- Each command is a step or changes nothing, and so the invariant holds of every state that the first n commands leave.
 -- Assumes nothing.
-use mathlib.Core.Path.{_≡_, refl, ap, subst⁻¹, _∙_}
-use mathlib.Core.Logic.{⊎-elim}
+use mathlib.Core.Path.{_≡_, refl, ap, subst, subst⁻¹, _∙_}
+use mathlib.Core.Logic.{inl, inr, ⊎-elim}
 use mathlib.Core.Bool.{true}
 use mathlib.Core.List.{List, [], _∷_, List·Memᴰ}
 use mathlib.Core.Option.{Option, none, some}
 use Prim.Native.Nat.{ℕ, zero, suc, _<_}
 use native.Mathlib.Omega.{arith}
 use native.Mathlib.Decide.{ℕ-discrete}
-use lib.ListN.{length, getElem?}
-use Rattle.rules.specs.Limits.{tpmMaker}
-use Rattle.rules.specs.Term.{certificateKind}
-use Rattle.rules.specs.File.{File, learns, signsWith, Command, hash, sign, certify, makeCredential, activateCredential, makeIdevidRequest, makeLdevidRequest, makePair, checkHash, checkSignature, checkCertificate, checkAttributes, send, selfIssue, challenge, issueIak, issue, issueIaks, IakPair, roleOf, kind, certifiedKey, signer, signsForRole}
+use lib.ListN.{length, getElem?, List·getD-eq-default}
+use Rattle.rules.specs.declared.Term.the-variants.{Hash}
+use Rattle.rules.specs.Limits.{tpmMaker, emptyField}
+use Rattle.rules.specs.Term.{certificateKind, kindOf}
+use Rattle.rules.specs.File.{File, learns, signsWith, Command, hash, sign, certify, makeCredential, activateCredential, makeIdevidRequest, makeLdevidRequest, makePair, checkHash, checkSignature, checkCertificate, checkAttributes, send, selfIssue, challenge, issueIak, issue, issueIaks, extend, quote, IakPair, roleOf, term, kind, certifiedKey, signer, signsForRole}
 use Rattle.rules.specs.Load.{commandsOf}
-use Rattle.rules.specs.State.{State, start}
+use Rattle.rules.specs.State.{State, startRegisters, start}
 use Rattle.rules.specs.Desk.{issueIakEffect, issueIaksEffect}
 use Rattle.rules.specs.Run.{effectOf, outcome, after, reached}
 use Rattle.theorems.specs.Residency.{Inside}
@@ -22,9 +23,10 @@ use Rattle.theorems.proofs.Learning.{taught-closed, taught-only}
 use Rattle.theorems.proofs.Loading.{Checked, PairsFormed, Wellformed}
 use Rattle.theorems.proofs.Terms.{parts-publicKey, parts-number, parts-certificate, holds-given, signs-role-given}
 use Rattle.theorems.proofs.Running.{after-accepted, after-refused, reached-none, reached-next, reached-end, command-member}
-use Rattle.theorems.proofs.Invariant.{Good, Invariant, Step, invariant-next}
+use Rattle.theorems.proofs.Registers.{start-shows}
+use Rattle.theorems.proofs.Invariant.{Good, Shown, Invariant, Step, invariant-next}
 use Rattle.theorems.proofs.Together.{PairsAccepted, pairs-accepted}
-use Rattle.theorems.proofs.DeviceSteps.{good-plain, number-good, certificate-good, signer-alone, hash-step, sign-step, certify-step, makeCredential-step, activateCredential-step, makeIdevidRequest-step, makeLdevidRequest-step, makePair-step, send-step, selfIssue-step}
+use Rattle.theorems.proofs.DeviceSteps.{good-plain, number-good, certificate-good, signer-alone, hash-step, sign-step, certify-step, makeCredential-step, activateCredential-step, makeIdevidRequest-step, makeLdevidRequest-step, makePair-step, send-step, selfIssue-step, extend-step, quote-step}
 use Rattle.theorems.proofs.DeskSteps.{challenge-step, issueIak-step, issue-step}
 
 -- some steps, one after the other
@@ -55,6 +57,15 @@ module _ (f : File) (ck : Checked f) where
       (inside-one f t u (certifiedKey f t) (parts-certificate f t (w .0)) i)))
       (ck .learnsAllowed p t g)
 
+  -- an empty register: no term has its number, and what is not declared counts as a 12
+  pub empty-shown : Shown f emptyField
+  unfolding kind term kindOf
+  empty-shown = inr (ap kindOf (List·getD-eq-default (f .terms) (Hash 0) {n = emptyField} (omega (arith, ck .fewTerms))))
+
+  -- a register starts with its 1B, or empty
+  start-shown : (p i : ℕ) → Shown f (startRegisters f p i)
+  start-shown p i = ⊎-elim (λ e. subst⁻¹ (Shown f) e empty-shown) (λ w. inl (w .1 .0)) (start-shows f i p)
+
   pub start-invariant : Invariant f (start f)
   unfolding start
   start-invariant = record {
@@ -66,6 +77,7 @@ module _ (f : File) (ck : Checked f) where
     entries = λ i e h. absurd (let z : _≡_ {A = ℕ} 0 1 = cc in omega arith);
     once = λ i j e g h. absurd (let z : _≡_ {A = ℕ} 0 1 = cc in omega arith);
     oneEk = λ i j e g h. absurd (let z : _≡_ {A = ℕ} 0 1 = cc in omega arith);
+    shown = start-shown;
   }
 
   steps-invariant : {s t : State} → Steps f s t → Invariant f s → Invariant f t
@@ -104,6 +116,8 @@ module _ (f : File) (ck : Checked f) where
     effect-steps (issueIak p q c r) w e = one (issueIak-step f ck s inv p q c r w e)
     effect-steps (issue family p q r) w e = one (issue-step f ck s inv family p q r w e)
     effect-steps (issueIaks p q xs) w e = pairs-steps p q xs s inv (w .0) (w .1) (w .2) (pairs-accepted f s p q xs e)
+    effect-steps (extend p i r) w e = one (extend-step f ck s inv p i r w e)
+    effect-steps (quote p r) w e = one (quote-step f ck s inv p r w e)
 
     pub after-steps : (c : Command) → Wellformed f c → Steps f s (after f s c)
     after-steps c w = go (ℕ-discrete (outcome f s c) 0)

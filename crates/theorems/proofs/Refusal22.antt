@@ -14,7 +14,7 @@ use Rattle.rules.specs.Refusals.{Test, need, order, applies, firstOf, refusalOf
 use Rattle.rules.specs.declared.Family.{Family}
 use Rattle.rules.specs.Families.{requestFamilies}
 use Rattle.rules.specs.Term.{ldevidRequestKind, pairKind}
-use Rattle.rules.specs.File.{File, Command, hash, sign, certify, makeCredential, activateCredential, makeIdevidRequest, makeLdevidRequest, makePair, checkHash, checkSignature, checkCertificate, checkAttributes, send, selfIssue, challenge, issueIak, issue, issueIaks, leftOf}
+use Rattle.rules.specs.File.{File, Command, hash, sign, certify, makeCredential, activateCredential, makeIdevidRequest, makeLdevidRequest, makePair, checkHash, checkSignature, checkCertificate, checkAttributes, send, selfIssue, challenge, issueIak, issue, issueIaks, extend, quote, leftOf}
 use Rattle.rules.specs.Load.{Load, loaded, refused, load}
 use Rattle.rules.specs.State.{State, start, listed}
 use Rattle.rules.specs.Desk.{requestBody, formTests, proofTests, parentCertificateOf, issueTests}
@@ -126,6 +126,8 @@ module _ (f : File) (ck : Checked f) (s : State) (inv : Invariant f s) where
   same-outcome (issueIak p q c r) w = unchecked (issueIak p q c r) refl
   same-outcome (issue family p q r) w = checked-issue family p q r (w .3)
   same-outcome (issueIaks p q xs) w = unchecked (issueIaks p q xs) refl
+  same-outcome (extend p i r) w = unchecked (extend p i r) refl
+  same-outcome (quote p r) w = unchecked (quote p r) refl
 
   same-after : (c : Command) → Wellformed f c → afterWith22 f s c ≡ after f s c
   unfolding afterWith22 after
@@ -186,9 +188,7 @@ pub same-without-22 : SameWithout22
 unfolding runAnswerWith22 runAnswer pathAnswerWith22 pathAnswer pathBuffersWith22 pathBuffers pathLeavesWith22 pathLeaves
 same-without-22 bytes n lent t list = record {
   answer = rw (same-answered bytes n (load bytes) refl) refl;
-  state = rw (same-buffers bytes n lent) refl;
-  ledger = rw (same-buffers bytes n lent) refl;
-  outcomes = rw (same-buffers bytes n lent) refl;
+  buffers = same-buffers bytes n lent;
   answerOfPath = rw (same-path bytes n t (load bytes) refl) refl;
   buffersOfPath = rw (same-buffers bytes n lent) refl;
   listOfPath = rw (same-list bytes n t list (load bytes) refl) refl;

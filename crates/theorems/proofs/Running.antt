@@ -15,10 +15,10 @@ use lib.Dec.{eqb}
 use lib.ListN.{take, getElem?}
 use borrow.Author.Tests.{eq-eqb, ne-eqb}
 use Rattle.rules.specs.Refusals.{Test, order, refusalOf}
-use Rattle.rules.specs.File.{File, Command, hash, sign, certify, makeCredential, activateCredential, makeIdevidRequest, makeLdevidRequest, makePair, checkHash, checkSignature, checkCertificate, checkAttributes, send, selfIssue, challenge, issueIak, issue, issueIaks, IakPair}
+use Rattle.rules.specs.File.{File, Command, hash, sign, certify, makeCredential, activateCredential, makeIdevidRequest, makeLdevidRequest, makePair, checkHash, checkSignature, checkCertificate, checkAttributes, send, selfIssue, challenge, issueIak, issue, issueIaks, extend, quote, IakPair}
 use Rattle.rules.specs.Load.{commandsOf}
 use Rattle.rules.specs.State.{State, start}
-use Rattle.rules.specs.Device.{deviceRole, hashTests, signTests, certifyTests, makeCredentialTests, activateCredentialTests, bothKnownTests, sendTests, selfIssueTests, checkRole, checkTests}
+use Rattle.rules.specs.Device.{deviceRole, hashTests, signTests, certifyTests, makeCredentialTests, activateCredentialTests, bothKnownTests, sendTests, selfIssueTests, checkRole, checkTests, extendTests, quoteTests}
 use Rattle.rules.specs.Desk.{formTests, proofTests, numberTests, challengeTests, calledFor, issueIakTests, issueIakEffect, issueTests, pairTests, issueIaksTests}
 use Rattle.rules.specs.Run.{testsOf, effectOf, outcome, after, run, firstCommands, reached}
 use Rattle.theorems.proofs.Passing.{ordered, ordered-both}
@@ -47,7 +47,7 @@ pairs-ordered f s p q (x ∷ xs) =
     go false ys h = refl
 
 pub tests-ordered : (f : File) (s : State) (c : Command) → ordered order (testsOf f s c) ≡ true
-unfolding testsOf deviceRole hashTests signTests certifyTests makeCredentialTests activateCredentialTests bothKnownTests sendTests selfIssueTests checkRole checkTests challengeTests formTests proofTests numberTests issueIakTests calledFor issueTests issueIaksTests
+unfolding testsOf deviceRole hashTests signTests certifyTests makeCredentialTests activateCredentialTests bothKnownTests sendTests selfIssueTests checkRole checkTests extendTests quoteTests challengeTests formTests proofTests numberTests issueIakTests calledFor issueTests issueIaksTests
 tests-ordered f s (hash p r) = refl
 tests-ordered f s (sign p r) = refl
 tests-ordered f s (certify p r) = refl
@@ -66,6 +66,8 @@ tests-ordered f s (challenge p q r) = refl
 tests-ordered f s (issueIak p q c r) = refl
 tests-ordered f s (issue family p q r) = refl
 tests-ordered f s (issueIaks p q xs) = pairs-ordered f s p q xs
+tests-ordered f s (extend p i r) = refl
+tests-ordered f s (quote p r) = refl
 
 -- the commands in two parts
 pub run-append : (f : File) (xs ys : List Command) (s : State) → run f (xs ++ ys) s ≡ run f ys (run f xs s)

@@ -14,10 +14,10 @@ use lib.ListN.{length}
 use borrow.Author.Tests.{eq-eqb, ne-eqb, eqb-true}
 use Rattle.rules.specs.Limits.{device, oemDesk, partyLimit}
 use Rattle.rules.specs.Term.{hashKind, attestKind, credentialKind, numberKind}
-use Rattle.rules.specs.File.{File, Command, hash, sign, certify, makeCredential, activateCredential, makeIdevidRequest, makeLdevidRequest, makePair, checkHash, checkSignature, checkCertificate, checkAttributes, send, selfIssue, challenge, issueIak, issue, issueIaks, IakPair, roleOf, kind, isKind, hashedTerm, credentialNumber}
+use Rattle.rules.specs.File.{File, Command, hash, sign, certify, makeCredential, activateCredential, makeIdevidRequest, makeLdevidRequest, makePair, checkHash, checkSignature, checkCertificate, checkAttributes, send, selfIssue, challenge, issueIak, issue, issueIaks, extend, quote, IakPair, roleOf, kind, isKind, hashedTerm, credentialNumber}
 use Rattle.rules.specs.Learning.{Knowledge}
-use Rattle.rules.specs.State.{State, numberUsed, credentialOpen, credentialClosed, put, start, learnt, ticketed, opening, closing, entered}
-use Rattle.rules.specs.Device.{hashEffect}
+use Rattle.rules.specs.State.{State, numberUsed, credentialOpen, credentialClosed, put, start, learnt, ticketed, opening, closing, entered, showing}
+use Rattle.rules.specs.Device.{noTicket, hashEffect}
 use Rattle.rules.specs.Desk.{knowers, formTests, proofTests, numberTests, challengeTests, challengeEffect, issueIakEffect, issueEffect, issueIaksEffect}
 use Rattle.rules.specs.Run.{effectOf, outcome, after, run, firstCommands, reached}
 use Rattle.rules.specs.Stock.{inStock, stockAmong, stock}
@@ -242,14 +242,14 @@ module _ (f : File) (ck : Checked f) (desk : ℕ) (role : roleOf f desk ≡ oemD
 
     hash-marks : (p r t : ℕ) → hashEffect f s p r .mark t ≡ s .mark t
     unfolding hashEffect ticketed learnt
-    hash-marks p r t = go (isKind f attestKind (hashedTerm f r))
+    hash-marks p r t = go (noTicket f (hashedTerm f r))
       where
         go : (b : Bool) → cond b (learnt f s p r) (ticketed (learnt f s p r) p r) .mark t ≡ s .mark t
         go true = refl
         go false = refl
 
     accepted : (c : Command) → Wellformed f c → outcome f s c ≡ 0 → stock f s desk ≡ taken c + stock f (after f s c) desk
-    unfolding challengedBy effectOf learnt issueIakEffect issueEffect entered closing
+    unfolding challengedBy effectOf learnt issueIakEffect issueEffect entered closing showing
     accepted (hash p r) w e = plain (hash p r) w e refl (λ t k. hash-marks p r t)
     accepted (sign p r) w e = plain (sign p r) w e refl (λ t k. refl)
     accepted (certify p r) w e = plain (certify p r) w e refl (λ t k. refl)
@@ -272,6 +272,8 @@ module _ (f : File) (ck : Checked f) (desk : ℕ) (role : roleOf f desk ≡ oemD
     accepted (issueIak p q c r) w e = plain (issueIak p q c r) w e refl (λ t k. put-other (s .mark) c credentialClosed t (λ x. unequal f ck s inv c t (w .2) k (sym x)))
     accepted (issue family p q r) w e = plain (issue family p q r) w e refl (λ t k. refl)
     accepted (issueIaks p q xs) w e = plain (issueIaks p q xs) w e refl (λ t k. pairs-marks p q xs s (w .2) t k)
+    accepted (extend p i r) w e = plain (extend p i r) w e refl (λ t k. refl)
+    accepted (quote p r) w e = plain (quote p r) w e refl (λ t k. refl)
 
     refused : (c : Command) → (outcome f s c ≡ 0 → ⊥) → stock f s desk ≡ taken c + stock f (after f s c) desk
     unfolding taken

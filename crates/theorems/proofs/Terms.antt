@@ -14,10 +14,10 @@ use Rattle.rules.specs.declared.Attributes.{Attributes}
 use Rattle.rules.specs.declared.Subject.{Subject}
 use Rattle.rules.specs.declared.Subject.the-variants.{Tpm, Device}
 use Rattle.rules.specs.declared.Term.{Term}
-use Rattle.rules.specs.declared.Term.the-variants.{PublicKey, PrivateKey, Hash, Signature, Attest, Credential, Number, IdevidRequest, LdevidRequest, Certificate, Pair}
+use Rattle.rules.specs.declared.Term.the-variants.{PublicKey, PrivateKey, Hash, Signature, Attest, Credential, Number, IdevidRequest, LdevidRequest, Certificate, Pair, Register, Quote}
 use Rattle.rules.specs.Attributes.{sameAttributes}
-use Rattle.rules.specs.Term.{publicKeyKind, privateKeyKind, hashKind, signatureKind, attestKind, credentialKind, numberKind, idevidRequestKind, ldevidRequestKind, certificateKind, pairKind, kindOf, fieldsIn, subjectFields, attributesOf, partsOf, sameSubject, isDeviceSubject, sameList, keyPair}
-use Rattle.rules.specs.File.{File, Setup, learns, holds, signsWith, roleOf, isRole, term, kind, isKind, parts, field, message, attestedKey, idevidCertificate, idevidKey, ldevidMessage, ldevidCertificate, certifiedKey, leftOf, rightOf, attributes, paired, someTerm, halfIn, someSetup, isHold, isSigningKey, isSigningKeyFor, holdsKey, signsFor, signsForRole}
+use Rattle.rules.specs.Term.{publicKeyKind, privateKeyKind, hashKind, signatureKind, attestKind, credentialKind, numberKind, idevidRequestKind, ldevidRequestKind, certificateKind, pairKind, registerKind, quoteKind, kindOf, fieldsIn, subjectFields, attributesOf, partsOf, sameSubject, isDeviceSubject, sameList, keyPair}
+use Rattle.rules.specs.File.{File, Setup, learns, holds, signsWith, roleOf, isRole, term, kind, isKind, parts, field, message, attestedKey, idevidCertificate, idevidKey, ldevidMessage, ldevidCertificate, certifiedKey, leftOf, rightOf, registerOf, quotedValue, quoteNumber, attributes, paired, someTerm, halfIn, someSetup, isHold, isSigningKey, isSigningKeyFor, holdsKey, signsFor, signsForRole}
 use Rattle.theorems.proofs.Booleans.{and-true, or-true, or-right}
 
 -- a term from its kind and its fields
@@ -36,7 +36,9 @@ rebuild k fs =
     (cond (eqb k idevidRequestKind) (IdevidRequest (subjectAt fs 0 1) (getD fs 2 0) (getD fs 3 0))
     (cond (eqb k ldevidRequestKind) (LdevidRequest (getD fs 0 0) (getD fs 1 0))
     (cond (eqb k certificateKind) (Certificate (getD fs 0 0) (subjectAt fs 1 2) (getD fs 3 0))
-    (Pair (getD fs 0 0) (getD fs 1 0)))))))))))
+    (cond (eqb k pairKind) (Pair (getD fs 0 0) (getD fs 1 0))
+    (cond (eqb k registerKind) (Register (getD fs 0 0))
+    (Quote (getD fs 0 0) (getD fs 1 0) (getD fs 2 0)))))))))))))
 
 rebuilt : (t : Term) → rebuild (kindOf t) (fieldsIn t) ≡ t
 unfolding rebuild subjectAt kindOf fieldsIn subjectFields
@@ -53,10 +55,17 @@ rebuilt (LdevidRequest t c) = refl
 rebuilt (Certificate k (Tpm n) p) = refl
 rebuilt (Certificate k (Device n) p) = refl
 rebuilt (Pair t u) = refl
+rebuilt (Register i) = refl
+rebuilt (Quote i t n) = refl
 
 -- a term from its kind and fields is the term itself
 pub term-same : (a b : Term) → kindOf a ≡ kindOf b → fieldsIn a ≡ fieldsIn b → a ≡ b
 term-same a b k e = cc (rebuilt a, rebuilt b)
+
+-- a 1B from its register
+pub register-term : (f : File) (t : ℕ) → kind f t ≡ registerKind → term f t ≡ Register (registerOf f t)
+unfolding kind rebuild registerOf field
+register-term f t e = sym (rebuilt (term f t)) ∙ ap (λ (k : ℕ). rebuild k (fieldsIn (term f t))) e
 
 -- the parts of a term, by its kind
 module _ (f : File) (t : ℕ) where
@@ -103,6 +112,14 @@ module _ (f : File) (t : ℕ) where
   pub parts-certificate : kind f t ≡ certificateKind → parts f t ≡ certifiedKey f t ∷ []
   unfolding rebuild partsOf certifiedKey field
   parts-certificate e = parts-by certificateKind e
+
+  pub parts-register : kind f t ≡ registerKind → parts f t ≡ []
+  unfolding partsOf rebuild
+  parts-register e = parts-by registerKind e
+
+  pub parts-quote : kind f t ≡ quoteKind → parts f t ≡ quotedValue f t ∷ quoteNumber f t ∷ []
+  unfolding partsOf rebuild quotedValue quoteNumber field
+  parts-quote e = parts-by quoteKind e
 
   pub parts-pair : kind f t ≡ pairKind → parts f t ≡ leftOf f t ∷ rightOf f t ∷ []
   unfolding rebuild partsOf leftOf rightOf field

@@ -8,5 +8,8 @@ pub mod CutLaws
 pub mod Written
 pub mod AskLaws
 pub mod StockLaws
+pub mod RegisterLaws
+pub mod QuoteLaws
+pub mod SignatureLaws
 pub mod Decimal
 pub mod Refusal22

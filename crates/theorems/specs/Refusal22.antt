@@ -6,19 +6,19 @@ use mathlib.Core.List.{List, [], _∷_, _++_, List·Memᴰ}
 use Prim.Native.Nat.{ℕ, _+_}
 use lib.Dec.{eqb, leb}
 use lib.ListN.{length, drop}
-use Rattle.rules.specs.Limits.{fileLimit, pathPlaces}
+use Rattle.rules.specs.Limits.{fileLimit, partyLimit, pathPlaces}
 use Rattle.rules.specs.Refusals.{Test, need, firstOf}
-use Rattle.rules.specs.File.{File, Command, hash, sign, certify, makeCredential, activateCredential, makeIdevidRequest, makeLdevidRequest, makePair, checkHash, checkSignature, checkCertificate, checkAttributes, send, selfIssue, challenge, issueIak, issue, issueIaks}
+use Rattle.rules.specs.File.{File, Command, hash, sign, certify, makeCredential, activateCredential, makeIdevidRequest, makeLdevidRequest, makePair, checkHash, checkSignature, checkCertificate, checkAttributes, send, selfIssue, challenge, issueIak, issue, issueIaks, extend, quote}
 use Rattle.rules.specs.Load.{Load, loaded, refused, load}
 use Rattle.rules.specs.State.{State, start, listed, depthOf}
 use Rattle.rules.specs.Desk.{parentCertificateOf}
 use Rattle.rules.specs.Run.{testsOf, effectOf, firstCommands, zeros, others}
-use Rattle.rules.specs.Lent.{Answer, success, refusal, Lent, rows, written, longEnough, runAnswer, runLeaves, steps, pathAnswer, pathBuffers, pathLeaves}
+use Rattle.rules.specs.Lent.{Answer, success, refusal, Lent, rows, registerRows, written, longEnough, runAnswer, runLeaves, steps, pathAnswer, pathBuffers, pathLeaves}
 
 -- The order of refusals with 22 in its place.
 abbrev pub orderWith22 : List ℕ
 orderWith22 =
-    13 ∷ 32 ∷ 14 ∷ 15 ∷ 16 ∷ 17 ∷ 18 ∷ 19 ∷ 20 ∷ 21 ∷ 22 ∷ 23
+    13 ∷ 32 ∷ 14 ∷ 15 ∷ 16 ∷ 17 ∷ 33 ∷ 18 ∷ 19 ∷ 20 ∷ 21 ∷ 22 ∷ 23
     ∷ 24 ∷ 25 ∷ 26 ∷ 27 ∷ 28 ∷ 31 ∷ 29 ∷ []
 
 -- The check, which 40 made: the certificate in the request is in the ledger. Here the commands of its rule, 40, 41 and 42, all make it.
@@ -41,6 +41,8 @@ check22 f s (challenge p q r) = []
 check22 f s (issueIak p q c r) = []
 check22 f s (issue family p q r) = need 22 (listed (s .ledger) (parentCertificateOf f q)) ∷ []
 check22 f s (issueIaks p q xs) = []
+check22 f s (extend p i r) = []
+check22 f s (quote p r) = []
 
 -- The commands with the check: what one has to pass, its outcome, what it leaves.
 unfoldable pub testsWith22 : File → State → Command → List Test
@@ -76,8 +78,9 @@ unfoldable pub runAnswerWith22 : List ℕ → ℕ → Lent → Answer
 runAnswerWith22 bs n lent = cond (longEnough lent) (answeredWith22 n (load bs)) (refusal 1 0)
 
 unfoldable pub leavesWith22 : ℕ → Lent → Load → Lent
-leavesWith22 n lent (loaded f) = written (rows (reachedWith22 f n) 0 (f .places)) (reachedWith22 f n .ledger) (outcomesOfWith22 f n) lent
-leavesWith22 n lent (refused number place) = written [] [] [] lent
+leavesWith22 n lent (loaded f) =
+    written (rows (reachedWith22 f n) 0 (f .places)) (reachedWith22 f n .ledger) (outcomesOfWith22 f n) (registerRows (reachedWith22 f n .registers) 0 partyLimit) lent
+leavesWith22 n lent (refused number place) = written [] [] [] [] lent
 
 unfoldable pub runLeavesWith22 : List ℕ → ℕ → Lent → Lent
 runLeavesWith22 bs n lent = cond (longEnough lent && leb (length bs) fileLimit) (leavesWith22 n lent (load bs)) lent
@@ -107,12 +110,10 @@ pathLeavesWith22 bs n lent t list = cond (longEnough lent && leb pathPlaces (len
 abbrev pub Never22 : Type 0
 Never22 = (bytes : List ℕ) (f : File) → load bytes ≡ loaded f → (n : ℕ) → List·Memᴰ 22 (outcomesOfWith22 f n) → ⊥
 
--- What Run and Path give is the same with the check and without it: both answers, state, ledger and outcomes after each, and Path's list.
+-- What Run and Path give is the same with the check and without it: both answers, the buffers after each, Path's list.
 pub record Same (bytes : List ℕ) (n : ℕ) (lent : Lent) (t : ℕ) (list : List ℕ) : Type 0 where
   pub answer : runAnswerWith22 bytes n lent ≡ runAnswer bytes n lent
-  pub state : runLeavesWith22 bytes n lent .state ≡ runLeaves bytes n lent .state
-  pub ledger : runLeavesWith22 bytes n lent .ledger ≡ runLeaves bytes n lent .ledger
-  pub outcomes : runLeavesWith22 bytes n lent .outcomes ≡ runLeaves bytes n lent .outcomes
+  pub buffers : runLeavesWith22 bytes n lent ≡ runLeaves bytes n lent
   pub answerOfPath : pathAnswerWith22 bytes n lent t list ≡ pathAnswer bytes n lent t list
   pub buffersOfPath : pathBuffersWith22 bytes n lent t list ≡ pathBuffers bytes n lent t list
   pub listOfPath : pathLeavesWith22 bytes n lent t list ≡ pathLeaves bytes n lent t list

@@ -12,7 +12,7 @@ use Rattle.rules.specs.declared.Subject.the-variants.{Device}
 use Rattle.rules.specs.Limits.{device, depthLimit}
 use Rattle.rules.specs.Families.{iakFamily, families}
 use Rattle.rules.specs.Term.{privateKeyKind, certificateKind}
-use Rattle.rules.specs.File.{File, learns, holds, signsWith, Command, hash, sign, certify, makeCredential, activateCredential, makeIdevidRequest, makeLdevidRequest, makePair, checkHash, checkSignature, checkCertificate, checkAttributes, send, selfIssue, challenge, issueIak, issue, issueIaks, IakPair, roleOf, kind, parts, subject, attributes, paired, certifiedKey, signer, credentialNumber, signsForSome}
+use Rattle.rules.specs.File.{File, learns, holds, signsWith, Command, hash, sign, certify, makeCredential, activateCredential, makeIdevidRequest, makeLdevidRequest, makePair, checkHash, checkSignature, checkCertificate, checkAttributes, send, selfIssue, challenge, issueIak, issue, issueIaks, extend, quote, IakPair, roleOf, kind, parts, subject, attributes, paired, certifiedKey, signer, credentialNumber, signsForSome}
 use Rattle.rules.specs.Load.{loaded, load, commandsOf}
 use Rattle.rules.specs.Desk.{ekCertificateOf, parentCertificateOf, certificatesOf}
 use Rattle.rules.specs.Run.{outcome, reached}
@@ -42,6 +42,8 @@ Teaches f (challenge p request r) q t = (q ≡ p) × (t ≡ r)
 Teaches f (issueIak p returning c r) q t = (q ≡ p) × (t ≡ r)
 Teaches f (issue family p request r) q t = (q ≡ p) × (t ≡ r)
 Teaches f (issueIaks p returning xs) q t = (q ≡ p) × List·Memᴰ t (certificatesOf xs)
+Teaches f (extend p i r) q t = ⊥
+Teaches f (quote p r) q t = (q ≡ p) × (t ≡ r)
 
 -- Accepted: the command of ordinal i is c, and its outcome is 0
 pub record Accepted (f : File) (i : ℕ) (c : Command) : Type 0 where

@@ -9,7 +9,7 @@ use lib.ListN.{length}
 use Rattle.rules.specs.Limits.{oemDesk}
 use Rattle.rules.specs.Refusals.{refusalOf}
 use Rattle.rules.specs.Term.{numberKind}
-use Rattle.rules.specs.File.{File, Command, hash, sign, certify, makeCredential, activateCredential, makeIdevidRequest, makeLdevidRequest, makePair, checkHash, checkSignature, checkCertificate, checkAttributes, send, selfIssue, challenge, issueIak, issue, issueIaks, isRole, isKind}
+use Rattle.rules.specs.File.{File, Command, hash, sign, certify, makeCredential, activateCredential, makeIdevidRequest, makeLdevidRequest, makePair, checkHash, checkSignature, checkCertificate, checkAttributes, send, selfIssue, challenge, issueIak, issue, issueIaks, extend, quote, isRole, isKind}
 use Rattle.rules.specs.Load.{loaded, load}
 use Rattle.rules.specs.State.{State, start}
 use Rattle.rules.specs.Desk.{numberTests}
@@ -71,6 +71,8 @@ challengedBy desk (selfIssue p r) = false
 challengedBy desk (issueIak p q c r) = false
 challengedBy desk (issue family p q r) = false
 challengedBy desk (issueIaks p q xs) = false
+challengedBy desk (extend p i r) = false
+challengedBy desk (quote p r) = false
 
 -- how many accepted 3Es of a desk a list of commands has
 unfoldable pub challenges : File → ℕ → List Command → State → ℕ

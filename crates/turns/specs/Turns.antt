@@ -13,11 +13,11 @@ use Rattle.rules.specs.State.{State}
 use Rattle.rules.specs.Run.{run, outcomes, zeros, others}
 use Rattle.theorems.proofs.Loading.{Wellformed}
 use Rattle.state.specs.View.{view}
-use Rattle.state.proofs.Exact.{Bytes, stateOf}
+use Rattle.state.proofs.Exact.{Bytes}
 use Rattle.lookup.specs.Commands.{commandsLeft, Commands}
 use Rattle.loaded.specs.Loaded.{fileIn}
 use Rattle.gained.specs.Took.{took, Whole}
-use Rattle.commands.specs.Standing.{Stands, SomeStands}
+use Rattle.commands.specs.Standing.{Memory, stateIn, Stands, SomeStands}
 use Rattle.turns.specs.declared.Progress.{Progress}
 use Rattle.turns.specs.declared.Turned.{Turned}
 
@@ -61,42 +61,47 @@ results f cs x out i a b = record { state = run f cs x; outcomes = sets out i (o
 
 -- a moment between commands: what is held, the ledger, and how far the run is
 pub record Moment : Type 0 where
-  pub state : List ℕ
+  pub memory : Memory
   pub outcomes : List ℕ
   pub ledger : List Entry
   pub progress : Progress
 
 -- what the run comes to from a moment on, by the commands left
 abbrev pub result : List ℕ → Moment → Result
-result bs v = results (fileIn bs) (commandsLeft bs (v .progress .at) (v .progress .left)) (stateOf (view (v .state)) (v .ledger)) (v .outcomes) (v .progress .done) (v .progress .accepted) (v .progress .refused)
+result bs v = results (fileIn bs) (commandsLeft bs (v .progress .at) (v .progress .left)) (stateIn (v .memory) (v .ledger)) (v .outcomes) (v .progress .done) (v .progress .accepted) (v .progress .refused)
 
 -- one moment leads to another: from there on the run comes to the same
 pub record Leads (bs : List ℕ) (u v : Moment) : Type 0 where
   pub same : result bs v ≡ result bs u
-  pub places : view (v .state) .place ≡ view (u .state) .place
+  pub places : view (v .memory .state) .place ≡ view (u .memory .state) .place
+
+-- the state and the registers are bytes
+pub record InBytes (m : Memory) : Type 0 where
+  pub state : Bytes (m .state)
+  pub registers : Bytes (m .registers)
 
 -- before a turn: room for an outcome of each command
-pub record TurnReady (bs s tables out : List ℕ) (parties : ℕ) (p : Progress) : Type 0 where
-  pub stands : SomeStands bs s tables (p .issued)
+pub record TurnReady (bs : List ℕ) (m : Memory) (tables out : List ℕ) (parties : ℕ) (p : Progress) : Type 0 where
+  pub stands : SomeStands bs m tables (p .issued)
   pub underway : Underway bs p
   pub short : length bs ≤ fileLimit
   pub places : commandLimit ≤ length out
   pub partiesAre : parties ≡ length (fileIn bs .roles)
 
 -- what a turn leaves, whatever the ledger, which gains some entries: a later moment, and fewer commands are left
-pub record Turns (bs s tables out : List ℕ) (p : Progress) (s′ tables′ out′ : List ℕ) (r : Turned) : Type 0 where
+pub record Turns (bs : List ℕ) (m : Memory) (tables out : List ℕ) (p : Progress) (m′ : Memory) (tables′ out′ : List ℕ) (r : Turned) : Type 0 where
   pub whole : Whole (r .gained)
-  pub bytes : Bytes s′
+  pub bytes : InBytes m′
   pub underway : Underway bs (r .progress)
   pub less : 0 < p .left → r .progress .left < p .left
-  pub stands : (ledger : List Entry) → Stands bs s tables (p .issued) ledger → Stands bs s′ tables′ (r .progress .issued) (ledger ++ took (r .gained))
-  pub leads : (ledger : List Entry) → Stands bs s tables (p .issued) ledger
-      → Leads bs (record { state = s; outcomes = out; ledger = ledger; progress = p }) (record { state = s′; outcomes = out′; ledger = ledger ++ took (r .gained); progress = r .progress })
+  pub stands : (ledger : List Entry) → Stands bs m tables (p .issued) ledger → Stands bs m′ tables′ (r .progress .issued) (ledger ++ took (r .gained))
+  pub leads : (ledger : List Entry) → Stands bs m tables (p .issued) ledger
+      → Leads bs (record { memory = m; outcomes = out; ledger = ledger; progress = p }) (record { memory = m′; outcomes = out′; ledger = ledger ++ took (r .gained); progress = r .progress })
 
 -- before the loop: no entry yet, room for an outcome of each command, and commands alone from the first one's place on
-pub record RunReady (bs s tables out : List ℕ) (parties first : ℕ) : Type 0 where
-  pub stands : Stands bs s tables 0 []
-  pub bytes : Bytes s
+pub record RunReady (bs : List ℕ) (m : Memory) (tables out : List ℕ) (parties first : ℕ) : Type 0 where
+  pub stands : Stands bs m tables 0 []
+  pub bytes : InBytes m
   pub short : length bs ≤ fileLimit
   pub places : commandLimit ≤ length out
   pub partiesAre : parties ≡ length (fileIn bs .roles)
@@ -116,13 +121,13 @@ onto es l = es ++ drop (length es) l
 
 -- after the loop: the rules' state after these commands, with a ledger of some entries, which stand at the first places
 -- of the lent one; their outcomes and the totals; what stands between commands
-pub record Executes (bs s out : List ℕ) (first n : ℕ) (old : List Entry) (s′ tables′ out′ : List ℕ) (new : List Entry) (p : Progress) : Type 0 where
+pub record Executes (bs : List ℕ) (m : Memory) (out : List ℕ) (first n : ℕ) (old : List Entry) (m′ : Memory) (tables′ out′ : List ℕ) (new : List Entry) (p : Progress) : Type 0 where
   pub entries : List Entry
   pub ledger : new ≡ onto entries old
-  pub state : stateOf (view s′) entries ≡ run (fileIn bs) (commandsLeft bs first n) (stateOf (view s) [])
-  pub outcomes : out′ ≡ sets out 0 (given bs first n (stateOf (view s) []))
-  pub accepted : p .accepted ≡ zeros (given bs first n (stateOf (view s) []))
-  pub refused : p .refused ≡ others (given bs first n (stateOf (view s) []))
-  pub stands : Stands bs s′ tables′ (p .issued) entries
-  pub bytes : Bytes s′
-  pub places : view s′ .place ≡ view s .place
+  pub state : stateIn m′ entries ≡ run (fileIn bs) (commandsLeft bs first n) (stateIn m [])
+  pub outcomes : out′ ≡ sets out 0 (given bs first n (stateIn m []))
+  pub accepted : p .accepted ≡ zeros (given bs first n (stateIn m []))
+  pub refused : p .refused ≡ others (given bs first n (stateIn m []))
+  pub stands : Stands bs m′ tables′ (p .issued) entries
+  pub bytes : InBytes m′
+  pub places : view (m′ .state) .place ≡ view (m .state) .place

@@ -5,7 +5,8 @@ ghost use mathlib.Core.Bool.{cond};
 ghost use Prim.Native.Nat.{_-_, _<_, _≤_};
 ghost use lib.Dec.{eqb, ltb};
 ghost use lib.ListN.{length, take, drop};
-ghost use Rattle.rules.specs.Limits.{stateBytes};
+ghost use Rattle.rules.specs.Limits.{stateBytes, registerBytes};
+ghost use Rattle.commands.specs.Standing.{memory};
 ghost use Rattle.turns.specs.Turns.{starts, stepped, StepReady, TurnReady, Turns};
 
 // How far a run is: how many commands are left at most, the place of the next, how many are done, accepted and refused,
@@ -113,24 +114,25 @@ fn step(bytes: usize, p: Progress, outcome: u8, count: usize, next: usize) -> Pr
 pub fn turn(
     file: &[u8],
     state: &mut [u8],
+    registers: &mut [u8],
     tables: &mut [u16; tables::WORDS],
     outcomes: &mut [u8],
     parties: usize,
     from: Progress,
 ) -> Turned
-    requires { ⌜ TurnReady (now file) (now state) (now tables) (now outcomes) parties from ⌝ }
-    ensures { λ r. ⌜ Turns (now (file .entry)) (now (state .entry)) (now (tables .entry)) (now (outcomes .entry)) from (now (state .exit)) (now (tables .exit)) (now (outcomes .exit)) r ⌝ }
+    requires { ⌜ TurnReady (now file) (memory (now state) (now registers)) (now tables) (now outcomes) parties from ⌝ }
+    ensures { λ r. ⌜ Turns (now (file .entry)) (memory (now (state .entry)) (now (registers .entry))) (now (tables .entry)) (now (outcomes .entry)) from (memory (now (state .exit)) (now (registers .exit))) (now (tables .exit)) (now (outcomes .exit)) r ⌝ }
 {
     let mut p = from;
     while p.left != 0 {
         let at = p.at;
         let next = reader::next_place(file, at);
-        let outcome = commands::decide(file, state, tables, parties, at);
+        let outcome = commands::decide(file, state, registers, tables, parties, at);
         let i = p.done;
         outcomes[i] = outcome;
         if outcome == 0 {
             let kind = file[at];
-            if kind >= 0x3E {
+            if commands::is_desk(kind) {
                 let gained = commands::effect(file, state, tables, p.issued, at);
                 let last = step(file.len(), p, outcome, gained.count, next);
                 return Turned {
@@ -149,21 +151,23 @@ pub fn turn(
     }
 }
 
-// The same in a lent state of any length, by what was found before the first command.
+// The same in a lent state and registers of any length, by what was found before the first command.
 pub fn turn_within(
     file: &[u8],
     state: &mut [u8],
+    registers: &mut [u8],
     tables: &mut [u16; tables::WORDS],
     outcomes: &mut [u8],
     b: Begun,
     p: Progress,
 ) -> Turned
-    requires { ⌜ (stateBytes ≤ length (now state)) × TurnReady (now file) (take stateBytes (now state)) (now tables) (now outcomes) (b .parties) p ⌝ }
-    ensures { λ r. ⌜ Turns (now (file .entry)) (take stateBytes (now (state .entry))) (now (tables .entry)) (now (outcomes .entry)) p (take stateBytes (now (state .exit))) (now (tables .exit)) (now (outcomes .exit)) r × (drop stateBytes (now (state .exit)) ≡ drop stateBytes (now (state .entry))) ⌝ }
+    requires { ⌜ (stateBytes ≤ length (now state)) × (registerBytes ≤ length (now registers)) × TurnReady (now file) (memory (take stateBytes (now state)) (take registerBytes (now registers))) (now tables) (now outcomes) (b .parties) p ⌝ }
+    ensures { λ r. ⌜ Turns (now (file .entry)) (memory (take stateBytes (now (state .entry))) (take registerBytes (now (registers .entry)))) (now (tables .entry)) (now (outcomes .entry)) p (memory (take stateBytes (now (state .exit))) (take registerBytes (now (registers .exit)))) (now (tables .exit)) (now (outcomes .exit)) r × (drop stateBytes (now (state .exit)) ≡ drop stateBytes (now (state .entry))) × (drop registerBytes (now (registers .exit)) ≡ drop registerBytes (now (registers .entry))) ⌝ }
 {
     turn(
         file,
         &mut state[..rules::STATE_BYTES],
+        &mut registers[..rules::REGISTER_BYTES],
         tables,
         outcomes,
         b.parties,

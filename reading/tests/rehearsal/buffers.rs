@@ -13,14 +13,16 @@ struct Lent {
     state: Vec<u8>,
     ledger: Vec<Entry>,
     outcomes: Vec<u8>,
+    registers: Vec<u8>,
     list: Vec<u16>,
 }
 
-fn lent(state: usize, ledger: usize, outcomes: usize, list: usize) -> Lent {
+fn lent(state: usize, ledger: usize, outcomes: usize, registers: usize, list: usize) -> Lent {
     Lent {
         state: vec![0xAA; state],
         ledger: vec![FILLER; ledger],
         outcomes: vec![0xBB; outcomes],
+        registers: vec![0xDD; registers],
         list: vec![0xCCCC; list],
     }
 }
@@ -33,6 +35,7 @@ impl Lent {
             &mut self.state,
             &mut self.ledger,
             &mut self.outcomes,
+            &mut self.registers,
         )
     }
 
@@ -43,6 +46,7 @@ impl Lent {
             &mut self.state,
             &mut self.ledger,
             &mut self.outcomes,
+            &mut self.registers,
             term,
             &mut self.list,
         )
@@ -52,6 +56,7 @@ impl Lent {
         self.state.iter().all(|byte| *byte == 0xAA)
             && self.ledger.iter().all(|entry| *entry == FILLER)
             && self.outcomes.iter().all(|byte| *byte == 0xBB)
+            && self.registers.iter().all(|byte| *byte == 0xDD)
             && self.list_untouched()
     }
 
@@ -67,10 +72,14 @@ fn short_buffers() {
     let long = vec![0xFF; FILE_BYTES + 1];
     let bad = vec![0xFF];
     for file in [&good, &long, &bad] {
-        for (state, ledger, outcomes) in
-            [(8191, 1024, 8192), (8192, 1023, 8192), (8192, 1024, 8191)]
-        {
-            let mut l = lent(state, ledger, outcomes, 9);
+        for (state, ledger, outcomes, registers) in [
+            (8191, 1024, 8192, 384),
+            (8192, 1023, 8192, 384),
+            (8192, 1024, 8191, 384),
+            (8192, 1024, 8192, 383),
+            (8192, 1024, 8192, 0),
+        ] {
+            let mut l = lent(state, ledger, outcomes, registers, 9);
             assert_eq!(
                 l.run(file, 99),
                 RunAnswer::Refused {
@@ -87,7 +96,7 @@ fn short_buffers() {
             );
             assert!(l.untouched());
         }
-        let mut l = lent(8192, 1024, 8192, 8);
+        let mut l = lent(8192, 1024, 8192, 384, 8);
         assert_eq!(
             l.path(file, 99, n.iak_certificate),
             PathAnswer::Refused {
@@ -113,7 +122,7 @@ fn short_buffers() {
 #[test]
 fn long_file() {
     let file = vec![0xFF; FILE_BYTES + 1];
-    let mut l = lent(8192, 1024, 8192, 9);
+    let mut l = lent(8192, 1024, 8192, 384, 9);
     let number = 2;
     let place = 0;
     assert_eq!(l.run(&file, 1), RunAnswer::Refused { number, place });
@@ -138,7 +147,7 @@ fn refused_load_leaves_zeros_in_the_first_parts() {
     let mut file = b.bytes();
     file.push(0xFF);
     let place = file.len() as u32 - 1;
-    let mut l = lent(8200, 1030, 8200, 12);
+    let mut l = lent(8200, 1030, 8200, 390, 12);
     assert_eq!(
         l.path(&file, 9, n.iak_certificate),
         PathAnswer::Refused { number: 3, place }
@@ -149,6 +158,8 @@ fn refused_load_leaves_zeros_in_the_first_parts() {
     assert!(l.ledger[1024..].iter().all(|e| *e == FILLER));
     assert!(l.outcomes[..8192].iter().all(|byte| *byte == 0));
     assert!(l.outcomes[8192..].iter().all(|byte| *byte == 0xBB));
+    assert!(l.registers[..384].iter().all(|byte| *byte == 0));
+    assert!(l.registers[384..].iter().all(|byte| *byte == 0xDD));
     assert!(l.list_untouched());
     let mut state = vec![0xAA; 8200];
     assert_eq!(
@@ -162,7 +173,7 @@ fn refused_load_leaves_zeros_in_the_first_parts() {
 fn long_buffers() {
     let (b, n, _, laks) = chain(3);
     let small = b.run();
-    let mut l = lent(9000, 1100, 9000, 40);
+    let mut l = lent(9000, 1100, 9000, 400, 40);
     let answer = l.run(&b.bytes(), usize::MAX);
     assert_eq!(answer, small.answer);
     assert_eq!(l.state[..8192], small.state);
@@ -171,9 +182,11 @@ fn long_buffers() {
     assert!(l.state[8192..].iter().all(|byte| *byte == 0xAA));
     assert!(l.ledger[1024..].iter().all(|e| *e == FILLER));
     assert!(l.outcomes[8192..].iter().all(|byte| *byte == 0xBB));
+    assert_eq!(l.registers[..384], small.registers);
+    assert!(l.registers[384..].iter().all(|byte| *byte == 0xDD));
     assert!(l.list_untouched());
 
-    let mut l = lent(9000, 1100, 9000, 40);
+    let mut l = lent(9000, 1100, 9000, 400, 40);
     let answer = l.path(&b.bytes(), usize::MAX, laks[2].certificate);
     assert_eq!(answer, PathAnswer::Steps(4));
     assert_eq!(
@@ -191,6 +204,8 @@ fn long_buffers() {
     assert_eq!(l.ledger[..1024], small.ledger);
     assert_eq!(l.outcomes[..8192], small.outcomes);
     assert!(l.state[8192..].iter().all(|byte| *byte == 0xAA));
+    assert_eq!(l.registers[..384], small.registers);
+    assert!(l.registers[384..].iter().all(|byte| *byte == 0xDD));
 }
 
 #[test]
@@ -200,7 +215,7 @@ fn path_of_every_depth() {
     let mut chain: Vec<u16> = vec![n.ek_certificate, n.iak_certificate];
     chain.extend(laks.iter().take(7).map(|l| l.certificate));
     for depth in 1..=8 {
-        let mut l = lent(8192, 1024, 8192, 9);
+        let mut l = lent(8192, 1024, 8192, 384, 9);
         let answer = l.path(&file, usize::MAX, chain[depth]);
         assert_eq!(answer, PathAnswer::Steps(depth as u32));
         let expected: Vec<u16> = chain[..=depth].iter().rev().copied().collect();
@@ -223,7 +238,7 @@ fn path_of_no_issued_certificate() {
         1024,
         0xFFFF,
     ] {
-        let mut l = lent(8192, 1024, 8192, 9);
+        let mut l = lent(8192, 1024, 8192, 384, 9);
         assert_eq!(
             l.path(&file, usize::MAX, term),
             PathAnswer::Refused {
@@ -234,11 +249,12 @@ fn path_of_no_issued_certificate() {
         assert_eq!(l.state, ran.state);
         assert_eq!(l.ledger, ran.ledger);
         assert_eq!(l.outcomes, ran.outcomes);
+        assert_eq!(l.registers, ran.registers);
         assert!(l.list_untouched());
     }
     // Issued only by the ninth command.
     let (b, n) = honest();
-    let mut l = lent(8192, 1024, 8192, 9);
+    let mut l = lent(8192, 1024, 8192, 384, 9);
     assert_eq!(
         l.path(&b.bytes(), 8, n.iak_certificate),
         PathAnswer::Refused {

@@ -154,6 +154,14 @@ impl Build {
         self.term(&[0x1A, hi(a), lo(a), hi(b), lo(b)])
     }
 
+    pub fn start(&mut self, register: u8) -> u16 {
+        self.term(&[0x1B, register])
+    }
+
+    pub fn quote_body(&mut self, register: u8, value: u16, number: u16) -> u16 {
+        self.term(&[0x1C, register, hi(value), lo(value), hi(number), lo(number)])
+    }
+
     fn set(&mut self, record: &[u8]) {
         self.set_up.extend(record);
     }
@@ -180,7 +188,7 @@ impl Build {
         self.command_count - 1
     }
 
-    /// 30 to 37 and 3D.
+    /// 30 to 37, 3D and 45.
     pub fn act(&mut self, kind: u8, party: u8, r: u16) -> usize {
         self.raw(&[kind, party, hi(r), lo(r)])
     }
@@ -232,6 +240,11 @@ impl Build {
         self.raw(&record)
     }
 
+    /// 44.
+    pub fn extend(&mut self, party: u8, register: u8, r: u16) -> usize {
+        self.raw(&[0x44, party, register, hi(r), lo(r)])
+    }
+
     /// Runs the first n commands.
     pub fn run_first(&self, n: usize) -> Ran {
         run_bytes(&self.bytes(), n)
@@ -270,10 +283,11 @@ pub struct Ran {
     pub state: Vec<u8>,
     pub ledger: Vec<Entry>,
     pub outcomes: Vec<u8>,
+    pub registers: Vec<u8>,
 }
 
-/// Buffers of the least size: state, ledger and outcomes.
-fn filled() -> (Vec<u8>, Vec<Entry>, Vec<u8>) {
+/// Buffers of the least size: state, ledger, outcomes and registers.
+fn filled() -> (Vec<u8>, Vec<Entry>, Vec<u8>, Vec<u8>) {
     let entry = Entry {
         certificate: 7,
         parent: 7,
@@ -283,29 +297,39 @@ fn filled() -> (Vec<u8>, Vec<Entry>, Vec<u8>) {
         vec![0xEE; STATE_BYTES],
         vec![entry; TERMS],
         vec![0xEE; OUTCOMES],
+        vec![0xEE; REGISTER_BYTES],
     )
 }
 
 pub fn run_bytes(file: &[u8], n: usize) -> Ran {
-    let (mut state, mut ledger, mut outcomes) = filled();
-    let answer = run(file, n, &mut state, &mut ledger, &mut outcomes);
+    let (mut state, mut ledger, mut outcomes, mut registers) = filled();
+    let answer = run(
+        file,
+        n,
+        &mut state,
+        &mut ledger,
+        &mut outcomes,
+        &mut registers,
+    );
     Ran {
         answer,
         state,
         ledger,
         outcomes,
+        registers,
     }
 }
 
 /// What `stock` answers. Whatever it is, the buffers are left as a run of all
 /// commands leaves them.
 pub fn stock_bytes(file: &[u8], party: u8, iaks_per_board: u32) -> StockAnswer {
-    let (mut state, mut ledger, mut outcomes) = filled();
+    let (mut state, mut ledger, mut outcomes, mut registers) = filled();
     let answer = stock(
         file,
         &mut state,
         &mut ledger,
         &mut outcomes,
+        &mut registers,
         party,
         iaks_per_board,
     );
@@ -313,6 +337,7 @@ pub fn stock_bytes(file: &[u8], party: u8, iaks_per_board: u32) -> StockAnswer {
     assert_eq!(state, ran.state);
     assert_eq!(ledger, ran.ledger);
     assert_eq!(outcomes, ran.outcomes);
+    assert_eq!(registers, ran.registers);
     answer
 }
 
@@ -329,6 +354,12 @@ impl Ran {
 
     pub fn table(&self, party: u8, t: u16) -> bool {
         self.term(t)[1] >> party & 1 == 1
+    }
+
+    /// The term that a register of a party shows; FFFF if none.
+    pub fn register(&self, party: u8, register: u8) -> u16 {
+        let at = 48 * usize::from(party) + 2 * usize::from(register);
+        u16::from_be_bytes([self.registers[at], self.registers[at + 1]])
     }
 
     pub fn totals(&self) -> (u32, u32, u32) {
@@ -352,6 +383,7 @@ pub fn refused_cleanly(b: &Build, ordinal: usize, number: u8) {
     assert_eq!(after.totals(), (accepted, refused + 1, issued));
     assert_eq!(before.state, after.state);
     assert_eq!(before.ledger, after.ledger);
+    assert_eq!(before.registers, after.registers);
 }
 
 /// A device, a TPM maker, an OEM desk and an owner desk, with the terms of an
@@ -697,4 +729,62 @@ pub fn together() -> (Build, [Names; 4], usize) {
     let pairs = iaks.each_ref().map(Names::pair);
     let at = b.issue_iaks(iaks[0].oem, iaks[0].device, pairs);
     (b, iaks, at)
+}
+
+/// Register 5 of the device of the honest IAK, and a second device.
+#[derive(Clone)]
+pub struct Measured {
+    pub n: Names,
+    pub other: u8,
+    /// The number of the quotes, which the device knows.
+    pub number: u16,
+    /// What the register shows at the start, after one and after two 44s.
+    pub values: [u16; 3],
+    /// A 1C of each value.
+    pub bodies: [u16; 3],
+    /// The bodies, signed by the IAK.
+    pub quotes: [u16; 3],
+}
+
+/// The register of `Measured`.
+pub const REGISTER: u8 = 5;
+
+/// The value after an extension of a value with a term.
+pub fn extension(b: &mut Build, old: u16, t: u16) -> u16 {
+    let pair = b.pair(old, t);
+    b.hash(pair)
+}
+
+/// An honest IAK, and what is needed to extend register 5 with two terms that
+/// the device knows and to quote each value.
+pub fn measured() -> (Build, Measured) {
+    let (mut b, n) = honest();
+    let other = b.party(0);
+    let number = b.number(900);
+    let start = b.start(REGISTER);
+    let first = extension(&mut b, start, n.iak);
+    let second = extension(&mut b, first, n.ek);
+    let values = [start, first, second];
+    let bodies = values.map(|value| b.quote_body(REGISTER, value, number));
+    let quotes = bodies.map(|body| b.signature(body, n.iak_private));
+    b.give(n.device, number);
+    let measured = Measured {
+        n,
+        other,
+        number,
+        values,
+        bodies,
+        quotes,
+    };
+    (b, measured)
+}
+
+/// 44, 44, 45, 3C: the last value is quoted, and the quote sent to the owner.
+pub fn quoted() -> (Build, Measured) {
+    let (mut b, m) = measured();
+    b.extend(m.n.device, REGISTER, m.values[1]);
+    b.extend(m.n.device, REGISTER, m.values[2]);
+    b.act(0x45, m.n.device, m.quotes[2]);
+    b.send(m.n.device, m.n.owner, m.quotes[2]);
+    (b, m)
 }

@@ -14,6 +14,7 @@ fn refused(file: &[u8]) -> (u32, u32) {
     assert_eq!(ran.answer, RunAnswer::Refused { number, place });
     assert!(ran.state.iter().all(|byte| *byte == 0));
     assert!(ran.outcomes.iter().all(|byte| *byte == 0));
+    assert!(ran.registers.iter().all(|byte| *byte == 0));
     assert!(ran.ledger.iter().all(|e| *e == Entry::default()));
     assert_eq!(listing(file), format!("F {number} {place}\n").as_bytes());
     (number, place)
@@ -25,13 +26,13 @@ fn loads(file: &[u8]) {
     assert!(matches!(answer, LoadAnswer::Loaded { .. }), "{answer:?}");
 }
 
-/// A builder with one device and the terms 0 to 10, one of each kind in the
+/// A builder with one device and the terms 0 to 12, one of each kind in the
 /// order of the kinds as far as that goes.
 struct OfEach {
     b: Build,
     device: u8,
     /// Term numbers by kind, from 10 on.
-    of: [u16; 11],
+    of: [u16; 13],
 }
 
 fn of_each() -> OfEach {
@@ -48,6 +49,8 @@ fn of_each() -> OfEach {
     let idevid = b.idevid(DEV, 1, certificate, public);
     let ldevid = b.ldevid(signature, certificate);
     let pair = b.pair(hash, hash);
+    let start = b.start(0);
+    let quote_body = b.quote_body(0, start, number);
     OfEach {
         b,
         device,
@@ -63,6 +66,8 @@ fn of_each() -> OfEach {
             ldevid,
             certificate,
             pair,
+            start,
+            quote_body,
         ],
     }
 }
@@ -87,9 +92,9 @@ fn counts() {
 fn unknown_kinds() {
     let known: Vec<u8> = [0x01]
         .into_iter()
-        .chain(0x10..=0x1A)
+        .chain(0x10..=0x1C)
         .chain(0x20..=0x22)
-        .chain(0x30..=0x43)
+        .chain(0x30..=0x45)
         .collect();
     for kind in 0..=255u8 {
         let (number, place) = refused(&[0x01, 0x00, kind]);
@@ -113,6 +118,8 @@ fn body_lengths() {
         (0x18, 4),
         (0x19, 7),
         (0x1A, 4),
+        (0x1B, 1),
+        (0x1C, 5),
         (0x20, 3),
         (0x21, 3),
         (0x22, 3),
@@ -136,6 +143,8 @@ fn body_lengths() {
         (0x41, 5),
         (0x42, 5),
         (0x43, 18),
+        (0x44, 4),
+        (0x45, 3),
     ];
     for (kind, length) in lengths {
         let mut record = vec![kind];
@@ -158,7 +167,7 @@ fn body_lengths() {
 
 #[test]
 fn last_kinds() {
-    // 43 is the last kind; a body of 41 to 43 cut at any byte is 4.
+    // 45 is the last kind; a body of 41 to 45 cut at any byte is 4.
     let (b, n, [_, idevid, ldevid]) = board();
     let start = b.bytes().len() as u32;
     for (kind, desk, a) in [(0x41, n.oem, idevid), (0x42, n.owner, ldevid)] {
@@ -179,9 +188,25 @@ fn last_kinds() {
             assert_eq!(refused(&file[..file.len() - cut]), (4, start));
         }
     }
+    for (record, length) in [(&[0x44, 0, 23, 0, 5][..], 4), (&[0x45, 0, 0, 7], 3)] {
+        let mut b = Build::default();
+        b.party(0);
+        let (start, number) = (b.start(23), b.number(1));
+        let key = b.private(1, AK);
+        let (pair, body) = (b.pair(start, number), b.quote_body(23, start, number));
+        assert_eq!((b.hash(pair), b.hash(body)), (5, 6));
+        assert_eq!(b.signature(body, key), 7);
+        let start = b.bytes().len() as u32;
+        b.raw(record);
+        let file = b.bytes();
+        loads(&file);
+        for cut in 1..=length {
+            assert_eq!(refused(&file[..file.len() - cut]), (4, start));
+        }
+    }
     let mut record = vec![0, n.oem, n.device];
     record.extend([0xFF; 16]);
-    for kind in 0x44..=0xFF {
+    for kind in 0x46..=0xFF {
         let mut b = b.clone();
         record[0] = kind;
         b.raw(&record);
@@ -291,7 +316,7 @@ fn roles_attributes_subjects() {
     }
     let o = of_each();
     let start = o.b.bytes().len() as u32;
-    let [public, private, .., certificate, _] = o.of;
+    let [public, private, _, _, _, _, _, _, _, certificate, ..] = o.of;
     for what in 2..=255 {
         let mut b = o.b.clone();
         b.certificate(public, what, 5, private);
@@ -304,11 +329,23 @@ fn roles_attributes_subjects() {
 
 #[test]
 fn fields_of_terms_must_be_lower() {
-    // With eleven terms before, 11 is the term itself and 10 is fine.
+    // With thirteen terms before, 13 is the term itself and 12 is fine.
     let o = of_each();
     let start = o.b.bytes().len() as u32;
     let own = o.b.terms();
-    let [public, private, hash, _, _, _, number, _, _, certificate, _] = o.of;
+    let [
+        public,
+        private,
+        hash,
+        _,
+        _,
+        _,
+        number,
+        _,
+        _,
+        certificate,
+        ..,
+    ] = o.of;
     let refuse7 = |make: &dyn Fn(&mut Build, u16)| {
         for t in [own, own + 1, 0xFFFF] {
             let mut b = o.b.clone();
@@ -361,6 +398,12 @@ fn fields_of_terms_must_be_lower() {
     refuse7(&|b, t| {
         b.pair(hash, t);
     });
+    refuse7(&|b, t| {
+        b.quote_body(1, t, number);
+    });
+    refuse7(&|b, t| {
+        b.quote_body(1, hash, t);
+    });
     let mut b = o.b.clone();
     b.hash(own - 1);
     loads(&b.bytes());
@@ -370,7 +413,19 @@ fn fields_of_terms_must_be_lower() {
 fn kinds_of_fields_of_terms() {
     let o = of_each();
     let start = o.b.bytes().len() as u32;
-    let [public, private, hash, _, _, _, number, _, _, certificate, _] = o.of;
+    let [
+        public,
+        private,
+        hash,
+        _,
+        _,
+        _,
+        number,
+        _,
+        _,
+        certificate,
+        ..,
+    ] = o.of;
     let only = |kind: u8, make: &dyn Fn(&mut Build, u16)| {
         for (index, t) in o.of.iter().enumerate() {
             let mut b = o.b.clone();
@@ -406,6 +461,9 @@ fn kinds_of_fields_of_terms() {
     only(0x11, &|b, t| {
         b.certificate(public, DEV, 9, t);
     });
+    only(0x16, &|b, t| {
+        b.quote_body(1, hash, t);
+    });
     // A 14 of the one public key would be alike, so its kind is seen by 9.
     for (index, t) in o.of.iter().enumerate() {
         let mut b = o.b.clone();
@@ -413,7 +471,7 @@ fn kinds_of_fields_of_terms() {
         let number = if index == 0 { 9 } else { 8 };
         assert_eq!(refused(&b.bytes()), (number, start));
     }
-    // Bare fields take any kind; a term alike one of the eleven is 9.
+    // Bare fields take any kind; a term alike one of the thirteen is 9.
     let any = |make: &dyn Fn(&mut Build, u16), alike: Option<u16>| {
         for t in o.of {
             let mut b = o.b.clone();
@@ -462,6 +520,13 @@ fn kinds_of_fields_of_terms() {
         },
         Some(hash),
     );
+    let start_value = o.of[11];
+    any(
+        &|b, t| {
+            b.quote_body(0, t, number);
+        },
+        Some(start_value),
+    );
 }
 
 #[test]
@@ -502,6 +567,24 @@ fn fields_in_their_order() {
     refuse(7, &|b| {
         b.issue_iak(0, 1, hash, hash);
     });
+    refuse(7, &|b| {
+        b.quote_body(24, 0xFFFF, hash);
+    });
+    refuse(7, &|b| {
+        b.quote_body(1, 0xFFFF, hash);
+    });
+    refuse(8, &|b| {
+        b.quote_body(1, hash, hash);
+    });
+    refuse(7, &|b| {
+        b.extend(1, 0, hash);
+    });
+    refuse(7, &|b| {
+        b.extend(0, 24, hash);
+    });
+    refuse(8, &|b| {
+        b.extend(0, 23, hash);
+    });
 }
 
 #[test]
@@ -516,6 +599,8 @@ fn alike_terms() {
             0x12 | 0x14 | 0x16 => 3,
             0x13 | 0x18 | 0x1A => 5,
             0x15 => 7,
+            0x1B => 2,
+            0x1C => 6,
             _ => 8,
         };
         let mut file = whole.clone();
@@ -528,6 +613,8 @@ fn alike_terms() {
     b.private(1, EK);
     b.certificate(o.of[0], DEV, 1, o.of[1]);
     b.certificate(o.of[0], TPM, 2, o.of[1]);
+    b.start(1);
+    b.quote_body(1, o.of[11], o.of[6]);
     loads(&b.bytes());
 }
 
@@ -806,18 +893,22 @@ fn command_fields() {
         }
     }
     for record in [
-        &[0x3E, 0, 0, 11, 0, 0][..],
-        &[0x3E, 0, 0, 0, 0, 11],
+        &[0x3E, 0, 0, 13, 0, 0][..],
+        &[0x3E, 0, 0, 0, 0, 13],
         &[0x3F, 0, 1, 0, 0, 0, 0],
-        &[0x3F, 0, 0, 0, 11, 0, 0],
-        &[0x40, 0, 0, 11, 0, 0],
-        &[0x40, 0, 0, 0, 0, 11],
+        &[0x3F, 0, 0, 0, 13, 0, 0],
+        &[0x40, 0, 0, 13, 0, 0],
+        &[0x40, 0, 0, 0, 0, 13],
         &[0x41, 1, 0, 0, 0, 0],
-        &[0x41, 0, 0, 11, 0, 0],
-        &[0x41, 0, 0, 0, 0, 11],
+        &[0x41, 0, 0, 13, 0, 0],
+        &[0x41, 0, 0, 0, 0, 13],
         &[0x42, 1, 0, 0, 0, 0],
-        &[0x42, 0, 0, 11, 0, 0],
-        &[0x42, 0, 0, 0, 0, 11],
+        &[0x42, 0, 0, 13, 0, 0],
+        &[0x42, 0, 0, 0, 0, 13],
+        &[0x44, 1, 0, 0, 0],
+        &[0x44, 0, 0, 0, 13],
+        &[0x45, 1, 0, 0],
+        &[0x45, 0, 0, 13],
     ] {
         let mut b = o.b.clone();
         b.raw(record);

@@ -7,6 +7,7 @@ mod desks;
 mod loading;
 mod program;
 mod random;
+mod registers;
 mod situations;
 mod stock;
 mod together;

@@ -23,6 +23,7 @@ fn program_prints_the_listing() {
     let (of_board, ..) = board();
     let (of_two, ..) = two_boards();
     let (of_four, ..) = together();
+    let (of_quotes, ..) = quoted();
     let long = vec![0x16; FILE_BYTES + 1];
     for file in [
         &[][..],
@@ -31,6 +32,7 @@ fn program_prints_the_listing() {
         &of_board.bytes(),
         &of_two.bytes(),
         &of_four.bytes(),
+        &of_quotes.bytes(),
         &long,
     ] {
         assert_eq!(printed(file), listing(file));

@@ -129,6 +129,47 @@ fn check_stock(file: &[u8]) {
     }
 }
 
+/// Each known quote by a FixedTPM Restricted key tells what the register of the
+/// TPM that holds the key showed before some command.
+fn check_quotes(file: &[u8], terms: u16, commands: usize) {
+    let ran = run_bytes(file, commands);
+    let mut runs = Vec::new();
+    for t in 0..terms {
+        let at = place(&ran, t);
+        if ran.term(t)[0] == 0 || file[at] != 0x13 {
+            continue;
+        }
+        let (message, key) = (two(file, at + 1), two(file, at + 3));
+        let body = place(&ran, message);
+        if file[body] != 0x1C || file[place(&ran, key) + 3] & 9 != 9 {
+            continue;
+        }
+        assert_eq!(ran.term(key)[1].count_ones(), 1);
+        let tpm = ran.term(key)[1].trailing_zeros() as u8;
+        let (register, value) = (file[body + 1], two(file, body + 2));
+        if runs.is_empty() {
+            runs = (0..commands).map(|n| run_bytes(file, n)).collect();
+        }
+        assert!(runs.iter().any(|r| r.register(tpm, register) == value));
+    }
+}
+
+/// Registers are of devices alone, and each shows nothing, its 1B or a 12.
+fn check_registers(file: &[u8], ran: &Ran, parties: u32) {
+    for party in 0..8 {
+        let device = u32::from(party) < parties && file[2 * usize::from(party) + 1] == 0;
+        for register in 0..24 {
+            let shown = ran.register(party, register);
+            if shown == 0xFFFF {
+                continue;
+            }
+            assert!(device);
+            let at = place(ran, shown);
+            assert!(file[at] == 0x12 || file[at..at + 2] == [0x1B, register]);
+        }
+    }
+}
+
 fn check(file: &[u8], n: usize) {
     check_stock(file);
     let ran = run_bytes(file, n);
@@ -144,14 +185,23 @@ fn check(file: &[u8], n: usize) {
             assert_eq!((number, place), (again, there));
             assert!((place as usize) < file.len());
         }
-        (LoadAnswer::Loaded { commands, .. }, RunAnswer::Ran { .. }) => {
+        (
+            LoadAnswer::Loaded {
+                parties,
+                terms,
+                commands,
+            },
+            RunAnswer::Ran { .. },
+        ) => {
+            check_registers(file, &ran, parties);
+            check_quotes(file, terms as u16, n.min(commands as usize));
             let (accepted, refused, issued) = ran.totals();
             let count = n.min(commands as usize);
             let refusals = ran.outcomes.iter().filter(|o| **o != 0).count();
             assert_eq!((accepted + refused) as usize, count);
             assert_eq!(refusals, refused as usize);
             for outcome in &ran.outcomes {
-                assert!(matches!(outcome, 0 | 13..=29 | 31 | 32));
+                assert!(matches!(outcome, 0 | 13..=29 | 31..=33));
                 // No refusal any more, and the number is never used again.
                 assert_ne!(*outcome, 22);
             }
@@ -167,6 +217,7 @@ fn check(file: &[u8], n: usize) {
                     &mut again.state,
                     &mut again.ledger,
                     &mut again.outcomes,
+                    &mut again.registers,
                     entry.certificate,
                     &mut list,
                 );
@@ -185,9 +236,9 @@ fn noise() {
     let mut dice = Dice(0x1234_5678_9ABC_DEF1);
     let kinds: Vec<u8> = [0x01]
         .into_iter()
-        .chain(0x10..=0x1A)
+        .chain(0x10..=0x1C)
         .chain(0x20..=0x22)
-        .chain(0x30..=0x43)
+        .chain(0x30..=0x45)
         .collect();
     for _ in 0..2000 {
         let length = dice.roll(60);
@@ -205,7 +256,13 @@ fn noise() {
 #[test]
 fn honest_files_with_changed_bytes() {
     let mut dice = Dice(0xFEED_F00D_0000_0001);
-    for good in [chain(2).0, board().0, two_boards().0, together().0] {
+    for good in [
+        chain(2).0,
+        board().0,
+        two_boards().0,
+        together().0,
+        quoted().0,
+    ] {
         let good = good.bytes();
         check(&good, usize::MAX);
         for _ in 0..3000 {
@@ -214,7 +271,7 @@ fn honest_files_with_changed_bytes() {
                 let at = dice.roll(file.len() as u64) as usize;
                 file[at] = match dice.roll(3) {
                     0 => dice.roll(4) as u8,
-                    1 => dice.roll(0x45) as u8,
+                    1 => dice.roll(0x47) as u8,
                     _ => file[at] ^ (1 << dice.roll(8)),
                 };
             }
@@ -572,4 +629,128 @@ fn stocks_of_random_desks() {
         }
     }
     assert!(stocks[..6].iter().all(|count| *count > 0), "{stocks:?}");
+}
+
+#[test]
+fn registers_of_random_devices() {
+    // Two devices, each with a key that may quote and one that may not, three
+    // registers of which one has no 1B, and a tree of values. Then 44 and 45
+    // of any of them, also by a desk, and numbers sent about.
+    let mut dice = Dice(0x4445_3314_1516_1B1C);
+    let mut seen = [0; 34];
+    for _ in 0..300 {
+        let mut b = Build::default();
+        let parties = [b.party(0), b.party(2), b.party(0)];
+        let numbers = [b.number(1), b.number(2)];
+        let registers = [3, 7, 11];
+        let mut values = vec![b.start(3), b.start(7)];
+        // (old, t, r)
+        let mut extensions = Vec::new();
+        for place in 0..8 {
+            let old = values[dice.roll(2 + place) as usize];
+            let number = numbers[dice.roll(2) as usize];
+            if extensions.iter().any(|(o, t, _)| (*o, *t) == (old, number)) {
+                values.push(old);
+                continue;
+            }
+            let r = extension(&mut b, old, number);
+            extensions.push((old, number, r));
+            values.push(r);
+        }
+        let starts = [values[0], values[1], 0xFFFF];
+        values.sort();
+        values.dedup();
+        let keys = [(1, AK, 0), (2, CA, 0), (3, AK, 2), (4, 2, 2), (5, 3, 2)];
+        let keys = keys.map(|(id, attributes, holder)| {
+            let key = b.private(id, attributes);
+            b.hold(holder, key);
+            (key, attributes, holder)
+        });
+        // (place of the register, value, number, attributes, holder, r)
+        let mut quotes = Vec::new();
+        for value in &values {
+            for (place, _) in registers.iter().enumerate() {
+                for number in numbers {
+                    let body = b.quote_body(registers[place], *value, number);
+                    let (key, attributes, holder) = keys[dice.roll(5) as usize];
+                    let r = b.signature(body, key);
+                    quotes.push((place, *value, number, attributes, holder, r));
+                }
+            }
+        }
+        let mut shown = [starts, [0xFFFF; 3], starts];
+        let mut knows = [[false; 2]; 3];
+        for (party, number) in [(0, 0), (2, 1), (1, 0)] {
+            b.give(party, numbers[number]);
+            knows[usize::from(party)][number] = true;
+        }
+        let mut expected = Vec::new();
+        for _ in 0..60 {
+            let party = parties[dice.roll(10) as usize % 3];
+            let p = usize::from(party);
+            let known = |t: u16| knows[p][usize::from(t == numbers[1])];
+            let outcome = match dice.roll(12) {
+                0 => {
+                    let number = dice.roll(2) as usize;
+                    let to = dice.roll(3) as usize;
+                    b.send(party, to as u8, numbers[number]);
+                    if party == 1 {
+                        13
+                    } else if !knows[p][number] {
+                        14
+                    } else {
+                        knows[to][number] = true;
+                        0
+                    }
+                }
+                1..=5 => {
+                    let place = dice.roll(7) as usize % 3;
+                    let (old, t, r) = extensions[dice.roll(extensions.len() as u64) as usize];
+                    b.extend(party, registers[place], r);
+                    if party == 1 {
+                        13
+                    } else if !known(t) {
+                        14
+                    } else if shown[p][place] != old {
+                        33
+                    } else {
+                        shown[p][place] = r;
+                        0
+                    }
+                }
+                _ => {
+                    let (place, value, number, attributes, holder, r) =
+                        quotes[dice.roll(quotes.len() as u64) as usize];
+                    b.act(0x45, party, r);
+                    if party == 1 {
+                        13
+                    } else if !known(number) {
+                        14
+                    } else if holder != party {
+                        15
+                    } else if attributes & 3 != 3 {
+                        16
+                    } else if shown[p][place] != value {
+                        33
+                    } else {
+                        0
+                    }
+                }
+            };
+            expected.push(outcome);
+            seen[usize::from(outcome)] += 1;
+        }
+        check(&b.bytes(), usize::MAX);
+        let ran = b.run();
+        assert_eq!(ran.outcomes[..60], expected);
+        for (p, values) in shown.iter().enumerate() {
+            for (place, value) in values.iter().enumerate() {
+                assert_eq!(ran.register(p as u8, registers[place]), *value);
+            }
+        }
+    }
+    // These and no others.
+    for (outcome, count) in seen.iter().enumerate() {
+        assert_eq!(*count > 0, matches!(outcome, 0 | 13..=16 | 33));
+    }
 }

@@ -197,6 +197,7 @@ fn path_of(b: &Build, certificate: u16) -> Vec<u16> {
         &mut again.state,
         &mut again.ledger,
         &mut again.outcomes,
+        &mut again.registers,
         certificate,
         &mut list,
     );

@@ -420,30 +420,63 @@ const FILLER: Entry = Entry {
     depth: 7,
 };
 
+/// What is left in the buffers.
+struct Left {
+    state: Vec<u8>,
+    ledger: Vec<Entry>,
+    outcomes: Vec<u8>,
+    registers: Vec<u8>,
+}
+
 /// The call on filled buffers of these lengths, and what is left in them.
 fn on_buffers(
     file: &[u8],
-    (state, ledger, outcomes): (usize, usize, usize),
+    (state, ledger, outcomes, registers): (usize, usize, usize, usize),
     (party, iaks_per_board): (u8, u32),
-) -> (StockAnswer, Vec<u8>, Vec<Entry>, Vec<u8>) {
+) -> (StockAnswer, Left) {
     let mut state = vec![0xAA; state];
     let mut ledger = vec![FILLER; ledger];
     let mut outcomes = vec![0xBB; outcomes];
+    let mut registers = vec![0xDD; registers];
     let answer = stock(
         file,
         &mut state,
         &mut ledger,
         &mut outcomes,
+        &mut registers,
         party,
         iaks_per_board,
     );
-    (answer, state, ledger, outcomes)
+    let left = Left {
+        state,
+        ledger,
+        outcomes,
+        registers,
+    };
+    (answer, left)
 }
 
-fn untouched(state: &[u8], ledger: &[Entry], outcomes: &[u8]) -> bool {
-    state.iter().all(|byte| *byte == 0xAA)
-        && ledger.iter().all(|entry| *entry == FILLER)
-        && outcomes.iter().all(|byte| *byte == 0xBB)
+impl Left {
+    fn untouched(&self) -> bool {
+        self.untouched_from(0, 0, 0, 0)
+    }
+
+    fn untouched_after_first_parts(&self) -> bool {
+        self.untouched_from(8192, 1024, 8192, 384)
+    }
+
+    fn untouched_from(
+        &self,
+        state: usize,
+        ledger: usize,
+        outcomes: usize,
+        registers: usize,
+    ) -> bool {
+        self.state[state..].iter().all(|byte| *byte == 0xAA)
+            && self.ledger[ledger..].iter().all(|entry| *entry == FILLER)
+            && self.outcomes[outcomes..].iter().all(|byte| *byte == 0xBB)
+            && self.registers[registers..].iter().all(|byte| *byte == 0xDD)
+    }
 }
 
 /// Arguments for the file of `honest`: a right one, and some for 39.
@@ -460,18 +493,20 @@ fn short_buffers_come_first() {
     };
     for file in [&good, &long, &bad] {
         for lengths in [
-            (8191, 1024, 8192),
-            (8192, 1023, 8192),
-            (8192, 1024, 8191),
-            (0, 1024, 8192),
-            (8192, 0, 8192),
-            (8192, 1024, 0),
-            (0, 0, 0),
+            (8191, 1024, 8192, 384),
+            (8192, 1023, 8192, 384),
+            (8192, 1024, 8191, 384),
+            (8192, 1024, 8192, 383),
+            (0, 1024, 8192, 384),
+            (8192, 0, 8192, 384),
+            (8192, 1024, 0, 384),
+            (8192, 1024, 8192, 0),
+            (0, 0, 0, 0),
         ] {
             for arguments in ARGUMENTS {
-                let (answer, state, ledger, outcomes) = on_buffers(file, lengths, arguments);
+                let (answer, left) = on_buffers(file, lengths, arguments);
                 assert_eq!(answer, refused);
-                assert!(untouched(&state, &ledger, &outcomes));
+                assert!(left.untouched());
             }
         }
     }
@@ -482,7 +517,7 @@ fn long_file_comes_before_39() {
     let mut long = honest().0.bytes();
     long.resize(FILE_BYTES + 1, 0);
     for arguments in ARGUMENTS {
-        let (answer, state, ledger, outcomes) = on_buffers(&long, (8200, 1030, 8200), arguments);
+        let (answer, left) = on_buffers(&long, (8200, 1030, 8200, 390), arguments);
         assert_eq!(
             answer,
             StockAnswer::Refused {
@@ -490,7 +525,7 @@ fn long_file_comes_before_39() {
                 place: 0
             }
         );
-        assert!(untouched(&state, &ledger, &outcomes));
+        assert!(left.untouched());
     }
 }
 
@@ -503,7 +538,7 @@ fn load_refusals_come_before_39() {
     // undeclared party, a wrong kind of term.
     for (number, more) in [
         (3, &[0xFF][..]),
-        (3, &[0x44]),
+        (3, &[0x46]),
         (4, &[0x30]),
         (5, &[0x01, 0x00]),
         (7, &[0x3C, 9, 0, 0, 0]),
@@ -543,18 +578,14 @@ fn load_refusals_come_before_39() {
             RunAnswer::Refused { number, place }
         );
         for arguments in ARGUMENTS {
-            let (answer, state, ledger, outcomes) =
-                on_buffers(&file, (8200, 1030, 8200), arguments);
+            let (answer, left) = on_buffers(&file, (8200, 1030, 8200, 390), arguments);
             assert_eq!(answer, StockAnswer::Refused { number, place });
             // First parts zero, and no more.
-            assert!(state[..8192].iter().all(|byte| *byte == 0));
-            assert!(ledger[..1024].iter().all(|e| *e == Entry::default()));
-            assert!(outcomes[..8192].iter().all(|byte| *byte == 0));
-            assert!(untouched(
-                &state[8192..],
-                &ledger[1024..],
-                &outcomes[8192..]
-            ));
+            assert!(left.state[..8192].iter().all(|byte| *byte == 0));
+            assert!(left.ledger[..1024].iter().all(|e| *e == Entry::default()));
+            assert!(left.outcomes[..8192].iter().all(|byte| *byte == 0));
+            assert!(left.registers[..384].iter().all(|byte| *byte == 0));
+            assert!(left.untouched_after_first_parts());
         }
     }
 }
@@ -562,26 +593,28 @@ fn load_refusals_come_before_39() {
 #[test]
 fn buffers_are_those_of_a_run_of_all() {
     // With accepted and refused commands and a ledger; also at 39.
-    for b in [chain(8).0, board().0, two_boards().0, together().0] {
+    for b in [
+        chain(8).0,
+        board().0,
+        two_boards().0,
+        together().0,
+        quoted().0,
+    ] {
         let ran = b.run();
         let (accepted, _, issued) = ran.totals();
         assert!(accepted > 0 && issued > 0);
         for arguments in ARGUMENTS {
-            let (answer, state, ledger, outcomes) =
-                on_buffers(&b.bytes(), (9000, 1100, 9000), arguments);
+            let (answer, left) = on_buffers(&b.bytes(), (9000, 1100, 9000, 400), arguments);
             if arguments == (2, 1) {
                 assert_eq!(answer, boards(0, 0));
             } else {
                 assert_eq!(answer, NO_DESK);
             }
-            assert_eq!(state[..8192], ran.state);
-            assert_eq!(ledger[..1024], ran.ledger);
-            assert_eq!(outcomes[..8192], ran.outcomes);
-            assert!(untouched(
-                &state[8192..],
-                &ledger[1024..],
-                &outcomes[8192..]
-            ));
+            assert_eq!(left.state[..8192], ran.state);
+            assert_eq!(left.ledger[..1024], ran.ledger);
+            assert_eq!(left.outcomes[..8192], ran.outcomes);
+            assert_eq!(left.registers[..384], ran.registers);
+            assert!(left.untouched_after_first_parts());
         }
     }
 }

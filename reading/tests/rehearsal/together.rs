@@ -53,6 +53,7 @@ fn accepted_as(b: &Build, iaks: &[&Names], returning: u8, pairs: [(u16, u16); 4]
     assert_eq!(ran.totals(), (accepted + 1, refused, issued + count as u32));
     assert_eq!(ran.state, one_by_one.state);
     assert_eq!(ran.ledger, one_by_one.ledger);
+    assert_eq!(ran.registers, one_by_one.registers);
     for (entry, iak) in ran.ledger[start..start + count].iter().zip(iaks) {
         assert_eq!(
             *entry,
@@ -486,6 +487,7 @@ fn several_subjects_certificates_and_boards() {
             &mut again.state,
             &mut again.ledger,
             &mut again.outcomes,
+            &mut again.registers,
             iak.iak_certificate,
             &mut list,
         );

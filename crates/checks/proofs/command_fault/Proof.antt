@@ -62,6 +62,24 @@ enum-told-8 c = search needs
 field-fault-requires-7 : tie.Need-field-fault-requires-7
 field-fault-requires-7 c κs = search needs
 
+enum-told-9 : tie.Need-enum-told-9
+enum-told-9 c = search needs
+
+field-fault-requires-8 : tie.Need-field-fault-requires-8
+field-fault-requires-8 c κs = search needs
+
+enum-told-10 : tie.Need-enum-told-10
+enum-told-10 c = search needs
+
+field-fault-requires-9 : tie.Need-field-fault-requires-9
+field-fault-requires-9 c κs = search needs
+
+enum-told-11 : tie.Need-enum-told-11
+enum-told-11 c = search needs
+
+field-fault-requires-10 : tie.Need-field-fault-requires-10
+field-fault-requires-10 c κs = search needs
+
 returns : tie.Need-returns
 returns c = search needs
 
@@ -91,6 +109,15 @@ returns-8 c = search needs
 returns-9 : tie.Need-returns-9
 returns-9 c = search needs
 
+returns-10 : tie.Need-returns-10
+returns-10 c = search needs
+
+returns-11 : tie.Need-returns-11
+returns-11 c = search needs
+
+returns-12 : tie.Need-returns-12
+returns-12 c = search needs
+
 pub command-fault-spec : {M : Type 1} → statement M
 command-fault-spec =
     tie.close
@@ -113,6 +140,12 @@ command-fault-spec =
     field-fault-requires-6
     enum-told-8
     field-fault-requires-7
+    enum-told-9
+    field-fault-requires-8
+    enum-told-10
+    field-fault-requires-9
+    enum-told-11
+    field-fault-requires-10
     returns
     returns-2
     returns-3
@@ -121,4 +154,7 @@ command-fault-spec =
     returns-6
     returns-7
     returns-8
-    returns-9)
+    returns-9
+    returns-10
+    returns-11
+    returns-12)

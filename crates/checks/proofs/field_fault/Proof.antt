@@ -1,4 +1,5 @@
-use mathlib.Core.Path.{ap}
+use mathlib.Core.Path.{refl, ap}
+use mathlib.Core.Logic.{inl, inr}
 use native.Mathlib.Omega.{arith}
 use borrow.Author.Needs.{needs}
 use Rattle.rules.specs.Record.{width}
@@ -54,9 +55,9 @@ kind-fault-requires c κs = (c .before .before .before .before .pre .0, omega (a
 enum-told-7 : tie.Need-enum-told-7
 enum-told-7 c = search needs
 
-attest-fault-requires : tie.Need-attest-fault-requires
+inner-fault-requires : tie.Need-inner-fault-requires
 unfolding width
-attest-fault-requires c κs = (c .before .before .before .pre .0, omega (arith, ap width (c .enum-told7 .given .1)))
+inner-fault-requires c κs = (c .before .before .before .pre .0, omega (arith, ap width (c .enum-told7 .given .1)), inr refl)
 
 enum-told-8 : tie.Need-enum-told-8
 enum-told-8 c = search needs
@@ -64,6 +65,27 @@ enum-told-8 c = search needs
 pair-fault-requires : tie.Need-pair-fault-requires
 unfolding width
 pair-fault-requires c κs = (c .before .before .before .pre .0, omega (arith, ap width (c .enum-told8 .given .1)))
+
+enum-told-9 : tie.Need-enum-told-9
+enum-told-9 c = search needs
+
+byte-fault-requires-5 : tie.Need-byte-fault-requires-5
+unfolding width
+byte-fault-requires-5 c κs = omega (arith, ap width (c .enum-told9 .given .1))
+
+enum-told-10 : tie.Need-enum-told-10
+enum-told-10 c = search needs
+
+inner-fault-requires-2 : tie.Need-inner-fault-requires-2
+unfolding width
+inner-fault-requires-2 c κs = (c .before .before .before .pre .0, omega (arith, ap width (c .enum-told10 .given .1)), inl refl)
+
+enum-told-11 : tie.Need-enum-told-11
+enum-told-11 c = search needs
+
+inner-fault-requires-3 : tie.Need-inner-fault-requires-3
+unfolding width
+inner-fault-requires-3 c κs = (c .before .before .before .pre .0, omega (arith, ap width (c .enum-told11 .given .1)), inr refl)
 
 returns : tie.Need-returns
 unfolding fieldFaultNoted
@@ -95,11 +117,23 @@ returns-7 c = rw (c .before .before .field .given .1) (c .kind-fault .ensures)
 
 returns-8 : tie.Need-returns-8
 unfolding fieldFaultNoted
-returns-8 c = rw (c .before .enum-told7 .given .1) (c .attest-fault .ensures)
+returns-8 c = rw (c .before .enum-told7 .given .1) (c .inner-fault .ensures)
 
 returns-9 : tie.Need-returns-9
 unfolding fieldFaultNoted
 returns-9 c = rw (c .before .enum-told8 .given .1) (c .pair-fault .ensures)
+
+returns-10 : tie.Need-returns-10
+unfolding fieldFaultNoted
+returns-10 c = rw (c .before .enum-told9 .given .1) (c .byte-fault5 .ensures)
+
+returns-11 : tie.Need-returns-11
+unfolding fieldFaultNoted
+returns-11 c = rw (c .before .enum-told10 .given .1) (c .inner-fault2 .ensures)
+
+returns-12 : tie.Need-returns-12
+unfolding fieldFaultNoted
+returns-12 c = rw (c .before .enum-told11 .given .1) (c .inner-fault3 .ensures)
 
 pub field-fault-spec : {M : Type 1} → statement M
 field-fault-spec =
@@ -119,9 +153,15 @@ field-fault-spec =
     enum-known-field
     kind-fault-requires
     enum-told-7
-    attest-fault-requires
+    inner-fault-requires
     enum-told-8
     pair-fault-requires
+    enum-told-9
+    byte-fault-requires-5
+    enum-told-10
+    inner-fault-requires-2
+    enum-told-11
+    inner-fault-requires-3
     returns
     returns-2
     returns-3
@@ -130,4 +170,7 @@ field-fault-spec =
     returns-6
     returns-7
     returns-8
-    returns-9)
+    returns-9
+    returns-10
+    returns-11
+    returns-12)

@@ -26,6 +26,9 @@ one-requires-3 c κs = search needs
 two-requires-3 : tie.Need-two-requires-3
 two-requires-3 c κs = search needs
 
+two-requires-4 : tie.Need-two-requires-4
+two-requires-4 c κs = search needs
+
 returns : tie.Need-returns
 unfolding partsNoted partsBy
 returns c = rw (← c .before .before .kind-of .ensures, c .before .match .keys1) (c .one .ensures)
@@ -52,9 +55,13 @@ returns-6 c = rw (← c .before .before .kind-of .ensures, c .before .match .key
 
 returns-7 : tie.Need-returns-7
 unfolding partsNoted partsBy
-returns-7 c =
+returns-7 c = rw (← c .before .before .kind-of .ensures, c .before .match .keys7) (c .two4 .ensures)
+
+returns-8 : tie.Need-returns-8
+unfolding partsNoted partsBy
+returns-8 c =
     let r = c .match .rest in
-    rw (← c .before .kind-of .ensures, ne-eqb _ _ (r .0 .0 .0 .0 .0 .1), ne-eqb _ _ (r .0 .0 .0 .0 .1), ne-eqb _ _ (r .0 .1), ne-eqb _ _ (r .0 .0 .0 .1), ne-eqb _ _ (r .0 .0 .1), ne-eqb _ _ (r .1)) refl
+    rw (← c .before .kind-of .ensures, ne-eqb _ _ (r .0 .0 .0 .0 .0 .0 .1), ne-eqb _ _ (r .0 .0 .0 .0 .0 .1), ne-eqb _ _ (r .0 .0 .1), ne-eqb _ _ (r .0 .0 .0 .0 .1), ne-eqb _ _ (r .0 .0 .0 .1), ne-eqb _ _ (r .0 .1), ne-eqb _ _ (r .1)) refl
 
 pub parts-of-spec : {M : Type 1} → statement M
 parts-of-spec =
@@ -67,10 +74,12 @@ parts-of-spec =
     two-requires-2
     one-requires-3
     two-requires-3
+    two-requires-4
     returns
     returns-2
     returns-3
     returns-4
     returns-5
     returns-6
-    returns-7)
+    returns-7
+    returns-8)

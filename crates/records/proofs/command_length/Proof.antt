@@ -1,6 +1,8 @@
-use mathlib.Core.Path.{sym, ap}
+use mathlib.Core.Path.{refl, sym, ap}
+use mathlib.Core.List.{[], _∷_}
+use native.Mathlib.Omega.{arith}
 use Rattle.rules.specs.Record.{sectionOf, fieldsOf, bodyLength, width, widths}
-use Rattle.theorems.proofs.LastArm.{last-arm}
+use Rattle.records.proofs.EachKind.{rest-arm}
 use Rattle.records.proofs.command_length.Statement.{statement}
 use Rattle.records.proofs.command_length.Tie as tie
 
@@ -66,45 +68,7 @@ returns-15 c = sym (ap bodyLength (c .match .keys15))
 
 returns-16 : tie.Need-returns-16
 unfolding bodyLength fieldsOf sectionOf widths width
-returns-16 c = sym (ap bodyLength (c .match .keys16))
-
-returns-17 : tie.Need-returns-17
-unfolding bodyLength fieldsOf sectionOf widths width
-returns-17 c = sym (ap bodyLength (c .match .keys17))
-
-returns-18 : tie.Need-returns-18
-unfolding bodyLength fieldsOf sectionOf widths width
-returns-18 c = sym (ap bodyLength (c .match .keys18))
-
-returns-19 : tie.Need-returns-19
-unfolding bodyLength fieldsOf sectionOf widths width
-returns-19 c = sym (ap bodyLength (c .match .keys19))
-
-returns-20 : tie.Need-returns-20
-unfolding bodyLength fieldsOf sectionOf widths width
-returns-20 c = sym (ap bodyLength (last-arm (c .before .args .kind) 0x30 19 (c .match .rest) (c .before .pre .0) (c .before .pre .1)))
+returns-16 c = sym (rest-arm bodyLength 5 (0x45 ∷ 0x44 ∷ 0x43 ∷ 0x3F ∷ 0x3D ∷ 0x3C ∷ 0x3B ∷ 0x37 ∷ 0x36 ∷ 0x35 ∷ 0x34 ∷ 0x33 ∷ 0x32 ∷ 0x31 ∷ 0x30 ∷ []) 0x30 22 refl (c .before .args .kind) (c .before .pre .0) (omega (arith, c .before .pre .1)) (c .match .rest))
 
 pub command-length-spec : {M : Type 1} → statement M
-command-length-spec =
-    tie.close
-    (tie.spec
-    returns
-    returns-2
-    returns-3
-    returns-4
-    returns-5
-    returns-6
-    returns-7
-    returns-8
-    returns-9
-    returns-10
-    returns-11
-    returns-12
-    returns-13
-    returns-14
-    returns-15
-    returns-16
-    returns-17
-    returns-18
-    returns-19
-    returns-20)
+command-length-spec = tie.close (tie.spec returns returns-2 returns-3 returns-4 returns-5 returns-6 returns-7 returns-8 returns-9 returns-10 returns-11 returns-12 returns-13 returns-14 returns-15 returns-16)

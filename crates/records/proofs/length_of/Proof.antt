@@ -41,7 +41,7 @@ returns-5 c =
 
 returns-6 : tie.Need-returns-6
 unfolding bodyLength fieldsOf sectionOf widths width
-returns-6 c = within 0 0x1B 5 refl (c .before .before .before .before .args .kind) (omega arith) (omega arith)
+returns-6 c = within 0 0x1D 3 refl (c .before .before .before .before .args .kind) (omega arith) (omega arith)
 
 returns-7 : tie.Need-returns-7
 unfolding bodyLength fieldsOf sectionOf widths width

@@ -17,7 +17,7 @@ returns c = sym (ap sectionOf (c .match .keys1))
 
 returns-2 : tie.Need-returns-2
 unfolding sectionOf
-returns-2 c = within 2 0x10 11 refl (c .before .before .before .args .kind) (omega arith) (omega arith)
+returns-2 c = within 2 0x10 13 refl (c .before .before .before .args .kind) (omega arith) (omega arith)
 
 returns-3 : tie.Need-returns-3
 unfolding sectionOf
@@ -33,7 +33,7 @@ returns-5 c = simp (ne-eqb _ 1 (c .before .match .rest .1), lt-leb 0x10 _ (c .if
 
 returns-6 : tie.Need-returns-6
 unfolding sectionOf
-returns-6 c = within 0 0x1B 5 refl (c .before .before .before .before .args .kind) (omega arith) (omega arith)
+returns-6 c = within 0 0x1D 3 refl (c .before .before .before .before .args .kind) (omega arith) (omega arith)
 
 returns-7 : tie.Need-returns-7
 unfolding sectionOf

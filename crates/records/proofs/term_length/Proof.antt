@@ -1,6 +1,8 @@
-use mathlib.Core.Path.{sym, ap}
+use mathlib.Core.Path.{refl, sym, ap}
+use mathlib.Core.List.{[], _∷_}
+use native.Mathlib.Omega.{arith}
 use Rattle.rules.specs.Record.{sectionOf, fieldsOf, bodyLength, width, widths}
-use Rattle.theorems.proofs.LastArm.{last-arm}
+use Rattle.records.proofs.EachKind.{rest-arm}
 use Rattle.records.proofs.term_length.Statement.{statement}
 use Rattle.records.proofs.term_length.Tie as tie
 
@@ -46,20 +48,11 @@ returns-10 c = sym (ap bodyLength (c .match .keys10))
 
 returns-11 : tie.Need-returns-11
 unfolding bodyLength fieldsOf sectionOf widths width
-returns-11 c = sym (ap bodyLength (last-arm (c .before .args .kind) 0x10 10 (c .match .rest) (c .before .pre .0) (c .before .pre .1)))
+returns-11 c = sym (ap bodyLength (c .match .keys11))
+
+returns-12 : tie.Need-returns-12
+unfolding bodyLength fieldsOf sectionOf widths width
+returns-12 c = sym (rest-arm bodyLength 3 (0x1C ∷ 0x1B ∷ 0x1A ∷ 0x19 ∷ 0x18 ∷ 0x17 ∷ 0x16 ∷ 0x15 ∷ 0x14 ∷ 0x13 ∷ 0x12 ∷ []) 0x10 13 refl (c .before .args .kind) (c .before .pre .0) (omega (arith, c .before .pre .1)) (c .match .rest))
 
 pub term-length-spec : {M : Type 1} → statement M
-term-length-spec =
-    tie.close
-    (tie.spec
-    returns
-    returns-2
-    returns-3
-    returns-4
-    returns-5
-    returns-6
-    returns-7
-    returns-8
-    returns-9
-    returns-10
-    returns-11)
+term-length-spec = tie.close (tie.spec returns returns-2 returns-3 returns-4 returns-5 returns-6 returns-7 returns-8 returns-9 returns-10 returns-11 returns-12)

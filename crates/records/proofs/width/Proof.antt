@@ -30,6 +30,15 @@ enum-told-8 c = search needs
 enum-told-9 : tie.Need-enum-told-9
 enum-told-9 c = search needs
 
+enum-told-10 : tie.Need-enum-told-10
+enum-told-10 c = search needs
+
+enum-told-11 : tie.Need-enum-told-11
+enum-told-11 c = search needs
+
+enum-told-12 : tie.Need-enum-told-12
+enum-told-12 c = search needs
+
 returns : tie.Need-returns
 unfolding width
 returns c = search needs
@@ -66,6 +75,18 @@ returns-9 : tie.Need-returns-9
 unfolding width
 returns-9 c = search needs
 
+returns-10 : tie.Need-returns-10
+unfolding width
+returns-10 c = search needs
+
+returns-11 : tie.Need-returns-11
+unfolding width
+returns-11 c = search needs
+
+returns-12 : tie.Need-returns-12
+unfolding width
+returns-12 c = search needs
+
 pub width-spec : {M : Type 1} → statement M
 width-spec =
     tie.close
@@ -79,6 +100,9 @@ width-spec =
     enum-told-7
     enum-told-8
     enum-told-9
+    enum-told-10
+    enum-told-11
+    enum-told-12
     returns
     returns-2
     returns-3
@@ -87,4 +111,7 @@ width-spec =
     returns-6
     returns-7
     returns-8
-    returns-9)
+    returns-9
+    returns-10
+    returns-11
+    returns-12)

@@ -13,7 +13,7 @@ enum-known-found c = search needs
 
 returns : tie.Need-returns
 returns c =
-    absurd (other-kind _ _ 7 (0 ∷ 1 ∷ 2 ∷ 3 ∷ 4 ∷ 5 ∷ 6 ∷ 8 ∷ 9 ∷ 10 ∷ []) (c .before .idevid-request-of .ensures) tt (c .match .keys2) (c .before .before .before .pre .1))
+    absurd (other-kind _ _ 7 (0 ∷ 1 ∷ 2 ∷ 3 ∷ 4 ∷ 5 ∷ 6 ∷ 8 ∷ 9 ∷ 10 ∷ 11 ∷ 12 ∷ []) (c .before .idevid-request-of .ensures) tt (c .match .keys2) (c .before .before .before .pre .1))
 
 cast-t9 : tie.Need-cast-t9
 cast-t9 c = search needs

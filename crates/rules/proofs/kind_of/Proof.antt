@@ -38,6 +38,12 @@ enum-told-10 c = search needs
 enum-told-11 : tie.Need-enum-told-11
 enum-told-11 c = search needs
 
+enum-told-12 : tie.Need-enum-told-12
+enum-told-12 c = search needs
+
+enum-told-13 : tie.Need-enum-told-13
+enum-told-13 c = search needs
+
 returns : tie.Need-returns
 unfolding kindOf
 returns c = search needs
@@ -82,6 +88,14 @@ returns-11 : tie.Need-returns-11
 unfolding kindOf
 returns-11 c = search needs
 
+returns-12 : tie.Need-returns-12
+unfolding kindOf
+returns-12 c = search needs
+
+returns-13 : tie.Need-returns-13
+unfolding kindOf
+returns-13 c = search needs
+
 pub kind-of-spec : {M : Type 1} → statement M
 kind-of-spec =
     tie.close
@@ -97,6 +111,8 @@ kind-of-spec =
     enum-told-9
     enum-told-10
     enum-told-11
+    enum-told-12
+    enum-told-13
     returns
     returns-2
     returns-3
@@ -107,4 +123,6 @@ kind-of-spec =
     returns-8
     returns-9
     returns-10
-    returns-11)
+    returns-11
+    returns-12
+    returns-13)
