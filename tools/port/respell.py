@@ -80,8 +80,20 @@ def main():
             return "-".join(words.get(it, it) for it in name.split("-"))
         return name
 
+    own = set(os.listdir(crates))
+
+    def is_own(path):
+        steps = path.strip(".").split(".")
+        return steps[0] == "package" or steps[0] == "Rattle" and len(steps) > 1 and steps[1] in own
+
     def turn_antt(text):
-        aliases = set(re.findall(r"\bas (" + NAME + r")", text))
+        code = code_of(text)
+        aliases = {m[2] for m in re.finditer(r"\buse ([^\s{]+) as (" + NAME + r")", code) if is_own(m[1])}
+        # What a library of the kit lends keeps its name.
+        theirs = set()
+        for m in re.finditer(r"\buse ([^\s{]+)\{([^}]*)\}", code):
+            if not is_own(m[1]):
+                theirs.update(re.findall(NAME, m[2]))
         out = []
         for line in text.split("\n"):
             code, sep, remark = line.partition("--")
@@ -95,7 +107,9 @@ def main():
                 # A name behind a dot is a field that is generated, unless it stands in a path of ours.
                 path = bool(re.search(r"\b(use|pub use) [^\s{]*$", before)) or bool(head and head[1] in aliases)
                 behind = before.endswith(".")
-                if name in dashed and (not behind or path):
+                if name in theirs and not behind:
+                    made.append(name)
+                elif name in dashed and (not behind or path):
                     made.append(dashed[name])
                 elif name in LEMMAS and behind and not path:
                     made.append(name)

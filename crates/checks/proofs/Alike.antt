@@ -1,6 +1,6 @@
 -- Whether a term is alike one of the first terms, one by one.
 use mathlib.Core.Path.{◌≡◌, refl}
-use mathlib.Core.Bool.{Bool, true, false, or_true}
+use mathlib.Core.Bool.{Bool, true, false, or-true}
 use mathlib.Core.List.{List}
 use Prim.Native.Nat.{ℕ, zero, suc, ◌<◌}
 use native.Mathlib.Omega.{arith}
@@ -22,4 +22,4 @@ module _ (bs : List ℕ) (place : ℕ → ℕ) (x : Term) (t : ℕ) where
       go more false f =
           let m = eqb-false t n f in
           let l : t < n = omega arith in
-          rw (more l) (or_true (alike x (term_there bs (place n))))
+          rw (more l) (or-true (alike x (term_there bs (place n))))

@@ -9,7 +9,7 @@ use mathlib.Core.List.{List, [], ◌∷◌, ◌++◌, Memᴰ}
 use Prim.Native.Nat.{ℕ, ◌+◌, ◌-◌, ◌<◌, ◌≤◌}
 use native.Mathlib.Omega.{arith}
 use lib.Dec.{eqb}
-use borrow.Author.Tests.{eqb-true, eqb-false, leb-true, not_true}
+use borrow.Author.Tests.{eqb-true, eqb-false, leb-true, not-true}
 use Rattle.rules.specs.declared.Entry.{Entry}
 use Rattle.rules.specs.declared.Family.{Family}
 use Rattle.rules.specs.declared.Subject.{Subject}
@@ -42,7 +42,7 @@ use Rattle.issuance.proofs.Appending.{enters_linked, keys_linked}
 -- an accepted 3F is of a certificate that is not listed
 pub iak_new_lem : (f : File) (s : State) (p q c r : ℕ) → outcome f s (issue_iak p q c r) ≡ 0 → listed s.ledger r ≡ false
 unfolding outcome tests_of issue_iak_tests called_for
-iak_new_lem f s p q c r e = not_true _ (passed (issue_iak_tests f s p q c r) refl e).1.1.1.1.1.1.1.1.0
+iak_new_lem f s p q c r e = not-true _ (passed (issue_iak_tests f s p q c r) refl e).1.1.1.1.1.1.1.1.0
 
 -- and of an open credential
 pub iak_open : (f : File) (s : State) (p q c r : ℕ) → outcome f s (issue_iak p q c r) ≡ 0 → s.mark c ≡ credential_open
@@ -79,7 +79,7 @@ unfolding outcome tests_of issue_tests form_tests proof_tests called_for request
 request_new f s family p q r e =
     let tests = passed (issue_tests f s family p q r) refl e in
     let signed = tests.1.1.1.1.1.1.1.1.1.1.1 in
-    record { named = same_subject_lem _ _ signed.1.1.1.1.0; new = not_true _ signed.1.1.1.1.1.1.0 }
+    record { named = same_subject_lem _ _ signed.1.1.1.1.0; new = not-true _ signed.1.1.1.1.1.1.0 }
 
 pub request_accepted : {bs s tables : List ℕ} {n p q r : ℕ} (i : IssuesOnRequest bs s tables n p q r) → RequestPassed (file_in bs) (state_of (view s) i.accepts.ledger) p q r
 request_accepted {bs} {s} {p = p} {q} {r} i = request_passed (file_in bs) (state_of (view s) i.accepts.ledger) i.family p q r i.wellformed.3 i.accepts.accepted

@@ -14,7 +14,7 @@ use Prim.Native.Nat.{ℕ, zero, suc, ◌+◌, ◌-◌, ◌<◌, ◌≤◌}
 use native.Mathlib.Omega.{arith}
 use lib.Dec.{eqb}
 use lib.ListN.{length, get_or, get_elem?, get_or-append}
-use borrow.Author.Tests.{eqb-true, eqb-false, ne_eqb, not_true}
+use borrow.Author.Tests.{eqb-true, eqb-false, ne_eqb, not-true}
 use Rattle.rules.specs.declared.Entry.{Entry}
 use Rattle.rules.specs.Limits.{term_limit}
 use Rattle.rules.specs.State.{listed, depth_of, parent_of}
@@ -111,7 +111,7 @@ module _ {tables : List ℕ} {n : ℕ} {ledger : List Entry} (t : ℕ) (e : Ente
   column_listed l = listed_column ∙ ap not (ne_eqb ((tables_in tables).entry t) 0 (λ z. omega arith))
 
   pub column_some : listed ledger t ≡ true → 0 < (tables_in tables).entry t
-  column_some l = let m = eqb-false ((tables_in tables).entry t) 0 (not_true _ (sym listed_column ∙ l)) in omega (arith, m)
+  column_some l = let m = eqb-false ((tables_in tables).entry t) 0 (not-true _ (sym listed_column ∙ l)) in omega (arith, m)
 
   pub entry_listed : 0 < (tables_in tables).entry t → (g : Entry) × (get_elem? ledger ((tables_in tables).entry t - 1) ≡ some g) × (g.certificate ≡ t) × (g.depth ≡ depth_of ledger t)
   entry_listed l = let w = entry_there ledger 0 t ((tables_in tables).entry t) (sym (e.place t)) l in (w.1, w.2, w.3, w.4)

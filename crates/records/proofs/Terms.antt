@@ -1,6 +1,6 @@
 -- The fields of terms as four numbers: what they are at a subject, and that terms of one kind are alike where the numbers are.
 use mathlib.Core.Path.{◌≡◌, refl, ap, sym, ◌∙◌}
-use mathlib.Core.Bool.{Bool, true, false, cond, ◌&&◌, and_true}
+use mathlib.Core.Bool.{Bool, true, false, cond, ◌&&◌, and-true}
 use mathlib.Core.List.{List, [], ◌∷◌}
 use Prim.Native.Nat.{ℕ, zero, suc, ◌+◌, ◌-◌, ◌≤◌}
 use native.Mathlib.Omega.{arith}
@@ -72,7 +72,7 @@ abbrev pub same_four : List ℕ → List ℕ → Bool
 same_four xs ys = eqb (get_or xs 0 0) (get_or ys 0 0) && (eqb (get_or xs 1 0) (get_or ys 1 0) && (eqb (get_or xs 2 0) (get_or ys 2 0) && eqb (get_or xs 3 0) (get_or ys 3 0)))
 
 same_four_lem : (xs ys : List ℕ) → same_four xs ys ≡ same_first 4 xs ys
-same_four_lem xs ys = simp (get_or-drop, and_true)
+same_four_lem xs ys = simp (get_or-drop, and-true)
 
 pub alike_words : (a b : Term) → kind_of a ≡ kind_of b → same_four (fields_in a) (fields_in b) ≡ alike a b
 unfolding alike

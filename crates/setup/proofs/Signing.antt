@@ -2,7 +2,7 @@
 --     signs-found                        one of them has the key
 --     signs-other-key, signs-other-role  one party more has not
 -- Assumes nothing.
-use mathlib.Core.Bool.{Bool, true, false, ◌&&◌, ◌||◌, and-false, or_true}
+use mathlib.Core.Bool.{Bool, true, false, ◌&&◌, ◌||◌, and-false, or-true}
 use mathlib.Core.Path.{◌≡◌, refl}
 use mathlib.Core.List.{List}
 use Prim.Native.Nat.{ℕ, zero, suc, ◌+◌, ◌<◌}
@@ -25,7 +25,7 @@ module _ (bs signers : List ℕ) (role k : ℕ) where
       go more false f =
           let m = eqb-false p n f in
           let l : p < n = omega arith in
-          rw (more l) (or_true (eqb (get_or signers n 0) k && eqb (role_there bs n) role))
+          rw (more l) (or-true (eqb (get_or signers n 0) k && eqb (role_there bs n) role))
 
   pub signs_other_key : (p : ℕ) → (get_or signers p 0 ≡ k → ⊥) → signs_there bs signers role k p ≡ false → signs_there bs signers role k (p + 1) ≡ false
   unfolding signs_there

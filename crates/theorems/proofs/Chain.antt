@@ -10,7 +10,7 @@ use mathlib.Core.List.{List, [], ◌∷◌, ◌++◌}
 use Prim.Native.Nat.{ℕ, zero, suc, ◌<◌}
 use native.Mathlib.Omega.{arith}
 use lib.Dec.{eqb}
-use borrow.Author.Tests.{eqb-true, eq-eqb, not_true}
+use borrow.Author.Tests.{eqb-true, eq-eqb, not-true}
 use Rattle.rules.specs.Refusals.{Test, need, order, applies, first_of, refusal_of}
 use Rattle.theorems.proofs.Booleans.{and_true, or_right}
 use Rattle.theorems.proofs.Passing.{among, ordered, absent, none_fails, passes_first}
@@ -73,7 +73,7 @@ skips (m ∷ ns) n xs d o a = go (eqb m n) o a (skips ns n xs w.1)
         → cond (applies m xs) m (first_of ns xs) ≡ first_of (cond b (m ∷ ns) (from n ns)) xs
     go true o a more = refl
     go false o a more =
-        rw (absent ns xs m (ordered_more ns (from n ns) xs (λ k. from_among ns n k) o) (not_true (among m ns) w.0)) (more o a)
+        rw (absent ns xs m (ordered_more ns (from n ns) xs (λ k. from_among ns n k) o) (not-true (among m ns) w.0)) (more o a)
       where
         ordered_more : (ns ms : List ℕ) (xs : List Test) → ((k : ℕ) → among k ms ≡ true → among k ns ≡ true) → ordered ms xs ≡ true → ordered ns xs ≡ true
         ordered_more ns ms [] i o = refl

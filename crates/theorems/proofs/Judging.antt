@@ -12,7 +12,7 @@ use Prim.Native.Nat.{ℕ, zero, suc, ◌<◌}
 use native.Mathlib.Omega.{arith}
 use lib.Dec.{eqb}
 use lib.ListN.{length, get_elem?}
-use borrow.Author.Tests.{eq-eqb, ne_eqb, eqb-true, eqb-false, not_true}
+use borrow.Author.Tests.{eq-eqb, ne_eqb, eqb-true, eqb-false, not-true}
 use Rattle.rules.specs.declared.Entry.{Entry}
 use Rattle.rules.specs.declared.Subject.{Subject}
 use Rattle.rules.specs.Limits.{device, oem_desk}
@@ -112,7 +112,7 @@ module _ (f : File) (ck : Checked f) (s : State) (inv : Invariant f s) (p q : �
 
   new : listed s.ledger y.certificate ≡ true → ⊥
   unfolding issue_iak_tests called_for
-  new h = false≢true (sym (not_true (listed s.ledger y.certificate) (issue_iak_passed f ck s inv p q y.credential y.certificate e).1.1.1.1.1.1.1.1.0) ∙ h)
+  new h = false≢true (sym (not-true (listed s.ledger y.certificate) (issue_iak_passed f ck s inv p q y.credential y.certificate e).1.1.1.1.1.1.1.1.0) ∙ h)
 
   new_end_lem : end_ek f more new_entry ≡ ek_of f (s.request y.credential)
   unfolding end_ek ek_of

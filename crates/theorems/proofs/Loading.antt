@@ -8,7 +8,7 @@ use mathlib.Core.List.{List, [], ◌∷◌, Memᴰ}
 use Prim.Native.Nat.{ℕ, zero, suc, ◌+◌, ◌-◌, ◌<◌, ◌≤◌}
 use native.Mathlib.Omega.{arith}
 use lib.Dec.{eqb, ltb, leb}
-use borrow.Author.Tests.{ltb-true, leb-true, eqb-true, eqb-false, not_true}
+use borrow.Author.Tests.{ltb-true, leb-true, eqb-true, eqb-false, not-true}
 use lib.ListN.{get_or, length, length-append, take, drop}
 use Rattle.rules.specs.declared.Term.{Term}
 use Rattle.rules.specs.Limits.{file_limit, party_limit, term_limit, pair_count, pair_width, register_count, device, tpm_maker}
@@ -269,7 +269,7 @@ module _ (f : File) (place k : ℕ) (bs : List ℕ) (g : Good f) (known : 0 < se
       let e : section_of k ≡ term_section = eqb-true (section_of k) term_section b in
       let o : f.section ≤ section_of k = in_order_lem in
       term_good f g (term_at k bs) place (omega arith) (ltb-true (length f.terms) term_limit (refuse_zero 6 _ (omega arith) (rw (a, b) at not_many)))
-      (not_true (any_alike (term_at k bs) f.terms) (refuse_zero 9 _ (omega arith) (rw b at not_alike)))
+      (not-true (any_alike (term_at k bs) f.terms) (refuse_zero 9 _ (omega arith) (rw b at not_alike)))
       (term_names f bs k e fields_right)
   entered_go false false true a b c =
       let e : section_of k ≡ setup_section = eqb-true (section_of k) setup_section c in

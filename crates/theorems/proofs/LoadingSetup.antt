@@ -8,7 +8,7 @@ use mathlib.Core.List.{List, [], ◌∷◌, Memᴰ}
 use Prim.Native.Nat.{ℕ, ◌<◌}
 use native.Mathlib.Omega.{arith}
 use lib.Dec.{eqb}
-use borrow.Author.Tests.{eqb-true, eqb-false, eq-eqb, not_true}
+use borrow.Author.Tests.{eqb-true, eqb-false, eq-eqb, not-true}
 use lib.ListN.{length}
 use Rattle.rules.specs.declared.Attributes.{Attributes}
 use Rattle.rules.specs.Limits.{device, tpm_maker}
@@ -159,7 +159,7 @@ may_learn_lem f t e =
     ]
 
 not_false_true : (b : Bool) → b ≡ true → not b ≡ true → ⊥
-not_false_true b e n = true≢false (sym e ∙ not_true b n)
+not_false_true b e n = true≢false (sym e ∙ not-true b n)
 
 same_party_go : (p q k : ℕ) (xs : List Setup) → not (some_setup (is_other_hold p k) xs) ≡ true → Memᴰ (holds q k) xs → (t : Bool) → eqb q p ≡ t → p ≡ q
 unfolding is_other_hold
@@ -193,7 +193,7 @@ may_sign_lem f p k e =
     let bits : (attributes f k).bits ≡ desk_key_attributes.bits = eqb-true (attributes f k).bits desk_key_attributes.bits b.1 in
     record {
       signing = record {
-        role = eqb-false (role_of f p) device (not_true _ c.0);
+        role = eqb-false (role_of f p) device (not-true _ c.0);
         key_attributes = same_bits (attributes f k) desk_key_attributes bits;
       };
       held = hold_mem p k f.setup a.1;

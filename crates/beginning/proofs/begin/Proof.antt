@@ -1,5 +1,5 @@
 use borrow.Author.Rules.{rules}
-use borrow.Author.Tests.{not_true, not-false}
+use borrow.Author.Tests.{not-true, not-false}
 use mathlib.Core.Path.{◌≡◌, sym, ◌∙◌}
 use lib.ListN.{length}
 use lib.Seq.{length-take-le}
@@ -15,7 +15,7 @@ stopped-requires : tie.Need-stopped-requires
 stopped-requires c κs = search rules
 
 returns : tie.Need-returns
-returns c = begins_short (sym c.before.before.enough.ensures ∙ not_true c.before.before.enough.result c.before.if1.true) c.stopped.ensures
+returns c = begins_short (sym c.before.before.enough.ensures ∙ not-true c.before.before.enough.result c.before.if1.true) c.stopped.ensures
 
 stopped-requires-2 : tie.Need-stopped-requires-2
 stopped-requires-2 c κs = search rules

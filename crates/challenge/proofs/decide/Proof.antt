@@ -1,5 +1,5 @@
 use borrow.Author.Rules.{rules}
-use borrow.Author.Tests.{not_true, not-false}
+use borrow.Author.Tests.{not-true, not-false}
 use mathlib.Core.Path.{◌≡◌, refl, sym, ◌∙◌}
 use native.Mathlib.Omega.{arith}
 use Rattle.state.specs.View.{view}
@@ -28,7 +28,7 @@ returns c ledger =
     let h = o.requires.0 in
     let w = o.requires.1 in
     sym (challenge_chain (file_in o.args.file.now) (state_of (view o.args.state.now) ledger) o.args.party o.args.q o.args.r refl refl refl refl refl refl refl refl refl refl
-    ∙ chain_fails 13 _ _ (sym c.before.is-role.ensures ∙ not_true _ c.if1.true))
+    ∙ chain_fails 13 _ _ (sym c.before.is-role.ensures ∙ not-true _ c.if1.true))
 
 knows-requires : tie.Need-knows-requires
 knows-requires c κs =
@@ -44,7 +44,7 @@ returns-2 c ledger =
     let w = o.requires.1 in
     sym (challenge_chain (file_in o.args.file.now) (state_of (view o.args.state.now) ledger) o.args.party o.args.q o.args.r refl refl refl refl refl refl refl refl refl refl
     ∙ chain_passes 13 _ _ (sym c.before.before.before.is-role.ensures ∙ not-false _ c.before.before.if1.false)
-    ∙ chain_fails 14 _ _ (sym c.before.knows.ensures ∙ not_true _ c.if2.true))
+    ∙ chain_fails 14 _ _ (sym c.before.knows.ensures ∙ not-true _ c.if2.true))
 
 form-requires : tie.Need-form-requires
 form-requires c κs =
@@ -84,7 +84,7 @@ returns-4 c ledger =
     ∙ chain_passes 13 _ _ (sym c.before.before.before.before.before.before.before.before.before.is-role.ensures ∙ not-false _ c.before.before.before.before.before.before.before.before.if1.false)
     ∙ chain_passes 14 _ _ (sym c.before.before.before.before.before.before.before.knows.ensures ∙ not-false _ c.before.before.before.before.before.before.if2.false)
     ∙ form_goes _ _ c.before.before.before.if3.false _ _ c.before.before.before.before.before.form.ensures.0
-    ∙ chain_fails 19 _ _ (sym c.before.is-device.ensures ∙ not_true _ c.if4.true))
+    ∙ chain_fails 19 _ _ (sym c.before.is-device.ensures ∙ not-true _ c.if4.true))
 
 proof-of-key-requires : tie.Need-proof-of-key-requires
 proof-of-key-requires c κs =

@@ -1,5 +1,5 @@
 use borrow.Author.Rules.{rules}
-use borrow.Author.Tests.{not_true, not-false, eq-eqb, ne_eqb}
+use borrow.Author.Tests.{not-true, not-false, eq-eqb, ne_eqb}
 use mathlib.Core.Path.{◌≡◌, sym, ap, ◌∙◌}
 use mathlib.Core.Bool.{not}
 use Rattle.rules.specs.Desk.{number_tests}
@@ -12,7 +12,7 @@ knows-requires c κs = search rules
 
 returns : tie.Need-returns
 unfolding number_tests
-returns c ledger = sym (chain_fails 24 _ _ (sym c.before.knows.ensures ∙ not_true _ c.if1.true))
+returns c ledger = sym (chain_fails 24 _ _ (sym c.before.knows.ensures ∙ not-true _ c.if1.true))
 
 knowers-of-requires : tie.Need-knowers-of-requires
 knowers-of-requires c κs = search rules

@@ -2,7 +2,7 @@ use mathlib.Core.Path.{◌≡◌, sym, ap, ◌∙◌}
 use mathlib.Core.Bool.{true}
 use Prim.Native.Nat.{ℕ}
 use native.Mathlib.Omega.{arith}
-use borrow.Author.Tests.{not_true, not-false}
+use borrow.Author.Tests.{not-true, not-false}
 use Rattle.rules.specs.Limits.{device}
 use Rattle.rules.specs.Attributes.{restricted, decrypt}
 use Rattle.rules.specs.Term.{public_key_kind, hash_kind}
@@ -31,7 +31,7 @@ returns : tie.Need-returns
 returns c ledger =
     let a = c.before.before.before.before.args in
     sym (activate_chain (file_in a.file.now) (state_of (view a.state.now) ledger) a.party a.r
-    ∙ chain_fails 13 _ _ (sym c.before.is-role.ensures ∙ not_true _ c.if1.true))
+    ∙ chain_fails 13 _ _ (sym c.before.is-role.ensures ∙ not-true _ c.if1.true))
 
 passes-1 : (c : tie.Else1) → let a = c.before.before.before.before.args in is_role (file_in a.file.now) device a.party ≡ true
 passes-1 c =
@@ -47,7 +47,7 @@ returns-2 c ledger =
     let a = c.before.before.before.before.before.before.args in
     sym (activate_chain (file_in a.file.now) (state_of (view a.state.now) ledger) a.party a.r
     ∙ chain_passes 13 _ _ (passes-1 c.before.before)
-    ∙ chain_fails 14 _ _ (sym c.before.knows.ensures ∙ not_true _ c.if2.true))
+    ∙ chain_fails 14 _ _ (sym c.before.knows.ensures ∙ not-true _ c.if2.true))
 
 passes-2 : (c : tie.Else2) → let a = c.before.before.before.before.before.before.args in (view a.state.now).knows a.party a.r ≡ true
 passes-2 c =
@@ -70,7 +70,7 @@ returns-3 c ledger =
     sym (activate_chain (file_in a.file.now) (state_of (view a.state.now) ledger) a.party a.r
     ∙ chain_passes 13 _ _ (passes-1 c.before.before.before.before.before)
     ∙ chain_passes 14 _ _ (passes-2 c.before.before.before)
-    ∙ chain_fails 15 _ _ (half_read p.0 p.2 (credential_key_declared (checked_here p.0) (kind_declared _ p.1.1 (λ q. omega arith)) p.1.1) ((view a.state.now).table a.party) c.before.before.credential-key-of.ensures c.before.holds-half.ensures (not_true _ c.if3.true)))
+    ∙ chain_fails 15 _ _ (half_read p.0 p.2 (credential_key_declared (checked_here p.0) (kind_declared _ p.1.1 (λ q. omega arith)) p.1.1) ((view a.state.now).table a.party) c.before.before.credential-key-of.ensures c.before.holds-half.ensures (not-true _ c.if3.true)))
 
 passes-3 : (c : tie.Else3) → let a = c.before.before.before.before.before.before.before.before.before.args in half_in (file_in a.file.now) ((view a.state.now).table a.party) (credential_key (file_in a.file.now) a.r) ≡ true
 passes-3 c =
@@ -95,7 +95,7 @@ returns-4 c ledger =
     ∙ chain_passes 13 _ _ (passes-1 c.before.before.before.before.before.before.before.before)
     ∙ chain_passes 14 _ _ (passes-2 c.before.before.before.before.before.before)
     ∙ chain_passes 15 _ _ (passes-3 c.before.before.before)
-    ∙ chain_fails 15 _ _ (of_read (is_kind (file_in a.file.now) hash_kind) c.before.before.credential-term-of.ensures c.before.is-kind.ensures (not_true _ c.if4.true)))
+    ∙ chain_fails 15 _ _ (of_read (is_kind (file_in a.file.now) hash_kind) c.before.before.credential-term-of.ensures c.before.is-kind.ensures (not-true _ c.if4.true)))
 
 passes-4 : (c : tie.Else4) → let a = c.before.before.before.before.before.before.before.before.before.before.before.before.args in is_kind (file_in a.file.now) hash_kind (credential_term (file_in a.file.now) a.r) ≡ true
 passes-4 c =
@@ -120,7 +120,7 @@ returns-5 c ledger =
     ∙ chain_passes 14 _ _ (passes-2 c.before.before.before.before.before.before.before.before.before)
     ∙ chain_passes 15 _ _ (passes-3 c.before.before.before.before.before.before)
     ∙ chain_passes 15 _ _ (passes-4 c.before.before.before)
-    ∙ chain_fails 15 _ _ (of_read (is_kind (file_in a.file.now) public_key_kind) (c.before.before.hashed-term.ensures ∙ ap (hashed_term (file_in a.file.now)) c.before.before.before.before.before.credential-term-of.ensures) c.before.is-kind2.ensures (not_true _ c.if5.true)))
+    ∙ chain_fails 15 _ _ (of_read (is_kind (file_in a.file.now) public_key_kind) (c.before.before.hashed-term.ensures ∙ ap (hashed_term (file_in a.file.now)) c.before.before.before.before.before.credential-term-of.ensures) c.before.is-kind2.ensures (not-true _ c.if5.true)))
 
 passes-5 : (c : tie.Else5) → let a = c.before.before.before.before.before.before.before.before.before.before.before.before.before.before.before.args in is_kind (file_in a.file.now) public_key_kind (hashed_term (file_in a.file.now) (credential_term (file_in a.file.now) a.r)) ≡ true
 passes-5 c =
@@ -142,7 +142,7 @@ returns-6 c ledger =
     ∙ chain_passes 15 _ _ (passes-3 c.before.before.before.before.before.before.before.before)
     ∙ chain_passes 15 _ _ (passes-4 c.before.before.before.before.before)
     ∙ chain_passes 15 _ _ (passes-5 c.before.before)
-    ∙ chain_fails 15 _ _ (half_read p.0 p.2 (hashed_declared (checked_here p.0) (credential_term_declared (checked_here p.0) (kind_declared _ p.1.1 (λ q. omega arith)) p.1.1) (is_kind_kind _ _ _ (passes-4 c.before.before.before.before.before))) ((view a.state.now).table a.party) (c.before.before.before.before.hashed-term.ensures ∙ ap (hashed_term (file_in a.file.now)) c.before.before.before.before.before.before.before.credential-term-of.ensures) c.before.holds-half2.ensures (not_true _ c.if6.true)))
+    ∙ chain_fails 15 _ _ (half_read p.0 p.2 (hashed_declared (checked_here p.0) (credential_term_declared (checked_here p.0) (kind_declared _ p.1.1 (λ q. omega arith)) p.1.1) (is_kind_kind _ _ _ (passes-4 c.before.before.before.before.before))) ((view a.state.now).table a.party) (c.before.before.before.before.hashed-term.ensures ∙ ap (hashed_term (file_in a.file.now)) c.before.before.before.before.before.before.before.credential-term-of.ensures) c.before.holds-half2.ensures (not-true _ c.if6.true)))
 
 passes-6 : (c : tie.Else6) → let a = c.before.before.before.before.before.before.before.before.before.before.before.before.before.before.before.before.before.args in half_in (file_in a.file.now) ((view a.state.now).table a.party) (hashed_term (file_in a.file.now) (credential_term (file_in a.file.now) a.r)) ≡ true
 passes-6 c =
@@ -165,7 +165,7 @@ returns-7 c ledger =
     ∙ chain_passes 15 _ _ (passes-4 c.before.before.before.before.before.before.before)
     ∙ chain_passes 15 _ _ (passes-5 c.before.before.before.before)
     ∙ chain_passes 15 _ _ (passes-6 c.before.before)
-    ∙ chain_fails 16 _ _ (of_read (λ (k : ℕ). key_has (file_in a.file.now) k restricted) c.before.before.before.before.before.before.before.before.before.before.before.before.credential-key-of.ensures c.before.key_Has.ensures (not_true _ c.if7.true)))
+    ∙ chain_fails 16 _ _ (of_read (λ (k : ℕ). key_has (file_in a.file.now) k restricted) c.before.before.before.before.before.before.before.before.before.before.before.before.credential-key-of.ensures c.before.key_Has.ensures (not-true _ c.if7.true)))
 
 passes-7 : (c : tie.Else7) → let a = c.before.before.before.before.before.before.before.before.before.before.before.before.before.before.before.before.before.before.before.args in key_has (file_in a.file.now) (credential_key (file_in a.file.now) a.r) restricted ≡ true
 passes-7 c =
@@ -188,7 +188,7 @@ returns-8 c ledger =
     ∙ chain_passes 15 _ _ (passes-5 c.before.before.before.before.before.before)
     ∙ chain_passes 15 _ _ (passes-6 c.before.before.before.before)
     ∙ chain_passes 16 _ _ (passes-7 c.before.before)
-    ∙ chain_fails 16 _ _ (of_read (λ (k : ℕ). key_has (file_in a.file.now) k decrypt) c.before.before.before.before.before.before.before.before.before.before.before.before.before.before.credential-key-of.ensures c.before.key-has2.ensures (not_true _ c.if8.true)))
+    ∙ chain_fails 16 _ _ (of_read (λ (k : ℕ). key_has (file_in a.file.now) k decrypt) c.before.before.before.before.before.before.before.before.before.before.before.before.before.before.credential-key-of.ensures c.before.key-has2.ensures (not-true _ c.if8.true)))
 
 passes-8 : (c : tie.Else8) → let a = c.before.before.before.before.before.before.before.before.before.before.before.before.before.before.before.before.before.before.before.before.before.args in key_has (file_in a.file.now) (credential_key (file_in a.file.now) a.r) decrypt ≡ true
 passes-8 c =

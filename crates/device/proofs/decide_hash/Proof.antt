@@ -1,7 +1,7 @@
 use mathlib.Core.Path.{sym, ap, ◌∙◌}
 use Prim.Native.Nat.{ℕ}
 use native.Mathlib.Omega.{arith}
-use borrow.Author.Tests.{not_true, not-false}
+use borrow.Author.Tests.{not-true, not-false}
 use Rattle.state.specs.View.{view}
 use Rattle.state.proofs.Exact.{state_of}
 use Rattle.loaded.specs.Loaded.{file_in}
@@ -21,7 +21,7 @@ returns c ledger =
     let o = c.before.before.before.before in
     let a = o.args in
     sym (hash_chain (file_in a.file.now) (state_of (view a.state.now) ledger) a.party a.r
-    ∙ chain_fails 13 _ _ (sym c.before.is-role.ensures ∙ not_true _ c.if1.true))
+    ∙ chain_fails 13 _ _ (sym c.before.is-role.ensures ∙ not-true _ c.if1.true))
 
 hashed-term-requires : tie.Need-hashed-term-requires
 hashed-term-requires c κs = let p = c.before.before.before.before.requires in term_noted_lem p.2 p.1.2
@@ -37,7 +37,7 @@ returns-2 c ledger =
     let a = o.args in
     sym (hash_chain (file_in a.file.now) (state_of (view a.state.now) ledger) a.party a.r
     ∙ chain_passes 13 _ _ (sym c.before.before.before.before.is-role.ensures ∙ not-false _ c.before.before.before.if1.false)
-    ∙ chain_fails 14 _ _ (ap (λ (t : ℕ). (view a.state.now).knows a.party t) (sym c.before.before.hashed-term.ensures) ∙ sym c.before.knows.ensures ∙ not_true _ c.if2.true))
+    ∙ chain_fails 14 _ _ (ap (λ (t : ℕ). (view a.state.now).knows a.party t) (sym c.before.before.hashed-term.ensures) ∙ sym c.before.knows.ensures ∙ not-true _ c.if2.true))
 
 returns-3 : tie.Need-returns-3
 returns-3 c ledger =

@@ -1,7 +1,7 @@
 use mathlib.Core.Path.{◌≡◌, sym, ◌∙◌}
 use mathlib.Core.Bool.{true}
 use native.Mathlib.Omega.{arith}
-use borrow.Author.Tests.{not_true, not-false}
+use borrow.Author.Tests.{not-true, not-false}
 use Rattle.rules.specs.Limits.{device}
 use Rattle.rules.specs.File.{is_role, credential_term, credential_number, credential_key}
 use Rattle.state.specs.View.{view}
@@ -25,7 +25,7 @@ returns : tie.Need-returns
 returns c ledger =
     let a = c.before.before.before.before.args in
     sym (make_credential_chain (file_in a.file.now) (state_of (view a.state.now) ledger) a.party a.r
-    ∙ chain_fails 13 _ _ (sym c.before.is-role.ensures ∙ not_true _ c.if1.true))
+    ∙ chain_fails 13 _ _ (sym c.before.is-role.ensures ∙ not-true _ c.if1.true))
 
 passes-1 : (c : tie.Else1) → let a = c.before.before.before.before.args in is_role (file_in a.file.now) device a.party ≡ true
 passes-1 c =
@@ -46,7 +46,7 @@ returns-2 c ledger =
     let a = c.before.before.before.before.before.before.before.args in
     sym (make_credential_chain (file_in a.file.now) (state_of (view a.state.now) ledger) a.party a.r
     ∙ chain_passes 13 _ _ (passes-1 c.before.before.before)
-    ∙ chain_fails 14 _ _ (of_read ((view a.state.now).knows a.party) c.before.before.credential-term-of.ensures c.before.knows.ensures (not_true _ c.if2.true)))
+    ∙ chain_fails 14 _ _ (of_read ((view a.state.now).knows a.party) c.before.before.credential-term-of.ensures c.before.knows.ensures (not-true _ c.if2.true)))
 
 passes-2 : (c : tie.Else2) → let a = c.before.before.before.before.before.before.before.args in (view a.state.now).knows a.party (credential_term (file_in a.file.now) a.r) ≡ true
 passes-2 c =
@@ -69,7 +69,7 @@ returns-3 c ledger =
     sym (make_credential_chain (file_in a.file.now) (state_of (view a.state.now) ledger) a.party a.r
     ∙ chain_passes 13 _ _ (passes-1 c.before.before.before.before.before.before)
     ∙ chain_passes 14 _ _ (passes-2 c.before.before.before)
-    ∙ chain_fails 14 _ _ (of_read ((view a.state.now).knows a.party) c.before.before.credential-number-of.ensures c.before.knows2.ensures (not_true _ c.if3.true)))
+    ∙ chain_fails 14 _ _ (of_read ((view a.state.now).knows a.party) c.before.before.credential-number-of.ensures c.before.knows2.ensures (not-true _ c.if3.true)))
 
 passes-3 : (c : tie.Else3) → let a = c.before.before.before.before.before.before.before.before.before.before.args in (view a.state.now).knows a.party (credential_number (file_in a.file.now) a.r) ≡ true
 passes-3 c =
@@ -93,7 +93,7 @@ returns-4 c ledger =
     ∙ chain_passes 13 _ _ (passes-1 c.before.before.before.before.before.before.before.before.before)
     ∙ chain_passes 14 _ _ (passes-2 c.before.before.before.before.before.before)
     ∙ chain_passes 14 _ _ (passes-3 c.before.before.before)
-    ∙ chain_fails 14 _ _ (of_read ((view a.state.now).knows a.party) c.before.before.credential-key-of.ensures c.before.knows3.ensures (not_true _ c.if4.true)))
+    ∙ chain_fails 14 _ _ (of_read ((view a.state.now).knows a.party) c.before.before.credential-key-of.ensures c.before.knows3.ensures (not-true _ c.if4.true)))
 
 passes-4 : (c : tie.Else4) → let a = c.before.before.before.before.before.before.before.before.before.before.before.before.before.args in (view a.state.now).knows a.party (credential_key (file_in a.file.now) a.r) ≡ true
 passes-4 c =

@@ -1,6 +1,6 @@
 use mathlib.Core.Path.{sym, ◌∙◌}
 use native.Mathlib.Omega.{arith}
-use borrow.Author.Tests.{not_true, not-false}
+use borrow.Author.Tests.{not-true, not-false}
 use Rattle.state.specs.View.{view}
 use Rattle.state.proofs.Exact.{state_of}
 use Rattle.loaded.specs.Loaded.{file_in}
@@ -20,7 +20,7 @@ returns : tie.Need-returns
 returns c ledger =
     let a = c.before.before.before.before.args in
     sym (send_chain (file_in a.file.now) (state_of (view a.state.now) ledger) a.party a.other a.t
-    ∙ chain_fails 13 _ _ (sym c.before.may-send.ensures ∙ not_true _ c.if1.true))
+    ∙ chain_fails 13 _ _ (sym c.before.may-send.ensures ∙ not-true _ c.if1.true))
 
 knows-requires : tie.Need-knows-requires
 knows-requires c κs =
@@ -32,7 +32,7 @@ returns-2 c ledger =
     let a = c.before.before.before.before.before.before.args in
     sym (send_chain (file_in a.file.now) (state_of (view a.state.now) ledger) a.party a.other a.t
     ∙ chain_passes 13 _ _ (sym c.before.before.before.may-send.ensures ∙ not-false _ c.before.before.if1.false)
-    ∙ chain_fails 14 _ _ (sym c.before.knows.ensures ∙ not_true _ c.if2.true))
+    ∙ chain_fails 14 _ _ (sym c.before.knows.ensures ∙ not-true _ c.if2.true))
 
 returns-3 : tie.Need-returns-3
 returns-3 c ledger =

@@ -2,7 +2,7 @@ use mathlib.Core.Path.{◌≡◌, sym, ap, ◌∙◌}
 use mathlib.Core.Bool.{true, not, ◌||◌}
 use Prim.Native.Nat.{ℕ}
 use native.Mathlib.Omega.{arith}
-use borrow.Author.Tests.{not_true, not-false}
+use borrow.Author.Tests.{not-true, not-false}
 use Rattle.rules.specs.Limits.{device}
 use Rattle.rules.specs.Attributes.{restricted, sign}
 use Rattle.rules.specs.Term.{hash_kind}
@@ -29,7 +29,7 @@ returns : tie.Need-returns
 returns c ledger =
     let a = c.before.before.before.before.args in
     sym (sign_chain (file_in a.file.now) (state_of (view a.state.now) ledger) a.party a.r
-    ∙ chain_fails 13 _ _ (sym c.before.is-role.ensures ∙ not_true _ c.if1.true))
+    ∙ chain_fails 13 _ _ (sym c.before.is-role.ensures ∙ not-true _ c.if1.true))
 
 passes-1 : (c : tie.Else1) → let a = c.before.before.before.before.args in is_role (file_in a.file.now) device a.party ≡ true
 passes-1 c =
@@ -60,7 +60,7 @@ returns-2 c ledger =
     let a = c.before.before.before.before.before.before.before.before.before.args in
     sym (sign_chain (file_in a.file.now) (state_of (view a.state.now) ledger) a.party a.r
     ∙ chain_passes 13 _ _ (passes-1 c.before.before.before.before.before)
-    ∙ chain_fails 14 _ _ (either_read ((view a.state.now).knows a.party) (c.before.before.key_Has.ensures ∙ ap (λ (k : ℕ). key_has (file_in a.file.now) k restricted) c.before.before.before.before.signing-key-of.ensures) c.before.before.before.message-of.ensures c.before.known-unless.ensures (not_true _ c.if2.true)))
+    ∙ chain_fails 14 _ _ (either_read ((view a.state.now).knows a.party) (c.before.before.key_Has.ensures ∙ ap (λ (k : ℕ). key_has (file_in a.file.now) k restricted) c.before.before.before.before.signing-key-of.ensures) c.before.before.before.message-of.ensures c.before.known-unless.ensures (not-true _ c.if2.true)))
 
 passes-2 : (c : tie.Else2) → let a = c.before.before.before.before.before.before.before.before.before.args in (key_has (file_in a.file.now) (signing_key (file_in a.file.now) a.r) restricted || (view a.state.now).knows a.party (message (file_in a.file.now) a.r)) ≡ true
 passes-2 c =
@@ -78,7 +78,7 @@ returns-3 c ledger =
     sym (sign_chain (file_in a.file.now) (state_of (view a.state.now) ledger) a.party a.r
     ∙ chain_passes 13 _ _ (passes-1 c.before.before.before.before.before.before.before)
     ∙ chain_passes 14 _ _ (passes-2 c.before.before)
-    ∙ chain_fails 15 _ _ (of_read ((view a.state.now).table a.party) c.before.before.before.before.before.before.signing-key-of.ensures c.before.in_table.ensures (not_true _ c.if3.true)))
+    ∙ chain_fails 15 _ _ (of_read ((view a.state.now).table a.party) c.before.before.before.before.before.before.signing-key-of.ensures c.before.in_table.ensures (not-true _ c.if3.true)))
 
 passes-3 : (c : tie.Else3) → let a = c.before.before.before.before.before.before.before.before.before.before.before.args in (view a.state.now).table a.party (signing_key (file_in a.file.now) a.r) ≡ true
 passes-3 c =
@@ -97,7 +97,7 @@ returns-4 c ledger =
     ∙ chain_passes 13 _ _ (passes-1 c.before.before.before.before.before.before.before.before.before)
     ∙ chain_passes 14 _ _ (passes-2 c.before.before.before.before)
     ∙ chain_passes 15 _ _ (passes-3 c.before.before)
-    ∙ chain_fails 16 _ _ (of_read (λ (k : ℕ). key_has (file_in a.file.now) k sign) c.before.before.before.before.before.before.before.before.signing-key-of.ensures c.before.key-has2.ensures (not_true _ c.if4.true)))
+    ∙ chain_fails 16 _ _ (of_read (λ (k : ℕ). key_has (file_in a.file.now) k sign) c.before.before.before.before.before.before.before.before.signing-key-of.ensures c.before.key-has2.ensures (not-true _ c.if4.true)))
 
 passes-4 : (c : tie.Else4) → let a = c.before.before.before.before.before.before.before.before.before.before.before.before.before.args in key_has (file_in a.file.now) (signing_key (file_in a.file.now) a.r) sign ≡ true
 passes-4 c =
@@ -112,8 +112,8 @@ returns-5 c ledger =
     ∙ chain_passes 14 _ _ (passes-2 c.before.before.before.before.before)
     ∙ chain_passes 15 _ _ (passes-3 c.before.before.before)
     ∙ chain_passes 16 _ _ (passes-4 c.before)
-    ∙ chain_passes 17 _ _ (free _ (of_read (λ (k : ℕ). key_has (file_in a.file.now) k restricted) c.before.before.before.before.before.before.before.before.before.signing-key-of.ensures c.before.before.before.before.before.before.before.key_Has.ensures (not_true _ c.if5.true)))
-    ∙ chain_passes 17 _ _ (free _ (of_read (λ (k : ℕ). key_has (file_in a.file.now) k restricted) c.before.before.before.before.before.before.before.before.before.signing-key-of.ensures c.before.before.before.before.before.before.before.key_Has.ensures (not_true _ c.if5.true)))
+    ∙ chain_passes 17 _ _ (free _ (of_read (λ (k : ℕ). key_has (file_in a.file.now) k restricted) c.before.before.before.before.before.before.before.before.before.signing-key-of.ensures c.before.before.before.before.before.before.before.key_Has.ensures (not-true _ c.if5.true)))
+    ∙ chain_passes 17 _ _ (free _ (of_read (λ (k : ℕ). key_has (file_in a.file.now) k restricted) c.before.before.before.before.before.before.before.before.before.signing-key-of.ensures c.before.before.before.before.before.before.before.key_Has.ensures (not-true _ c.if5.true)))
     ∙ chain_none)
 
 is-kind-requires : tie.Need-is-kind-requires
@@ -129,7 +129,7 @@ returns-6 c ledger =
     ∙ chain_passes 14 _ _ (passes-2 c.before.before.before.before.before.before.before)
     ∙ chain_passes 15 _ _ (passes-3 c.before.before.before.before.before)
     ∙ chain_passes 16 _ _ (passes-4 c.before.before.before)
-    ∙ chain_fails 17 _ _ (unless (of_read (λ (k : ℕ). key_has (file_in a.file.now) k restricted) c.before.before.before.before.before.before.before.before.before.before.before.signing-key-of.ensures c.before.before.before.before.before.before.before.before.before.key_Has.ensures (not-false _ c.before.before.if5.false)) (of_read (is_kind (file_in a.file.now) hash_kind) c.before.before.before.before.before.before.before.before.before.before.message-of.ensures c.before.is-kind.ensures (not_true _ c.if6.true))))
+    ∙ chain_fails 17 _ _ (unless (of_read (λ (k : ℕ). key_has (file_in a.file.now) k restricted) c.before.before.before.before.before.before.before.before.before.before.before.signing-key-of.ensures c.before.before.before.before.before.before.before.before.before.key_Has.ensures (not-false _ c.before.before.if5.false)) (of_read (is_kind (file_in a.file.now) hash_kind) c.before.before.before.before.before.before.before.before.before.before.message-of.ensures c.before.is-kind.ensures (not-true _ c.if6.true))))
 
 passes-6 : (c : tie.Else6) → let a = c.before.before.before.before.before.before.before.before.before.before.before.before.before.before.before.before.args in (not (key_has (file_in a.file.now) (signing_key (file_in a.file.now) a.r) restricted) || is_kind (file_in a.file.now) hash_kind (message (file_in a.file.now) a.r)) ≡ true
 passes-6 c =
@@ -150,7 +150,7 @@ returns-7 c ledger =
     ∙ chain_passes 15 _ _ (passes-3 c.before.before.before.before.before.before.before)
     ∙ chain_passes 16 _ _ (passes-4 c.before.before.before.before.before)
     ∙ chain_passes 17 _ _ (passes-6 c.before.before)
-    ∙ chain_fails 17 _ _ (unless (of_read (λ (k : ℕ). key_has (file_in a.file.now) k restricted) c.before.before.before.before.before.before.before.before.before.before.before.before.before.signing-key-of.ensures c.before.before.before.before.before.before.before.before.before.before.before.key_Has.ensures (not-false _ c.before.before.before.before.if5.false)) (of_read ((view a.state.now).table a.party) c.before.before.before.before.before.before.before.before.before.before.before.before.message-of.ensures c.before.in-table2.ensures (not_true _ c.if7.true))))
+    ∙ chain_fails 17 _ _ (unless (of_read (λ (k : ℕ). key_has (file_in a.file.now) k restricted) c.before.before.before.before.before.before.before.before.before.before.before.before.before.signing-key-of.ensures c.before.before.before.before.before.before.before.before.before.before.before.key_Has.ensures (not-false _ c.before.before.before.before.if5.false)) (of_read ((view a.state.now).table a.party) c.before.before.before.before.before.before.before.before.before.before.before.before.message-of.ensures c.before.in-table2.ensures (not-true _ c.if7.true))))
 
 passes-7 : (c : tie.Else7) → let a = c.before.before.before.before.before.before.before.before.before.before.before.before.before.before.before.before.before.before.args in (not (key_has (file_in a.file.now) (signing_key (file_in a.file.now) a.r) restricted) || (view a.state.now).table a.party (message (file_in a.file.now) a.r)) ≡ true
 passes-7 c =

@@ -1,5 +1,5 @@
 use mathlib.Core.Path.{sym, ◌∙◌}
-use borrow.Author.Tests.{not_true, not-false}
+use borrow.Author.Tests.{not-true, not-false}
 use Rattle.rules.specs.Device.{may_send}
 use Rattle.loaded.proofs.Tested.{or_first, or_second, and_first, and_second}
 use Rattle.device.proofs.may_send.Statement.{statement}
@@ -17,7 +17,7 @@ is-desk-requires c κs = c.before.before.before.requires.0
 
 returns-2 : tie.Need-returns-2
 unfolding may_send
-returns-2 c = or_second (sym c.before.before.before.is-role.ensures ∙ c.before.before.if1.false) (and_first _ (sym c.before.is-desk.ensures ∙ not_true _ c.if2.true))
+returns-2 c = or_second (sym c.before.before.before.is-role.ensures ∙ c.before.before.if1.false) (and_first _ (sym c.before.is-desk.ensures ∙ not-true _ c.if2.true))
 
 sent-by-desks-requires : tie.Need-sent-by-desks-requires
 sent-by-desks-requires c κs = c.before.before.before.before.before.requires.1

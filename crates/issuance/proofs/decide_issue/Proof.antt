@@ -1,4 +1,4 @@
-use borrow.Author.Tests.{not_true, not-false}
+use borrow.Author.Tests.{not-true, not-false}
 use mathlib.Core.Path.{◌≡◌, refl, sym, ◌∙◌}
 use mathlib.Core.Bool.{true}
 use native.Mathlib.Omega.{arith}
@@ -27,7 +27,7 @@ returns : tie.Need-returns
 returns c n ledger k₀ =
     let a = c.before.before.before.before.args in
     sym (issue_chain (file_in a.file.now) (state_of (view a.state.now) ledger) a.family a.party a.q a.r
-    ∙ chain_fails 13 _ _ (sym c.before.is-role.ensures ∙ not_true _ c.if1.true))
+    ∙ chain_fails 13 _ _ (sym c.before.is-role.ensures ∙ not-true _ c.if1.true))
 
 passes-1 : (c : tie.Else1) → let a = c.before.before.before.before.args in is_role (file_in a.file.now) a.family.desk a.party ≡ true
 passes-1 c =
@@ -43,7 +43,7 @@ returns-2 c n ledger k₀ =
     let a = c.before.before.before.before.before.before.args in
     sym (issue_chain (file_in a.file.now) (state_of (view a.state.now) ledger) a.family a.party a.q a.r
     ∙ chain_passes 13 _ _ (passes-1 c.before.before)
-    ∙ chain_fails 14 _ _ (sym c.before.knows.ensures ∙ not_true _ c.if2.true))
+    ∙ chain_fails 14 _ _ (sym c.before.knows.ensures ∙ not-true _ c.if2.true))
 
 passes-2 : (c : tie.Else2) → let a = c.before.before.before.before.before.before.args in (view a.state.now).knows a.party a.q ≡ true
 passes-2 c =

@@ -1,5 +1,5 @@
 use borrow.Author.Rules.{rules}
-use borrow.Author.Tests.{not_true, not-false, eq-eqb, ne_eqb}
+use borrow.Author.Tests.{not-true, not-false, eq-eqb, ne_eqb}
 use mathlib.Core.Path.{refl, sym, ap, ◌∙◌}
 use native.Mathlib.Omega.{arith}
 use Rattle.rules.specs.declared.Subject.{Subject}
@@ -29,7 +29,7 @@ returns : tie.Need-returns
 returns c n ledger k₀ =
     let o = c.before.before.before.before in
     sym (issue_iak_chain (file_in o.args.file.now) (state_of (view o.args.state.now) ledger) o.args.party o.args.other o.args.c o.args.r refl refl refl refl refl refl refl
-    ∙ chain_fails 13 _ _ (sym c.before.is-role.ensures ∙ not_true _ c.if1.true))
+    ∙ chain_fails 13 _ _ (sym c.before.is-role.ensures ∙ not-true _ c.if1.true))
 
 mark-of-requires : tie.Need-mark-of-requires
 mark-of-requires c κs =
@@ -79,7 +79,7 @@ returns-4 c n ledger k₀ =
     ∙ chain_passes 13 _ _ (sym c.before.before.before.before.before.before.before.is-role.ensures ∙ not-false _ c.before.before.before.before.before.before.if1.false)
     ∙ chain_passes 25 _ _ (eq-eqb _ _ (sym c.before.before.before.before.before.mark_of.ensures ∙ c.before.before.before.before.if2.false))
     ∙ chain_passes 25 _ _ (eq-eqb _ _ (sym c.before.before.before.desk-of.ensures ∙ c.before.before.if3.false))
-    ∙ chain_fails 26 _ _ (sym c.before.is-role2.ensures ∙ not_true _ c.if4.true))
+    ∙ chain_fails 26 _ _ (sym c.before.is-role2.ensures ∙ not-true _ c.if4.true))
 
 credential-of-requires : tie.Need-credential-of-requires
 credential-of-requires c κs =
@@ -105,7 +105,7 @@ returns-5 c n ledger k₀ =
     ∙ chain_passes 25 _ _ (eq-eqb _ _ (sym c.before.before.before.before.before.before.before.before.mark_of.ensures ∙ c.before.before.before.before.before.before.before.if2.false))
     ∙ chain_passes 25 _ _ (eq-eqb _ _ (sym c.before.before.before.before.before.before.desk-of.ensures ∙ c.before.before.before.before.before.if3.false))
     ∙ chain_passes 26 _ _ (sym c.before.before.before.before.is-role2.ensures ∙ not-false _ c.before.before.before.if4.false)
-    ∙ chain_fails 26 _ _ (sym c.before.knows.ensures ∙ not_true _ c.if5.true))
+    ∙ chain_fails 26 _ _ (sym c.before.knows.ensures ∙ not-true _ c.if5.true))
 
 request-of-requires : tie.Need-request-of-requires
 request-of-requires c κs =

@@ -1,5 +1,5 @@
 use borrow.Author.Rules.{rules}
-use borrow.Author.Tests.{not_true, not-false}
+use borrow.Author.Tests.{not-true, not-false}
 use mathlib.Core.Path.{sym, ap, ◌∙◌}
 use mathlib.Core.Bool.{not}
 use Rattle.theorems.proofs.Chain.{chain_none, chain_passes, chain_fails}
@@ -19,7 +19,7 @@ returns-2 : tie.Need-returns-2
 returns-2 c f n ledger e b o =
     let d = c.before.before.before in
     sym (chain_passes 28 _ _ (ap not (sym (d.is-listed.ensures n ledger e) ∙ c.before.before.if1.false))
-    ∙ chain_fails 31 _ _ (sym (c.before.ends_at.ensures f ledger b o) ∙ not_true _ c.if2.true))
+    ∙ chain_fails 31 _ _ (sym (c.before.ends_at.ensures f ledger b o) ∙ not-true _ c.if2.true))
 
 returns-3 : tie.Need-returns-3
 returns-3 c f n ledger e b o =

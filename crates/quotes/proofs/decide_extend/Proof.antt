@@ -1,7 +1,7 @@
 use mathlib.Core.Path.{◌≡◌, sym, ap, ◌∙◌}
 use mathlib.Core.Bool.{true}
 use native.Mathlib.Omega.{arith}
-use borrow.Author.Tests.{not_true, not-false, ne_eqb, eq-eqb}
+use borrow.Author.Tests.{not-true, not-false, ne_eqb, eq-eqb}
 use Rattle.rules.specs.Limits.{device}
 use Rattle.rules.specs.File.{is_role, hashed_term, left_of, right_of}
 use Rattle.state.specs.View.{view}
@@ -27,7 +27,7 @@ returns : tie.Need-returns
 returns c ledger =
     let a = c.before.before.before.before.before.args in
     sym (extend_chain (file_in a.file.now) (beside (registers_in a.registers.now) (state_of (view a.state.now) ledger)) a.party a.i a.r
-    ∙ chain_fails 13 _ _ (sym c.before.is-role.ensures ∙ not_true _ c.if1.true))
+    ∙ chain_fails 13 _ _ (sym c.before.is-role.ensures ∙ not-true _ c.if1.true))
 
 passes-1 : (c : tie.Else1) → let a = c.before.before.before.before.before.args in is_role (file_in a.file.now) device a.party ≡ true
 passes-1 c = sym c.before.is-role.ensures ∙ not-false _ c.if1.false
@@ -54,7 +54,7 @@ returns-2 c ledger =
     let a = c.before.before.before.before.before.before.before.before.before.args in
     sym (extend_chain (file_in a.file.now) (beside (registers_in a.registers.now) (state_of (view a.state.now) ledger)) a.party a.i a.r
     ∙ chain_passes 13 _ _ (passes-1 c.before.before.before.before)
-    ∙ chain_fails 14 _ _ (of_read ((view a.state.now).knows a.party) (c.before.before.right_of.ensures ∙ ap (right_of (file_in a.file.now)) c.before.before.before.hashed-term.ensures) c.before.knows.ensures (not_true _ c.if2.true)))
+    ∙ chain_fails 14 _ _ (of_read ((view a.state.now).knows a.party) (c.before.before.right_of.ensures ∙ ap (right_of (file_in a.file.now)) c.before.before.before.hashed-term.ensures) c.before.knows.ensures (not-true _ c.if2.true)))
 
 passes-2 : (c : tie.Else2) → let a = c.before.before.before.before.before.before.before.before.before.args in (view a.state.now).knows a.party (right_of (file_in a.file.now) (hashed_term (file_in a.file.now) a.r)) ≡ true
 passes-2 c =

@@ -2,7 +2,7 @@ use mathlib.Core.Path.{◌≡◌, sym, ap, ◌∙◌}
 use mathlib.Core.Bool.{true}
 use Prim.Native.Nat.{ℕ}
 use native.Mathlib.Omega.{arith}
-use borrow.Author.Tests.{not_true, not-false, ne_eqb, eq-eqb}
+use borrow.Author.Tests.{not-true, not-false, ne_eqb, eq-eqb}
 use Rattle.rules.specs.Limits.{device}
 use Rattle.rules.specs.Attributes.{restricted, sign}
 use Rattle.rules.specs.File.{is_role, message, signing_key, register_of, quoted_value, quote_number}
@@ -30,7 +30,7 @@ returns : tie.Need-returns
 returns c ledger =
     let a = c.before.before.before.before.before.args in
     sym (quote_chain (file_in a.file.now) (beside (registers_in a.registers.now) (state_of (view a.state.now) ledger)) a.party a.r
-    ∙ chain_fails 13 _ _ (sym c.before.is-role.ensures ∙ not_true _ c.if1.true))
+    ∙ chain_fails 13 _ _ (sym c.before.is-role.ensures ∙ not-true _ c.if1.true))
 
 passes-1 : (c : tie.Else1) → let a = c.before.before.before.before.before.args in is_role (file_in a.file.now) device a.party ≡ true
 passes-1 c = sym c.before.is-role.ensures ∙ not-false _ c.if1.false
@@ -56,7 +56,7 @@ returns-2 c ledger =
     let a = c.before.before.before.before.before.before.before.before.before.args in
     sym (quote_chain (file_in a.file.now) (beside (registers_in a.registers.now) (state_of (view a.state.now) ledger)) a.party a.r
     ∙ chain_passes 13 _ _ (passes-1 c.before.before.before.before)
-    ∙ chain_fails 14 _ _ (of_read ((view a.state.now).knows a.party) (c.before.before.quote-number-of.ensures ∙ ap (quote_number (file_in a.file.now)) c.before.before.before.message-of.ensures) c.before.knows.ensures (not_true _ c.if2.true)))
+    ∙ chain_fails 14 _ _ (of_read ((view a.state.now).knows a.party) (c.before.before.quote-number-of.ensures ∙ ap (quote_number (file_in a.file.now)) c.before.before.before.message-of.ensures) c.before.knows.ensures (not-true _ c.if2.true)))
 
 passes-2 : (c : tie.Else2) → let a = c.before.before.before.before.before.before.before.before.before.args in (view a.state.now).knows a.party (quote_number (file_in a.file.now) (message (file_in a.file.now) a.r)) ≡ true
 passes-2 c =
@@ -80,7 +80,7 @@ returns-3 c ledger =
     sym (quote_chain (file_in a.file.now) (beside (registers_in a.registers.now) (state_of (view a.state.now) ledger)) a.party a.r
     ∙ chain_passes 13 _ _ (passes-1 c.before.before.before.before.before.before.before)
     ∙ chain_passes 14 _ _ (passes-2 c.before.before.before)
-    ∙ chain_fails 15 _ _ (of_read ((view a.state.now).table a.party) c.before.before.signing-key-of.ensures c.before.in_table.ensures (not_true _ c.if3.true)))
+    ∙ chain_fails 15 _ _ (of_read ((view a.state.now).table a.party) c.before.before.signing-key-of.ensures c.before.in_table.ensures (not-true _ c.if3.true)))
 
 passes-3 : (c : tie.Else3) → let a = c.before.before.before.before.before.before.before.before.before.before.before.before.args in (view a.state.now).table a.party (signing_key (file_in a.file.now) a.r) ≡ true
 passes-3 c =
@@ -100,7 +100,7 @@ returns-4 c ledger =
     ∙ chain_passes 13 _ _ (passes-1 c.before.before.before.before.before.before.before.before.before)
     ∙ chain_passes 14 _ _ (passes-2 c.before.before.before.before.before)
     ∙ chain_passes 15 _ _ (passes-3 c.before.before)
-    ∙ chain_fails 16 _ _ (of_read (λ (k : ℕ). key_has (file_in a.file.now) k sign) c.before.before.before.before.signing-key-of.ensures c.before.key_Has.ensures (not_true _ c.if4.true)))
+    ∙ chain_fails 16 _ _ (of_read (λ (k : ℕ). key_has (file_in a.file.now) k sign) c.before.before.before.before.signing-key-of.ensures c.before.key_Has.ensures (not-true _ c.if4.true)))
 
 passes-4 : (c : tie.Else4) → let a = c.before.before.before.before.before.before.before.before.before.before.before.before.before.before.args in key_has (file_in a.file.now) (signing_key (file_in a.file.now) a.r) sign ≡ true
 passes-4 c =
@@ -121,7 +121,7 @@ returns-5 c ledger =
     ∙ chain_passes 14 _ _ (passes-2 c.before.before.before.before.before.before.before)
     ∙ chain_passes 15 _ _ (passes-3 c.before.before.before.before)
     ∙ chain_passes 16 _ _ (passes-4 c.before.before)
-    ∙ chain_fails 16 _ _ (of_read (λ (k : ℕ). key_has (file_in a.file.now) k restricted) c.before.before.before.before.before.before.signing-key-of.ensures c.before.key-has2.ensures (not_true _ c.if5.true)))
+    ∙ chain_fails 16 _ _ (of_read (λ (k : ℕ). key_has (file_in a.file.now) k restricted) c.before.before.before.before.before.before.signing-key-of.ensures c.before.key-has2.ensures (not-true _ c.if5.true)))
 
 passes-5 : (c : tie.Else5) → let a = c.before.before.before.before.before.before.before.before.before.before.before.before.before.before.before.before.args in key_has (file_in a.file.now) (signing_key (file_in a.file.now) a.r) restricted ≡ true
 passes-5 c =

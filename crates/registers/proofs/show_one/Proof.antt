@@ -2,7 +2,7 @@ use mathlib.Core.Path.{sym, ap, ◌∙◌}
 use Prim.Native.Nat.{ℕ}
 use native.Mathlib.Omega.{arith}
 use borrow.Author.Rules.{rules}
-use borrow.Author.Tests.{not_true, not-false}
+use borrow.Author.Tests.{not-true, not-false}
 use Rattle.loaded.specs.Loaded.{file_in}
 use Rattle.loaded.proofs.Standing.{party_here}
 use Rattle.registers.specs.View.{shown_at}
@@ -16,7 +16,7 @@ is-role-requires c κs = let p = c.before.before.requires in party_here p.0.1 p.
 returns : tie.Need-returns
 returns c shows e =
     let a = c.before.before.before.before.args in
-    e ∙ devices_skip (file_in a.file.now) shows a.i a.r a.p (sym c.before.is-role.ensures ∙ not_true _ c.if1.true)
+    e ∙ devices_skip (file_in a.file.now) shows a.i a.r a.p (sym c.before.is-role.ensures ∙ not-true _ c.if1.true)
 
 show-requires : tie.Need-show-requires
 show-requires c κs = let p = c.before.before.before.before.before.requires in (p.1, omega (arith, p.0.1.parties, p.2), p.3, p.4)

@@ -1,4 +1,4 @@
-use borrow.Author.Tests.{not_true, not-false}
+use borrow.Author.Tests.{not-true, not-false}
 use mathlib.Core.Path.{sym, ap, ◌∙◌}
 use native.Mathlib.Omega.{arith}
 use Rattle.rules.specs.File.{attested_key}
@@ -16,7 +16,7 @@ is-kind-requires c κs =
 
 returns : tie.Need-returns
 returns c =
-    (sym (no_signed _ _ (sym c.before.is-kind.ensures ∙ not_true _ c.if1.true)), λ z. absurd (omega (arith, z)))
+    (sym (no_signed _ _ (sym c.before.is-kind.ensures ∙ not-true _ c.if1.true)), λ z. absurd (omega (arith, z)))
 
 message-of-requires : tie.Need-message-of-requires
 message-of-requires c κs =
@@ -30,7 +30,7 @@ is-kind-requires-2 c κs =
 
 returns-2 : tie.Need-returns-2
 returns-2 c =
-    (sym (no_attest _ _ (sym c.before.before.before.before.is-kind.ensures ∙ not-false _ c.before.before.before.if1.false) c.before.before.message-of.ensures (sym c.before.is-kind2.ensures ∙ not_true _ c.if2.true)), λ z. absurd (omega (arith, z)))
+    (sym (no_attest _ _ (sym c.before.before.before.before.is-kind.ensures ∙ not-false _ c.before.before.before.if1.false) c.before.before.message-of.ensures (sym c.before.is-kind2.ensures ∙ not-true _ c.if2.true)), λ z. absurd (omega (arith, z)))
 
 attested-key-of-requires : tie.Need-attested-key-of-requires
 attested-key-of-requires c κs =

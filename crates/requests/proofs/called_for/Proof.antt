@@ -1,5 +1,5 @@
 use borrow.Author.Rules.{rules}
-use borrow.Author.Tests.{not_true, not-false, eq-eqb, ne_eqb}
+use borrow.Author.Tests.{not-true, not-false, eq-eqb, ne_eqb}
 use mathlib.Core.Path.{sym, ap, ◌∙◌}
 use Prim.Native.Nat.{◌<◌}
 use native.Mathlib.Omega.{arith}
@@ -29,7 +29,7 @@ same-subject-requires c κs = search rules
 returns-2 : tie.Need-returns-2
 returns-2 c =
     sym (chain_passes 27 _ _ (eq-eqb _ _ (sym c.before.before.before.before.certificate-of.ensures.0 ∙ c.before.before.if1.false))
-    ∙ chain_fails 27 _ _ (ap (λ (s : Subject). same_subject s c.before.before.before.before.before.before.args.wanted) (sym c.before.before.before.before.certificate-of.ensures.1) ∙ sym c.before.same-subject.ensures ∙ not_true _ c.if2.true))
+    ∙ chain_fails 27 _ _ (ap (λ (s : Subject). same_subject s c.before.before.before.before.before.before.args.wanted) (sym c.before.before.before.before.certificate-of.ensures.1) ∙ sym c.before.same-subject.ensures ∙ not-true _ c.if2.true))
 
 signer-of-requires : tie.Need-signer-of-requires
 signer-of-requires c κs = search rules

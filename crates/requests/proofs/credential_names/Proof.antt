@@ -1,4 +1,4 @@
-use borrow.Author.Tests.{not_true, not-false, eq-eqb, ne_eqb}
+use borrow.Author.Tests.{not-true, not-false, eq-eqb, ne_eqb}
 use mathlib.Core.Path.{sym, ◌∙◌}
 use Rattle.theorems.proofs.Chain.{chain_none, chain_passes, chain_fails}
 use Rattle.loaded.proofs.Noted.{term_noted_lem}
@@ -12,7 +12,7 @@ is-kind-requires c κs =
 
 returns : tie.Need-returns
 returns c =
-    sym (chain_fails 27 _ _ (sym c.before.is-kind.ensures ∙ not_true _ c.if1.true))
+    sym (chain_fails 27 _ _ (sym c.before.is-kind.ensures ∙ not-true _ c.if1.true))
 
 hashed-term-requires : tie.Need-hashed-term-requires
 hashed-term-requires c κs =

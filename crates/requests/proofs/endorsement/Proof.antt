@@ -1,5 +1,5 @@
 use borrow.Author.Rules.{rules}
-use borrow.Author.Tests.{not_true, not-false}
+use borrow.Author.Tests.{not-true, not-false}
 use mathlib.Core.Path.{sym, ap, ◌∙◌}
 use Rattle.rules.specs.Attributes.{same_attributes}
 use Rattle.rules.specs.File.{attributes}
@@ -13,7 +13,7 @@ is-tpm-requires : tie.Need-is-tpm-requires
 is-tpm-requires c κs = search rules
 
 returns : tie.Need-returns
-returns c = sym (chain_fails 21 _ _ (sym c.before.is-tpm.ensures ∙ not_true _ c.if1.true))
+returns c = sym (chain_fails 21 _ _ (sym c.before.is-tpm.ensures ∙ not-true _ c.if1.true))
 
 signs-for-role-requires : tie.Need-signs-for-role-requires
 signs-for-role-requires c κs =
@@ -23,7 +23,7 @@ returns-2 : tie.Need-returns-2
 returns-2 c =
     let o = c.before.before.before.before.before in
     sym (chain_passes 21 _ _ (sym c.before.before.before.is-tpm.ensures ∙ not-false _ c.before.before.if1.false)
-    ∙ chain_fails 21 _ _ (sym c.before.signs-for-role.ensures ∙ not_true _ c.if2.true))
+    ∙ chain_fails 21 _ _ (sym c.before.signs-for-role.ensures ∙ not-true _ c.if2.true))
 
 iak-requires : tie.Need-iak-requires
 iak-requires c κs = search rules
@@ -36,7 +36,7 @@ returns-3 c =
     let o = c.before.before.before.before.before.before.before.before in
     sym (chain_passes 21 _ _ (sym c.before.before.before.before.before.before.is-tpm.ensures ∙ not-false _ c.before.before.before.before.before.if1.false)
     ∙ chain_passes 21 _ _ (sym c.before.before.before.before.signs-for-role.ensures ∙ not-false _ c.before.before.before.if2.false)
-    ∙ chain_fails 23 _ _ (ap (same_attributes (attributes (file_in o.args.file.now) o.args.iak)) (sym c.before.before.iak.ensures) ∙ sym c.before.has-exactly.ensures ∙ not_true _ c.if3.true))
+    ∙ chain_fails 23 _ _ (ap (same_attributes (attributes (file_in o.args.file.now) o.args.iak)) (sym c.before.before.iak.ensures) ∙ sym c.before.has-exactly.ensures ∙ not-true _ c.if3.true))
 
 ek-requires : tie.Need-ek-requires
 ek-requires c κs = search rules
@@ -50,7 +50,7 @@ returns-4 c =
     sym (chain_passes 21 _ _ (sym c.before.before.before.before.before.before.before.before.before.is-tpm.ensures ∙ not-false _ c.before.before.before.before.before.before.before.before.if1.false)
     ∙ chain_passes 21 _ _ (sym c.before.before.before.before.before.before.before.signs-for-role.ensures ∙ not-false _ c.before.before.before.before.before.before.if2.false)
     ∙ chain_passes 23 _ _ (ap (same_attributes (attributes (file_in o.args.file.now) o.args.iak)) (sym c.before.before.before.before.before.iak.ensures) ∙ sym c.before.before.before.before.has-exactly.ensures ∙ not-false _ c.before.before.before.if3.false)
-    ∙ chain_fails 23 _ _ (ap (same_attributes (attributes (file_in o.args.file.now) o.args.certificate.key)) (sym c.before.before.ek.ensures) ∙ sym c.before.has-exactly2.ensures ∙ not_true _ c.if4.true))
+    ∙ chain_fails 23 _ _ (ap (same_attributes (attributes (file_in o.args.file.now) o.args.certificate.key)) (sym c.before.before.ek.ensures) ∙ sym c.before.has-exactly2.ensures ∙ not-true _ c.if4.true))
 
 returns-5 : tie.Need-returns-5
 returns-5 c =

@@ -1,4 +1,4 @@
-use borrow.Author.Tests.{not_true, not-false}
+use borrow.Author.Tests.{not-true, not-false}
 use mathlib.Core.Path.{◌≡◌, sym, subst⁻¹, ◌∙◌}
 use Prim.Native.Nat.{ℕ, ◌<◌}
 use native.Mathlib.Omega.{arith}
@@ -18,7 +18,7 @@ is-kind-requires c κs =
 
 returns : tie.Need-returns
 returns c =
-    (sym (no_pair_lem _ _ _ (sym c.before.is-kind.ensures ∙ not_true _ c.if1.true)), λ z. absurd (omega (arith, z)))
+    (sym (no_pair_lem _ _ _ (sym c.before.is-kind.ensures ∙ not-true _ c.if1.true)), λ z. absurd (omega (arith, z)))
 
 left-of-requires : tie.Need-left-of-requires
 left-of-requires c κs =
@@ -32,7 +32,7 @@ is-kind-requires-2 c κs =
 
 returns-2 : tie.Need-returns-2
 returns-2 c =
-    (sym (no_body _ _ _ (sym c.before.before.before.before.is-kind.ensures ∙ not-false _ c.before.before.before.if1.false) c.before.before.left-of.ensures (sym c.before.is-kind2.ensures ∙ not_true _ c.if2.true)), λ z. absurd (omega (arith, z)))
+    (sym (no_body _ _ _ (sym c.before.before.before.before.is-kind.ensures ∙ not-false _ c.before.before.before.if1.false) c.before.before.left-of.ensures (sym c.before.is-kind2.ensures ∙ not-true _ c.if2.true)), λ z. absurd (omega (arith, z)))
 
 right-of-requires : tie.Need-right-of-requires
 right-of-requires c κs =
@@ -46,7 +46,7 @@ is-kind-requires-3 c κs =
 
 returns-3 : tie.Need-returns-3
 returns-3 c =
-    (sym (no_signature _ _ _ (sym c.before.before.before.before.before.before.before.is-kind.ensures ∙ not-false _ c.before.before.before.before.before.before.if1.false) c.before.before.before.before.before.left-of.ensures (sym c.before.before.before.before.is-kind2.ensures ∙ not-false _ c.before.before.before.if2.false) c.before.before.right_of.ensures (sym c.before.is-kind3.ensures ∙ not_true _ c.if3.true)), λ z. absurd (omega (arith, z)))
+    (sym (no_signature _ _ _ (sym c.before.before.before.before.before.before.before.is-kind.ensures ∙ not-false _ c.before.before.before.before.before.before.if1.false) c.before.before.before.before.before.left-of.ensures (sym c.before.before.before.before.is-kind2.ensures ∙ not-false _ c.before.before.before.if2.false) c.before.before.right_of.ensures (sym c.before.is-kind3.ensures ∙ not-true _ c.if3.true)), λ z. absurd (omega (arith, z)))
 
 message-of-requires : tie.Need-message-of-requires
 message-of-requires c κs =
@@ -60,7 +60,7 @@ is-kind-requires-4 c κs =
 
 returns-4 : tie.Need-returns-4
 returns-4 c =
-    (sym (no_hash _ _ _ (sym c.before.before.before.before.before.before.before.before.before.before.is-kind.ensures ∙ not-false _ c.before.before.before.before.before.before.before.before.before.if1.false) c.before.before.before.before.before.before.before.before.left-of.ensures (sym c.before.before.before.before.before.before.before.is-kind2.ensures ∙ not-false _ c.before.before.before.before.before.before.if2.false) c.before.before.before.before.before.right_of.ensures (sym c.before.before.before.before.is-kind3.ensures ∙ not-false _ c.before.before.before.if3.false) c.before.before.message-of.ensures (sym c.before.is-kind4.ensures ∙ not_true _ c.if4.true)), λ z. absurd (omega (arith, z)))
+    (sym (no_hash _ _ _ (sym c.before.before.before.before.before.before.before.before.before.before.is-kind.ensures ∙ not-false _ c.before.before.before.before.before.before.before.before.before.if1.false) c.before.before.before.before.before.before.before.before.left-of.ensures (sym c.before.before.before.before.before.before.before.is-kind2.ensures ∙ not-false _ c.before.before.before.before.before.before.if2.false) c.before.before.before.before.before.right_of.ensures (sym c.before.before.before.before.is-kind3.ensures ∙ not-false _ c.before.before.before.if3.false) c.before.before.message-of.ensures (sym c.before.is-kind4.ensures ∙ not-true _ c.if4.true)), λ z. absurd (omega (arith, z)))
 
 hashed-term-requires : tie.Need-hashed-term-requires
 hashed-term-requires c κs =

@@ -1,11 +1,11 @@
 use borrow.Author.Rules.{rules}
-use borrow.Author.Tests.{not_true, not-false}
+use borrow.Author.Tests.{not-true, not-false}
 use Rattle.loaded.proofs.Tested.{and_first, and_second}
 use Rattle.requests.proofs.has_if.Statement.{statement}
 use Rattle.requests.proofs.has_if.Tie as tie
 
 returns : tie.Need-returns
-returns c = and_first {a = c.before.before.args.asked} _ (not_true _ c.if1.true)
+returns c = and_first {a = c.before.before.args.asked} _ (not-true _ c.if1.true)
 
 is-role-requires : tie.Need-is-role-requires
 is-role-requires c κs = search rules

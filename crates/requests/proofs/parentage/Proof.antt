@@ -1,4 +1,4 @@
-use borrow.Author.Tests.{not_true, not-false}
+use borrow.Author.Tests.{not-true, not-false}
 use mathlib.Core.Path.{◌≡◌, refl, sym, ◌∙◌}
 use mathlib.Core.Bool.{true}
 use mathlib.Core.List.{List, ◌∷◌}
@@ -23,7 +23,7 @@ is-half-requires c κs =
 returns : tie.Need-returns
 returns c =
     let p = c.before.before.before.requires in
-    sym (chain_fails 20 _ _ (pair_read p.0.1 p.3 p.1 refl c.before.is-half.ensures (not_true _ c.if1.true)))
+    sym (chain_fails 20 _ _ (pair_read p.0.1 p.3 p.1 refl c.before.is-half.ensures (not-true _ c.if1.true)))
 
 passes-1 : (c : tie.Else1) → let a = c.before.before.before.args in paired (file_in a.file.now) a.certificate.key a.half ≡ true
 passes-1 c =
@@ -37,7 +37,7 @@ signs-for-some-requires c κs =
 returns-2 : tie.Need-returns-2
 returns-2 c =
     sym (chain_passes 20 _ _ (passes-1 c.before.before)
-    ∙ chain_fails 21 _ _ (sym c.before.signs-for-some.ensures ∙ not_true _ c.if2.true))
+    ∙ chain_fails 21 _ _ (sym c.before.signs-for-some.ensures ∙ not-true _ c.if2.true))
 
 passes-2 : (c : tie.Else2) → let a = c.before.before.before.before.before.args in signs_for_some (file_in a.file.now) a.family.signers a.certificate.signer ≡ true
 passes-2 c = sym c.before.signs-for-some.ensures ∙ not-false _ c.if2.false
@@ -49,7 +49,7 @@ returns-3 : tie.Need-returns-3
 returns-3 c =
     sym (chain_passes 20 _ _ (passes-1 c.before.before.before.before)
     ∙ chain_passes 21 _ _ (passes-2 c.before.before)
-    ∙ chain_fails 23 _ _ (sym c.before.has-exactly.ensures ∙ not_true _ c.if3.true))
+    ∙ chain_fails 23 _ _ (sym c.before.has-exactly.ensures ∙ not-true _ c.if3.true))
 
 passes-3 : (c : tie.Else3) → let a = c.before.before.before.before.before.before.before.args in same_attributes (attributes (file_in a.file.now) a.new) a.family.key ≡ true
 passes-3 c = sym c.before.has-exactly.ensures ∙ not-false _ c.if3.false
@@ -65,7 +65,7 @@ first_three c xs = chain_passes 20 _ _ (passes-1 c.before.before.before.before) 
 returns-4 : tie.Need-returns-4
 returns-4 c =
     sym (first_three c.before.before _
-    ∙ chain_fails 23 _ _ (sym c.before.has-exactly2.ensures ∙ not_true _ c.if4.true))
+    ∙ chain_fails 23 _ _ (sym c.before.has-exactly2.ensures ∙ not-true _ c.if4.true))
 
 returns-5 : tie.Need-returns-5
 returns-5 c =

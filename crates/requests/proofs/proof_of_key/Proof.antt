@@ -1,4 +1,4 @@
-use borrow.Author.Tests.{not_true, not-false}
+use borrow.Author.Tests.{not-true, not-false}
 use mathlib.Core.Path.{refl, sym}
 use Rattle.loaded.proofs.Halves.{pair_read}
 use Rattle.requests.proofs.Forms.{other_content, other_key_lem, key_proved}
@@ -12,7 +12,7 @@ is-half-requires : tie.Need-is-half-requires
 is-half-requires c κs = c.before.before.requires
 
 returns-2 : tie.Need-returns-2
-returns-2 c bs q d k w = sym (other_key_lem _ _ _ w c.before.before.if1.false (pair_read d k w.known refl c.before.is-half.ensures (not_true _ c.if2.true)))
+returns-2 c bs q d k w = sym (other_key_lem _ _ _ w c.before.before.if1.false (pair_read d k w.known refl c.before.is-half.ensures (not-true _ c.if2.true)))
 
 returns-3 : tie.Need-returns-3
 returns-3 c bs q d k w = sym (key_proved _ _ _ w c.before.before.if1.false (pair_read d k w.known refl c.before.is-half.ensures (not-false _ c.if2.false)))

@@ -1,6 +1,6 @@
 -- `stock::boards_left` meets its contract: 39 by its three reasons, or the stock divided. Assumes nothing.
 use borrow.Author.Rules.{rules}
-use borrow.Author.Tests.{not_true, not-false}
+use borrow.Author.Tests.{not-true, not-false}
 use mathlib.Core.Path.{sym, ◌∙◌}
 use mathlib.Core.Logic.{inl, inr}
 use native.Mathlib.Omega.{arith}
@@ -17,7 +17,7 @@ is-role-requires : tie.Need-is-role-requires
 is-role-requires c κs = let p = c.before.before.before.requires in party_here p.0 (omega (arith, p.1))
 
 returns-2 : tie.Need-returns-2
-returns-2 c ledger = told_39 _ _ _ _ ((refused_39 _ _ _ _).1 (inl (sym c.before.is-role.ensures ∙ not_true _ c.if2.true)))
+returns-2 c ledger = told_39 _ _ _ _ ((refused_39 _ _ _ _).1 (inl (sym c.before.is-role.ensures ∙ not-true _ c.if2.true)))
 
 returns-3 : tie.Need-returns-3
 returns-3 c ledger = told_39 _ _ _ _ ((refused_39 _ _ _ _).1 (inr c.if3.true))

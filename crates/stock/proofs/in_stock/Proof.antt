@@ -1,6 +1,6 @@
 -- `stock::in_stock` meets its contract: the four tests one after the other. Assumes nothing.
 use borrow.Author.Rules.{rules}
-use borrow.Author.Tests.{not_true, not-false, eq-eqb, ne_eqb}
+use borrow.Author.Tests.{not-true, not-false, eq-eqb, ne_eqb}
 use mathlib.Core.Path.{sym, ap, ◌∙◌}
 use mathlib.Core.Bool.{not}
 use Prim.Native.Nat.{ℕ}
@@ -23,7 +23,7 @@ knows-requires c κs = (c.before.before.before.before.requires.1, c.before.befor
 returns-2 : tie.Need-returns-2
 returns-2 c ledger =
     knows_fails _ _ _ _ (is_number _ _ c.before.before.before.kind-there.ensures (kind_here c.before.before.before.before.before.before.requires.0) c.before.before.if1.false)
-    (sym c.before.knows.ensures ∙ not_true _ c.if2.true)
+    (sym c.before.knows.ensures ∙ not-true _ c.if2.true)
 
 knowers-of-requires : tie.Need-knowers-of-requires
 knowers-of-requires c κs = c.before.before.before.before.before.before.requires.0.row

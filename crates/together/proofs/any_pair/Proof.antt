@@ -1,5 +1,5 @@
 use borrow.Author.Rules.{rules}
-use borrow.Author.Tests.{not_true, not-false}
+use borrow.Author.Tests.{not-true, not-false}
 use mathlib.Core.Path.{◌≡◌, refl, sym, ap, ◌∙◌}
 use mathlib.Core.Bool.{not}
 use Prim.Native.Nat.{ℕ, ◌+◌, ◌*◌, ◌≤◌}
@@ -27,7 +27,7 @@ empty-pair-requires c κs = omega (arith, c.before.loop.invariant.0, c.loop-test
 returns : tie.Need-returns invariant-loop decreases-loop
 returns c =
     let n = c.before.before.loop-test.true in
-    sym (ap (λ (m : ℕ). not (eqb m 0)) c.before.before.before.loop.invariant.1 ∙ some_pair _ _ _ (omega arith) (sym c.before.empty-pair.ensures ∙ not_true _ c.if1.true))
+    sym (ap (λ (m : ℕ). not (eqb m 0)) c.before.before.before.loop.invariant.1 ∙ some_pair _ _ _ (omega arith) (sym c.before.empty-pair.ensures ∙ not-true _ c.if1.true))
 
 add-place : tie.Need-overflow-add-place invariant-loop decreases-loop
 add-place c = search rules

@@ -1,5 +1,5 @@
 use borrow.Author.Rules.{rules}
-use borrow.Author.Tests.{not_true, not-false}
+use borrow.Author.Tests.{not-true, not-false}
 use mathlib.Core.Path.{◌≡◌, sym, subst, ◌∙◌}
 use mathlib.Core.List.{List}
 use Prim.Native.Nat.{ℕ, ◌+◌, ◌-◌, ◌≤◌}
@@ -42,7 +42,7 @@ is-role-requires : tie.Need-is-role-requires invariant-loop decreases-loop
 is-role-requires c κs = let w = c.before.before.before.requires.here in party_here w.holds w.wellformed.0
 
 returns : tie.Need-returns invariant-loop decreases-loop
-returns c entries ledger k = sym (refused_13 _ _ _ _ _ (sym c.before.is-role.ensures ∙ not_true _ c.if1.true))
+returns c entries ledger k = sym (refused_13 _ _ _ _ _ (sym c.before.is-role.ensures ∙ not-true _ c.if1.true))
 
 add-pairs-fault : tie.Need-overflow-add-pairs-fault invariant-loop decreases-loop
 add-pairs-fault c = search rules

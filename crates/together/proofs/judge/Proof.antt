@@ -1,5 +1,5 @@
 use borrow.Author.Rules.{rules}
-use borrow.Author.Tests.{not_true, not-false}
+use borrow.Author.Tests.{not-true, not-false}
 use mathlib.Core.Path.{sym, ap, ◌∙◌}
 use Prim.Native.Nat.{◌+◌}
 use native.Mathlib.Omega.{arith}
@@ -90,7 +90,7 @@ returns-3 c =
     let f = file_in o.args.file.now in
     let n = term_named _ (checked_here p.decided.here.holds) _ _ o.requires.1 (λ z. omega arith) in
     let apart = sym (credential_among o.args.file.now _ n o.args.n (o.args.at + 3)) ∙ sym c.before.before.before.before.before.before.before.before.before.stands-in.ensures ∙ c.before.before.before.before.before.before.before.before.if1.false in
-    let ends = ap (λ (x : Subject). others_end f (view o.args.state.now).request x c.before.before.before.ek-asked.result (pairs_at o.args.n o.args.file.now (o.args.at + 3))) (sym c.before.before.certificate-of.ensures.1) ∙ sym c.before.others-end.ensures ∙ not_true _ c.if3.true in (
+    let ends = ap (λ (x : Subject). others_end f (view o.args.state.now).request x c.before.before.before.ek-asked.result (pairs_at o.args.n o.args.file.now (o.args.at + 3))) (sym c.before.before.certificate-of.ensures.1) ∙ sym c.before.others-end.ensures ∙ not-true _ c.if3.true in (
       (λ entries ledger k. sym (judged_late f (state_of (view o.args.state.now) ledger) _ _ _ _ apart (sym (c.before.before.before.before.before.decide-issue-iak.ensures entries ledger k) ∙ c.before.before.before.before.if2.false) (rw (← c.before.before.before.ek-asked.ensures) ends) ∙ refuse_false 31)),
       (λ z. absurd (omega arith)),
     )

@@ -1,5 +1,5 @@
 use borrow.Author.Rules.{rules}
-use borrow.Author.Tests.{not_true, not-false}
+use borrow.Author.Tests.{not-true, not-false}
 use mathlib.Core.Path.{◌≡◌, refl, sym, ◌∙◌}
 use Prim.Native.Nat.{◌+◌, ◌*◌, ◌≤◌}
 use native.Mathlib.Omega.{arith}
@@ -37,7 +37,7 @@ pair-ends-requires c κs =
 returns : tie.Need-returns invariant-loop decreases-loop
 returns c =
     let n = c.before.before.loop-test.true in
-    sym (c.before.before.before.loop.invariant.3 ∙ ends_stop _ _ _ _ _ _ _ (omega arith) (sym c.before.pair_ends.ensures ∙ not_true _ c.if1.true))
+    sym (c.before.before.before.loop.invariant.3 ∙ ends_stop _ _ _ _ _ _ _ (omega arith) (sym c.before.pair_ends.ensures ∙ not-true _ c.if1.true))
 
 add-place : tie.Need-overflow-add-place invariant-loop decreases-loop
 add-place c = search rules

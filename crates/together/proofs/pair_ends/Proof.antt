@@ -1,5 +1,5 @@
 use borrow.Author.Rules.{rules}
-use borrow.Author.Tests.{not_true, not-false}
+use borrow.Author.Tests.{not-true, not-false}
 use mathlib.Core.Path.{sym, ap, ◌∙◌}
 use Prim.Native.Nat.{ℕ}
 use native.Mathlib.Omega.{arith}
@@ -52,7 +52,7 @@ returns-2 c =
     let f = file_in o.args.file.now in
     let e = sym c.before.before.before.before.before.before.empty-pair.ensures ∙ c.before.before.before.before.before.if1.false in
     let s = c.before.before.certificate-of.ensures.1 ∙ ap (subject f) c.before.before.before.word-at2.ensures in
-    let d = ap (λ (x : Subject). same_subject x o.args.wanted) (sym s) ∙ sym c.before.same-subject.ensures ∙ not_true _ c.if2.true in
+    let d = ap (λ (x : Subject). same_subject x o.args.wanted) (sym s) ∙ sym c.before.same-subject.ensures ∙ not-true _ c.if2.true in
     sym (ends_other f (view o.args.state.now).request _ _ o.args.wanted o.args.ek e d)
 
 ek-asked-requires : tie.Need-ek-asked-requires

@@ -1,5 +1,5 @@
 use borrow.Author.Rules.{rules}
-use borrow.Author.Tests.{not_true, not-false}
+use borrow.Author.Tests.{not-true, not-false}
 use mathlib.Core.Path.{◌≡◌, sym, ap, ◌∙◌}
 use mathlib.Core.Bool.{false}
 use Prim.Native.Nat.{ℕ, ◌-◌, ◌≤◌}
@@ -21,7 +21,7 @@ any-pair-requires : tie.Need-any-pair-requires invariant-loop decreases-loop
 any-pair-requires c κs = c.before.requires.0
 
 returns : tie.Need-returns invariant-loop decreases-loop
-returns c = sym (fault_none _ (sym c.before.any-pair.ensures ∙ not_true _ c.if1.true))
+returns c = sym (fault_none _ (sym c.before.any-pair.ensures ∙ not-true _ c.if1.true))
 
 loop-holds : tie.Need-loop-init invariant-loop decreases-loop
 loop-holds c = (omega arith, twice_none _ _)
