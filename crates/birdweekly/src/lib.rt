@@ -12,7 +12,7 @@ use rules::{AskAnswer, Entry, LoadAnswer, PathAnswer, Question};
 
 // What loading answers: number 0 with the parties, terms and commands, or the refusal with its place.
 #[repr(C)]
-#[derive(Drop)]
+#[derive(Clone, Copy)]
 pub struct LoadNumbers {
     pub number: u32,
     pub place: u32,
@@ -48,7 +48,7 @@ pub extern "C" fn birdweekly_load(file: &[u8], state: &mut [u8]) -> LoadNumbers
 
 // What Run answers: number 0 with the commands accepted and refused and the certificates issued, or the refusal with its place.
 #[repr(C)]
-#[derive(Drop)]
+#[derive(Clone, Copy)]
 pub struct RunNumbers {
     pub number: u32,
     pub place: u32,
@@ -59,7 +59,7 @@ pub struct RunNumbers {
 
 // What Path answers: number 0 with the steps, or the refusal with its place.
 #[repr(C)]
-#[derive(Drop)]
+#[derive(Clone, Copy)]
 pub struct PathNumbers {
     pub number: u32,
     pub place: u32,
@@ -68,7 +68,7 @@ pub struct PathNumbers {
 
 // What the stock of numbers answers: number 0 with whole boards and the numbers left over, or the refusal with its place.
 #[repr(C)]
-#[derive(Drop)]
+#[derive(Clone, Copy)]
 pub struct StockNumbers {
     pub number: u32,
     pub place: u32,
@@ -77,7 +77,7 @@ pub struct StockNumbers {
 }
 
 // An answer as numbers: its values in order, 0 where it has fewer.
-#[derive(Drop)]
+#[derive(Clone, Copy)]
 struct Numbers {
     number: u32,
     place: u32,

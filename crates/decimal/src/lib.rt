@@ -61,7 +61,7 @@ fn digit_count(x: u64) -> usize
 }
 
 // How often a power was taken away, and what is left.
-#[derive(Drop)]
+#[derive(Clone, Copy)]
 struct Taken {
     times: u8,
     left: u64,

@@ -9,7 +9,7 @@ use rules::Entry;
 use turns::{Begun, Progress};
 
 // What a run found before its first command, and how far it went.
-#[derive(Drop)]
+#[derive(Clone, Copy)]
 pub struct Finished {
     pub begun: Begun,
     pub progress: Progress,

@@ -8,7 +8,7 @@ ghost use Rattle.gained.specs.Took.{took, Whole, Adds};
 
 use rules::Entry;
 
-#[derive(Drop)]
+#[derive(Clone, Copy)]
 pub struct Gained {
     pub count: usize,
     pub entries: [Entry; rules::PAIR_COUNT],

@@ -20,7 +20,7 @@ pub const PRIME: u64 = 1021;
 pub const LINKS: usize = BUCKETS + 2 * rules::TERM_LIMIT;
 
 // What the way of a key found: one more than a term of the kind, or 0; the same of another kind; the free entry at the end.
-#[derive(Drop)]
+#[derive(Clone, Copy)]
 pub struct Searched {
     pub same: usize,
     pub other: usize,

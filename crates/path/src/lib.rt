@@ -10,7 +10,7 @@ use engine::Finished;
 use rules::{Entry, PathAnswer};
 
 // How far a path is: how many places of the list are left to write, the next of them, the certificate that goes there, and the place of its entry.
-#[derive(Drop)]
+#[derive(Clone, Copy)]
 pub struct Stage {
     pub left: usize,
     pub at: usize,

@@ -254,7 +254,7 @@ pub fn body_length(kind: u8) -> usize
 }
 
 // The first four fields of a term, 0 where it has fewer.
-#[derive(Drop)]
+#[derive(Clone, Copy)]
 pub struct Words {
     pub first: u16,
     pub second: u16,
@@ -346,7 +346,7 @@ pub fn words_in(kind: u8, body: &[u8]) -> Words
 }
 
 // The parts of a term.
-#[derive(Drop)]
+#[derive(Clone, Copy)]
 pub enum Parts {
     Nothing,
     One(u16),

@@ -18,33 +18,33 @@ ghost use Rattle.requests.specs.Tests.{endorsement_tests, credential_tests, call
 use rules::{Attributes, Family, Signers, Subject, Term};
 
 // Terms read back, each as what its fields name; those with a Subject by their constructors.
-#[derive(Drop)]
+#[derive(Clone, Copy)]
 pub struct Pair {
     pub left: usize,
     pub right: usize,
 }
 
-#[derive(Drop)]
+#[derive(Clone, Copy)]
 pub struct Credential {
     pub content: usize,
     pub number: usize,
     pub key: usize,
 }
 
-#[derive(Drop)]
+#[derive(Clone, Copy)]
 pub struct IdevidRequest {
     pub subject: Subject,
     pub certificate: usize,
     pub key: usize,
 }
 
-#[derive(Drop)]
+#[derive(Clone, Copy)]
 pub struct LdevidRequest {
     pub message: usize,
     pub certificate: usize,
 }
 
-#[derive(Drop)]
+#[derive(Clone, Copy)]
 pub struct Certificate {
     pub key: usize,
     pub subject: Subject,
@@ -130,7 +130,7 @@ pub fn certificate_of(file: &[u8], tables: &[u16; tables::WORDS], t: usize) -> C
 }
 
 // A request: a pair of its body and a signature over a hash, or a refusal.
-#[derive(Drop)]
+#[derive(Clone, Copy)]
 pub struct Request {
     pub refusal: u8,
     pub body: usize,
@@ -343,7 +343,7 @@ pub fn called_for(
 }
 
 // The message of an LDevID request: a signature over an attest, or a refusal.
-#[derive(Drop)]
+#[derive(Clone, Copy)]
 pub struct Attested {
     pub refusal: u8,
     pub key: usize,

@@ -61,7 +61,7 @@ pub const OWNER_DESK: u8 = 3;
 pub const ROLE_COUNT: usize = 4;
 
 // What a key may do: a sum of the four constants.
-#[derive(Drop)]
+#[derive(Clone, Copy)]
 pub struct Attributes {
     pub bits: u8,
 }
@@ -121,7 +121,7 @@ impl Attributes {
 }
 
 // Who may have signed a certificate: a TPM maker, an OEM desk, an owner desk.
-#[derive(Drop)]
+#[derive(Clone, Copy)]
 pub struct Signers {
     pub maker: bool,
     pub oem: bool,
@@ -130,7 +130,7 @@ pub struct Signers {
 
 // A family of certificates that desks issue: the attributes of its keys, the role of the desk that signs it, the attributes of its
 // parent's key, and who may have signed the parent.
-#[derive(Drop)]
+#[derive(Clone, Copy)]
 pub struct Family {
     pub key: Attributes,
     pub desk: u8,
@@ -165,13 +165,13 @@ pub fn family_of(kind: u8) -> Family
     }
 }
 
-#[derive(Drop)]
+#[derive(Clone, Copy)]
 pub enum Subject {
     Tpm(u16),
     Device(u16),
 }
 
-#[derive(Drop)]
+#[derive(Clone, Copy)]
 pub enum Term {
     PublicKey(u16, Attributes),
     PrivateKey(u16, Attributes),
@@ -224,7 +224,7 @@ pub fn same_subject(a: Subject, b: Subject) -> bool
 }
 
 // What a field of a body may be: a field given a kind takes that kind alone, a bare term any.
-#[derive(Drop)]
+#[derive(Clone, Copy)]
 pub enum Field {
     RoleField,
     IdentifierField,
@@ -245,7 +245,7 @@ pub enum Field {
 
 // A line of the ledger: an issued certificate, its parent and how many steps lead to an endorsement certificate.
 #[repr(C)]
-#[derive(Drop)]
+#[derive(Clone, Copy)]
 pub struct Entry {
     pub certificate: u16,
     pub parent: u16,
@@ -253,21 +253,21 @@ pub struct Entry {
 }
 
 // What Run answers: the commands accepted and refused and the certificates issued, or a refusal with its place.
-#[derive(Drop)]
+#[derive(Clone, Copy)]
 pub enum RunAnswer {
     Ran(u32, u32, u32),
     Refused(u32, u32),
 }
 
 // What Path answers: the steps of the path, or a refusal with its place.
-#[derive(Drop)]
+#[derive(Clone, Copy)]
 pub enum PathAnswer {
     Steps(u32),
     Refused(u32, u32),
 }
 
 // What loading answers: the parties, terms and commands of the file, or a refusal with its place.
-#[derive(Drop)]
+#[derive(Clone, Copy)]
 pub enum LoadAnswer {
     Loaded(u32, u32, u32),
     Refused(u32, u32),
@@ -275,7 +275,7 @@ pub enum LoadAnswer {
 
 // What is asked of a file and lent buffers: the totals of its first n commands (Run); the boards left in a party's stock of numbers, by the
 // IAKs per board.
-#[derive(Drop)]
+#[derive(Clone, Copy)]
 pub enum Question {
     Totals(usize),
     Stock(u8, u32),
@@ -283,7 +283,7 @@ pub enum Question {
 
 // What is answered: the commands accepted and refused and the certificates issued; whole boards and the numbers left over; or a refusal with its
 // place.
-#[derive(Drop)]
+#[derive(Clone, Copy)]
 pub enum AskAnswer {
     Totals(u32, u32, u32),
     Boards(u32, u32),

@@ -12,7 +12,7 @@ ghost use Rattle.lookup.specs.Commands.{commands_from};
 ghost use Rattle.scan.specs.Describes.{counted, EnterReady, last_fault, columns_after, signers_after, ScanReady, ScanResult, CommandsReady, CommandsResult};
 
 // The section and the counts so far.
-#[derive(Drop)]
+#[derive(Clone, Copy)]
 pub struct Tally {
     pub section: u8,
     pub parties: usize,
@@ -21,7 +21,7 @@ pub struct Tally {
 }
 
 // What the scan of a file found: the refusal and its place, or 0; the place of the first command's record, or the file's end; and the counts.
-#[derive(Drop)]
+#[derive(Clone, Copy)]
 pub struct Scanned {
     pub number: u8,
     pub place: usize,

@@ -10,7 +10,7 @@ use gained::Gained;
 
 // How far a run is: how many commands are left at most, the place of the next, how many are done, accepted and refused,
 // and the entries.
-#[derive(Drop)]
+#[derive(Clone, Copy)]
 pub struct Progress {
     pub left: usize,
     pub at: usize,
@@ -21,7 +21,7 @@ pub struct Progress {
 }
 
 // What a turn answers: the entries that the ledger gains, and how far the run is then.
-#[derive(Drop)]
+#[derive(Clone, Copy)]
 pub struct Turned {
     pub gained: Gained,
     pub progress: Progress,
@@ -29,7 +29,7 @@ pub struct Turned {
 
 // What is found before the first command: a refusal's number and place, or 0; how many places of the ledger are to be
 // cleared, 0 or 1,024; how many parties and terms the file declares, and the place of the first command.
-#[derive(Drop)]
+#[derive(Clone, Copy)]
 pub struct Begun {
     pub number: u32,
     pub place: usize,

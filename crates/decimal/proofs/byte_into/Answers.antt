@@ -1,0 +1,7 @@
+use mathlib.Core.Path.{refl}
+use native.Mathlib.Omega.{arith}
+use borrow.Author.Rules.{rules}
+use Rattle.decimal.proofs.byte_into.Goals as goal
+
+pub returns : goal.returns
+returns c = record { bytes = refl; place = omega arith }

@@ -1,0 +1,11 @@
+use Prim.Native.Nat.{◌<◌}
+use native.Mathlib.Omega.{arith}
+use borrow.Author.Rules.{rules}
+use Rattle.decimal.proofs.Spelling.{decimal_short, Spelling, spelling_start, spelling_below, spelling_digit, spelling_room, spelling_next, spelling_last}
+use Rattle.decimal.proofs.decimal_into.Given as goal
+
+abbrev pub invariant-loop-n : goal.invariant-loop-n
+invariant-loop-n l = (0 < l.n) × Spelling l.initial.out l.at l.x l.out l.left l.n l.next
+
+abbrev pub decreases-loop-n : goal.decreases-loop-n
+decreases-loop-n l = l.n
