@@ -1,0 +1,15 @@
+use borrow.Author.Rules.{rules}
+use mathlib.Core.Path.{◌≡◌, refl, sym, ◌∙◌}
+use Prim.Native.Nat.{◌-◌, ◌≤◌}
+use native.Mathlib.Omega.{arith}
+use Rattle.rules.specs.Limits.{term_limit}
+use Rattle.tables.specs.Regions.{tables_in}
+use Rattle.boards.specs.Linked.{walk, entry_of}
+use Rattle.boards.proofs.Walk.{walk_none, walk_here, walk_next}
+use Rattle.boards.proofs.entry_of.Given as goal
+
+abbrev pub invariant-loop-e : goal.invariant-loop-e
+invariant-loop-e l = (l.e ≤ term_limit) × (entry_of (tables_in l.tables).boards l.serial ≡ walk (tables_in l.tables).boards.serial (tables_in l.tables).boards.earlier l.serial l.e l.e)
+
+abbrev pub decreases-loop-e : goal.decreases-loop-e
+decreases-loop-e l = l.e

@@ -1,0 +1,6 @@
+use borrow.Author.Rules.{rules}
+use Rattle.state.proofs.Bits.{shifted}
+use Rattle.state.proofs.power.Goals as goal
+
+pub returns : goal.returns
+returns c = shifted c.args.p c.requires
