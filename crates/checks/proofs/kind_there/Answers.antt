@@ -1,0 +1,5 @@
+use borrow.Author.Rules.{rules}
+use Rattle.checks.proofs.kind_there.Goals as goal
+
+pub returns : goal.returns
+returns c = rw (← c.place_of-at.ensures)
