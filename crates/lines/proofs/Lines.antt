@@ -1,7 +1,7 @@
 -- The listing by what a run leaves.
---     head-fault, head-lines, last_none, last_line     the parts, by the run's number
---     head-ready, last-ready, entries_fit, entries-room     what a run leaves can be listed
---     listed-whole     what a run of all commands leaves is listed as the rules say
+--     head_fault_lem, head_lines_lem, last_none, last_line_lem, entries_none, entries_some     the parts, by the run's number
+--     head_ready, last_ready     what a run leaves can be listed
+--     listed_whole     what a run of all commands leaves is listed as the rules say
 -- Assumes nothing.
 use mathlib.Core.Path.{◌≡◌, refl, sym, ap, subst, ◌∙◌}
 use mathlib.Core.Bool.{Bool, true, false, cond}
@@ -9,8 +9,8 @@ use mathlib.Core.List.{List, [], ◌∷◌, ◌++◌, append-nil}
 use Prim.Native.Nat.{ℕ, ◌+◌, ◌*◌, ◌<◌, ◌≤◌}
 use native.Mathlib.Omega.{arith}
 use native.Mathlib.Decide.{dec_lt}
-use lib.Dec.{eqb, leb}
-use lib.ListN.{length, take, replicate, length-replicate}
+use lib.Dec.{eqb}
+use lib.ListN.{length, take}
 use lib.Seq.{take_at}
 use borrow.Author.Tests.{eq-eqb, ne_eqb, le-leb}
 use Rattle.rules.specs.declared.Entry.{Entry}
@@ -19,18 +19,18 @@ use Rattle.rules.specs.File.{File, Command}
 use Rattle.rules.specs.Load.{Load, loaded, refused, load}
 use Rattle.rules.specs.State.{start}
 use Rattle.rules.specs.Run.{run, outcomes, first_commands, reached, outcomes_of, zeros, others, accepted, refusals, issued}
-use Rattle.rules.specs.Lent.{Answer, success, refusal, no_entry, Lent, long_enough, first_part, written, leaves, answered, run_answer, run_leaves}
+use Rattle.rules.specs.Lent.{Answer, refusal, no_entry, Lent, long_enough, first_part, written, leaves, answered, run_answer, run_leaves}
 use Rattle.rules.specs.Listing.{line, refusal_lines, entry_lines, lines, listing}
 use Rattle.theorems.proofs.Laws.{totals}
 use Rattle.loaded.specs.Loaded.{file_in}
 use Rattle.decimal.specs.Text.{Written}
 use Rattle.decimal.proofs.Writing.{written_none, written_then, written_length}
-use Rattle.lister.specs.Text.{refusal_bytes, entry_bytes, total_bytes, fault_bytes, listing_bytes, Listed}
+use Rattle.lister.specs.Text.{refusal_bytes, entry_bytes, total_bytes, fault_bytes, Listed}
 use Rattle.lister.proofs.Room.{listed}
 use Rattle.engine.specs.Runs.{lent_with}
 use Rattle.engine.proofs.Few.{loaded_short, all_commands_lem}
 use Rattle.engine.specs.declared.Finished.{Finished}
-use Rattle.engine.specs.Raw.{ran_in, Ran, Runs, Stood}
+use Rattle.engine.specs.Raw.{ran_in, Runs, Stood}
 use Rattle.engine.proofs.Whole.{enough_is, run_left, run_stood, near_place}
 use Rattle.lines.specs.Lines.{head_lines, entries_of, last_line, HeadReady, Headed, LastReady, Ended, ListReady}
 
@@ -98,13 +98,6 @@ entries_front : (es old : List Entry) {l : List Entry} → l ≡ first_part term
 unfolding first_part
 entries_front es old e {k} h = ap (take k) e ∙ take_at es _ k h
 
--- the ledger that the listing has
-pub ledger_long : length (replicate term_limit no_entry) ≡ term_limit
-ledger_long = length-replicate term_limit no_entry
-
-pub ledger_fits : term_limit ≤ length (replicate term_limit no_entry)
-ledger_fits = omega (arith, ledger_long)
-
 module _ (bs : List ℕ) (s : List ℕ) (l : List Entry) (out g : List ℕ) (text s' : List ℕ) {l' : List Entry} {out' g' before tables : List ℕ} {r : Finished} (el : length l ≡ term_limit) (ready : ListReady s out g before text) (w : Runs bs (length bs) term_limit s l out g s' l' out' g' tables r) (ls : length s' ≡ length s) where
   abbrev lent : Lent
   lent = lent_with s l out g
@@ -136,13 +129,7 @@ module _ (bs : List ℕ) (s : List ℕ) (l : List Entry) (out g : List ℕ) (tex
       go (yes h) = let q = entries_none r (λ z. omega (arith, h, z)) in omega (arith, q)
       go (no h) = let z : r.begun.number ≡ 0 = omega (arith, h) in let q = entries_some r z in omega (arith, q, (stood z).stands.enters.few)
 
-  pub entries_fit : length l' ≡ length l → {k : ℕ} → k ≡ entries_of r → k ≤ length l'
-  entries_fit ll q = omega (arith, ll, el, q, few_entries)
-
   module _ {t₁ : List ℕ} {at : ℕ} (head : Headed r out' text t₁ at) {k : ℕ} (counted : k ≡ entries_of r) where
-    pub entries_room : at + entry_bytes * k ≤ length t₁
-    entries_room = omega (arith, head.1, counted, few_entries, written_length head.0, ready.room)
-
     module _ {t₂ : List ℕ} {next : ℕ} (mid : Written t₁ at (entry_lines (take k l')) t₂ next × (next ≤ at + entry_bytes * k)) where
       pub last_ready : LastReady r t₂ next
       last_ready = record { few = λ z. (stood z).few; entries = λ z. (stood z).stands.enters.few; room = omega (arith, head.1, counted, few_entries, mid.1, written_length head.0, written_length mid.0, ready.room) }

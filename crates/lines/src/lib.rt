@@ -1,15 +1,17 @@
-// The listing of a file, in a buffer and on standard output.
+// The listing of a file, in a buffer and to a writer, and the reading of a file.
 #![tactic(auto)]
 
-ghost use Rattle.std.specs.Prelude.{◌≡◌, ◌≤◌, length};
+ghost use Rattle.std.specs.Prelude.{◌≡◌, ◌<◌, ◌≤◌, length, take, IfOk, OnOk};
+ghost use Rattle.std.specs.Io.KnownBytes.{Appends, Consumes, IsAtEnd};
 ghost use Rattle.rules.specs.Lent.{no_entry};
 ghost use Rattle.rules.specs.Listing.{listing};
 ghost use Rattle.lister.specs.Text.{listing_bytes, Listed};
 ghost use Rattle.lines.specs.Lines.{HeadReady, Headed, entries_of, LastReady, Ended, ListReady};
 
 use engine::Finished;
-use libc::STDOUT_FILENO;
 use rules::Entry;
+use std::io;
+use std::io::{Read, Write};
 
 // The lines before the entries: those of the refused commands, or that of the file's refusal.
 fn head(done: Finished, outcomes: &[u8], out: &mut [u8]) -> usize
@@ -110,9 +112,28 @@ pub fn list_into(file: &[u8], out: &mut [u8]) -> usize
     )
 }
 
-// Prints the listing of a file.
-pub fn list(file: &[u8]) {
+// Writes the listing of a file.
+pub fn list<W: Write>(file: &[u8], to: &mut W) -> io::Result<()>
+    ensures { OnOk result (Appends (W.contents to.old) (W.contents to.new) (listing file.now)) }
+{
     let mut out = [0u8; lister::LISTING_BYTES];
     let n = list_into(file, &mut out);
-    io::write_all(STDOUT_FILENO, &out[..n]);
+    to.write_all(&out[..n])
+}
+
+// Reads until a buffer is full or the input ends. Answers how many bytes it put at the front of the buffer.
+pub fn read<R: Read>(from: &mut R, file: &mut [u8]) -> io::Result<usize>
+    ensures inside { IfOk result (λ n. n ≤ length file.new) }
+    ensures bytes { IfOk result (λ n. Consumes (R.remaining from.old) (R.remaining from.new) (take n file.new)) }
+    ensures end { IfOk result (λ n. n < length file.new → IsAtEnd (R.remaining from.new)) }
+{
+    let mut at = 0;
+    while at < file.len() {
+        let n = from.read(&mut file[at..])?;
+        if n == 0 {
+            return Ok(at);
+        }
+        at += n;
+    }
+    Ok(at)
 }

@@ -22,7 +22,7 @@ use Rattle.rules.specs.Term.{hash_kind, fields_in, parts_of, names_of}
 use Rattle.rules.specs.Record.{last_kind, width, widths, fields_of, section_of, body_length, word, party_section, term_section, setup_section, command_section}
 use Rattle.rules.specs.File.{File, Setup, learns, holds, signs_with, Command, term, parts, names, role_of, holds_key, some_setup, is_hold}
 use Rattle.rules.specs.Load.{term_at, setup_at, command_at, section_fault, count_fault, fields_fault, record_fault, with_party, with_term, with_setup, with_command, enter, empty_file}
-use Rattle.rules.specs.Learning.{grant, each, opened, learn}
+use Rattle.rules.specs.Learning.{grant, opened, learn}
 use Rattle.rules.specs.State.{nothing, taught, put}
 use Rattle.theorems.proofs.Loading.{Good, Checked, good_checked, entered}
 use Rattle.theorems.proofs.LoadingFields.{first_zero, refuse_zero, passed, AllPassed, Each, within}

@@ -1,0 +1,183 @@
+use mathlib.Core.Path.{◌≡◌, sym, ap, ◌∙◌}
+use mathlib.Core.Bool.{true, not, ◌||◌}
+use Prim.Native.Nat.{ℕ}
+use native.Mathlib.Omega.{arith}
+use borrow.Author.Tests.{not-true, not-false}
+use Rattle.rules.specs.Limits.{device}
+use Rattle.rules.specs.Attributes.{restricted, sign}
+use Rattle.rules.specs.Term.{hash_kind}
+use Rattle.rules.specs.File.{is_role, is_kind, message, signing_key}
+use Rattle.rules.specs.Device.{key_has}
+use Rattle.state.specs.View.{view}
+use Rattle.state.proofs.Exact.{state_of}
+use Rattle.loaded.specs.Loaded.{file_in}
+use Rattle.theorems.proofs.Chain.{chain_none, chain_passes, chain_fails}
+use Rattle.loaded.proofs.Standing.{checked_here, party_here, term_here, kind_declared}
+use Rattle.loaded.proofs.Declared.{message_declared, signing_key_declared}
+use Rattle.loaded.proofs.Noted.{term_noted_lem}
+use Rattle.loaded.proofs.Tested.{of_read, either_read, unless, free}
+use Rattle.device.proofs.Outcomes.{sign_chain}
+use Rattle.device.proofs.decide_sign.Goals as goal
+
+pub is_role-requires : goal.is_role-requires
+is_role-requires c =
+    let p = c.requires in
+    party_here p.0 p.1.0
+
+pub returns-then-not-is_role : goal.returns-then-not-is_role
+returns-then-not-is_role c ledger =
+    let a = c.args in
+    sym (sign_chain (file_in a.file.now) (state_of (view a.state.now) ledger) a.party a.r
+    ∙ chain_fails 13 _ _ (sym c.is_role.ensures ∙ c.if-not-is_role.true))
+
+pub signing_key_of-key-requires : goal.signing_key_of-key-requires
+signing_key_of-key-requires c =
+    let p = c.requires in
+    term_noted_lem p.2 (kind_declared _ p.1.1 (λ q. omega arith))
+
+pub message_of-message-requires : goal.message_of-message-requires
+message_of-message-requires c =
+    let p = c.requires in
+    term_noted_lem p.2 (kind_declared _ p.1.1 (λ q. omega arith))
+
+pub key_has-restricted-requires : goal.key_has-restricted-requires
+key_has-restricted-requires c =
+    let p = c.requires in
+    (rw c.signing_key_of-key.ensures (term_noted_lem p.2 (signing_key_declared (checked_here p.0) (kind_declared _ p.1.1 (λ q. omega arith)) p.1.1)), omega arith)
+
+pub known_unless-requires : goal.known_unless-requires
+known_unless-requires c =
+    let p = c.requires in
+    (omega (arith, p.0.parties, p.1.0), rw c.message_of-message.ensures (term_here p.0 (message_declared (checked_here p.0) (kind_declared _ p.1.1 (λ q. omega arith)) p.1.1)).row)
+
+pub returns-then-not-known_unless : goal.returns-then-not-known_unless
+returns-then-not-known_unless c ledger =
+    let passes_1 : (let a = c.args in is_role (file_in a.file.now) device a.party ≡ true) = (sym c.is_role.ensures ∙ c.if-not-is_role.false) in
+    let a = c.args in
+    sym (sign_chain (file_in a.file.now) (state_of (view a.state.now) ledger) a.party a.r
+    ∙ chain_passes 13 _ _ passes_1
+    ∙ chain_fails 14 _ _ (either_read ((view a.state.now).knows a.party) (c.key_has-restricted.ensures ∙ ap (λ (k : ℕ). key_has (file_in a.file.now) k restricted) c.signing_key_of-key.ensures) c.message_of-message.ensures c.known_unless.ensures (c.if-not-known_unless.true)))
+
+pub in_table-requires : goal.in_table-requires
+in_table-requires c =
+    let p = c.requires in
+    (omega (arith, p.0.parties, p.1.0), rw c.signing_key_of-key.ensures (term_here p.0 (signing_key_declared (checked_here p.0) (kind_declared _ p.1.1 (λ q. omega arith)) p.1.1)).row)
+
+pub returns-then-not-in_table : goal.returns-then-not-in_table
+returns-then-not-in_table c ledger =
+    let passes_1 : (let a = c.args in is_role (file_in a.file.now) device a.party ≡ true) = (sym c.is_role.ensures ∙ c.if-not-is_role.false) in
+    let passes_2 : (let a = c.args in (key_has (file_in a.file.now) (signing_key (file_in a.file.now) a.r) restricted || (view a.state.now).knows a.party (message (file_in a.file.now) a.r)) ≡ true) = (let a = c.args in
+      either_read ((view a.state.now).knows a.party) (c.key_has-restricted.ensures ∙ ap (λ (k : ℕ). key_has (file_in a.file.now) k restricted) c.signing_key_of-key.ensures) c.message_of-message.ensures c.known_unless.ensures (c.if-not-known_unless.false)) in
+    let a = c.args in
+    sym (sign_chain (file_in a.file.now) (state_of (view a.state.now) ledger) a.party a.r
+    ∙ chain_passes 13 _ _ passes_1
+    ∙ chain_passes 14 _ _ passes_2
+    ∙ chain_fails 15 _ _ (of_read ((view a.state.now).table a.party) c.signing_key_of-key.ensures c.in_table.ensures (c.if-not-in_table.true)))
+
+pub key_has-requires : goal.key_has-requires
+key_has-requires c =
+    let p = c.requires in
+    (rw c.signing_key_of-key.ensures (term_noted_lem p.2 (signing_key_declared (checked_here p.0) (kind_declared _ p.1.1 (λ q. omega arith)) p.1.1)), omega arith)
+
+pub returns-then-not-key_has : goal.returns-then-not-key_has
+returns-then-not-key_has c ledger =
+    let passes_1 : (let a = c.args in is_role (file_in a.file.now) device a.party ≡ true) = (sym c.is_role.ensures ∙ c.if-not-is_role.false) in
+    let passes_2 : (let a = c.args in (key_has (file_in a.file.now) (signing_key (file_in a.file.now) a.r) restricted || (view a.state.now).knows a.party (message (file_in a.file.now) a.r)) ≡ true) = (let a = c.args in
+      either_read ((view a.state.now).knows a.party) (c.key_has-restricted.ensures ∙ ap (λ (k : ℕ). key_has (file_in a.file.now) k restricted) c.signing_key_of-key.ensures) c.message_of-message.ensures c.known_unless.ensures (c.if-not-known_unless.false)) in
+    let passes_3 : (let a = c.args in (view a.state.now).table a.party (signing_key (file_in a.file.now) a.r) ≡ true) = (let a = c.args in
+      of_read ((view a.state.now).table a.party) c.signing_key_of-key.ensures c.in_table.ensures (c.if-not-in_table.false)) in
+    let a = c.args in
+    sym (sign_chain (file_in a.file.now) (state_of (view a.state.now) ledger) a.party a.r
+    ∙ chain_passes 13 _ _ passes_1
+    ∙ chain_passes 14 _ _ passes_2
+    ∙ chain_passes 15 _ _ passes_3
+    ∙ chain_fails 16 _ _ (of_read (λ (k : ℕ). key_has (file_in a.file.now) k sign) c.signing_key_of-key.ensures c.key_has.ensures (c.if-not-key_has.true)))
+
+pub returns-then-not-restricted : goal.returns-then-not-restricted
+returns-then-not-restricted c ledger =
+    let passes_1 : (let a = c.args in is_role (file_in a.file.now) device a.party ≡ true) = (sym c.is_role.ensures ∙ c.if-not-is_role.false) in
+    let passes_2 : (let a = c.args in (key_has (file_in a.file.now) (signing_key (file_in a.file.now) a.r) restricted || (view a.state.now).knows a.party (message (file_in a.file.now) a.r)) ≡ true) = (let a = c.args in
+      either_read ((view a.state.now).knows a.party) (c.key_has-restricted.ensures ∙ ap (λ (k : ℕ). key_has (file_in a.file.now) k restricted) c.signing_key_of-key.ensures) c.message_of-message.ensures c.known_unless.ensures (c.if-not-known_unless.false)) in
+    let passes_3 : (let a = c.args in (view a.state.now).table a.party (signing_key (file_in a.file.now) a.r) ≡ true) = (let a = c.args in
+      of_read ((view a.state.now).table a.party) c.signing_key_of-key.ensures c.in_table.ensures (c.if-not-in_table.false)) in
+    let passes_4 : (let a = c.args in key_has (file_in a.file.now) (signing_key (file_in a.file.now) a.r) sign ≡ true) = (let a = c.args in
+      of_read (λ (k : ℕ). key_has (file_in a.file.now) k sign) c.signing_key_of-key.ensures c.key_has.ensures (c.if-not-key_has.false)) in
+    let a = c.args in
+    sym (sign_chain (file_in a.file.now) (state_of (view a.state.now) ledger) a.party a.r
+    ∙ chain_passes 13 _ _ passes_1
+    ∙ chain_passes 14 _ _ passes_2
+    ∙ chain_passes 15 _ _ passes_3
+    ∙ chain_passes 16 _ _ passes_4
+    ∙ chain_passes 17 _ _ (free _ (of_read (λ (k : ℕ). key_has (file_in a.file.now) k restricted) c.signing_key_of-key.ensures c.key_has-restricted.ensures (c.if-not-restricted.true)))
+    ∙ chain_passes 17 _ _ (free _ (of_read (λ (k : ℕ). key_has (file_in a.file.now) k restricted) c.signing_key_of-key.ensures c.key_has-restricted.ensures (c.if-not-restricted.true)))
+    ∙ chain_none)
+
+pub is_kind-requires : goal.is_kind-requires
+is_kind-requires c =
+    let p = c.requires in
+    rw c.message_of-message.ensures (term_noted_lem p.2 (message_declared (checked_here p.0) (kind_declared _ p.1.1 (λ q. omega arith)) p.1.1))
+
+pub returns-then-not-is_kind : goal.returns-then-not-is_kind
+returns-then-not-is_kind c ledger =
+    let passes_1 : (let a = c.args in is_role (file_in a.file.now) device a.party ≡ true) = (sym c.is_role.ensures ∙ c.if-not-is_role.false) in
+    let passes_2 : (let a = c.args in (key_has (file_in a.file.now) (signing_key (file_in a.file.now) a.r) restricted || (view a.state.now).knows a.party (message (file_in a.file.now) a.r)) ≡ true) = (let a = c.args in
+      either_read ((view a.state.now).knows a.party) (c.key_has-restricted.ensures ∙ ap (λ (k : ℕ). key_has (file_in a.file.now) k restricted) c.signing_key_of-key.ensures) c.message_of-message.ensures c.known_unless.ensures (c.if-not-known_unless.false)) in
+    let passes_3 : (let a = c.args in (view a.state.now).table a.party (signing_key (file_in a.file.now) a.r) ≡ true) = (let a = c.args in
+      of_read ((view a.state.now).table a.party) c.signing_key_of-key.ensures c.in_table.ensures (c.if-not-in_table.false)) in
+    let passes_4 : (let a = c.args in key_has (file_in a.file.now) (signing_key (file_in a.file.now) a.r) sign ≡ true) = (let a = c.args in
+      of_read (λ (k : ℕ). key_has (file_in a.file.now) k sign) c.signing_key_of-key.ensures c.key_has.ensures (c.if-not-key_has.false)) in
+    let a = c.args in
+    sym (sign_chain (file_in a.file.now) (state_of (view a.state.now) ledger) a.party a.r
+    ∙ chain_passes 13 _ _ passes_1
+    ∙ chain_passes 14 _ _ passes_2
+    ∙ chain_passes 15 _ _ passes_3
+    ∙ chain_passes 16 _ _ passes_4
+    ∙ chain_fails 17 _ _ (unless (of_read (λ (k : ℕ). key_has (file_in a.file.now) k restricted) c.signing_key_of-key.ensures c.key_has-restricted.ensures (c.if-not-restricted.false)) (of_read (is_kind (file_in a.file.now) hash_kind) c.message_of-message.ensures c.is_kind.ensures (c.if-not-is_kind.true))))
+
+pub in_table-requires-2 : goal.in_table-requires-2
+in_table-requires-2 c =
+    let p = c.requires in
+    (omega (arith, p.0.parties, p.1.0), rw c.message_of-message.ensures (term_here p.0 (message_declared (checked_here p.0) (kind_declared _ p.1.1 (λ q. omega arith)) p.1.1)).row)
+
+pub returns-then-not-in_table-2 : goal.returns-then-not-in_table-2
+returns-then-not-in_table-2 c ledger =
+    let passes_1 : (let a = c.args in is_role (file_in a.file.now) device a.party ≡ true) = (sym c.is_role.ensures ∙ c.if-not-is_role.false) in
+    let passes_2 : (let a = c.args in (key_has (file_in a.file.now) (signing_key (file_in a.file.now) a.r) restricted || (view a.state.now).knows a.party (message (file_in a.file.now) a.r)) ≡ true) = (let a = c.args in
+      either_read ((view a.state.now).knows a.party) (c.key_has-restricted.ensures ∙ ap (λ (k : ℕ). key_has (file_in a.file.now) k restricted) c.signing_key_of-key.ensures) c.message_of-message.ensures c.known_unless.ensures (c.if-not-known_unless.false)) in
+    let passes_3 : (let a = c.args in (view a.state.now).table a.party (signing_key (file_in a.file.now) a.r) ≡ true) = (let a = c.args in
+      of_read ((view a.state.now).table a.party) c.signing_key_of-key.ensures c.in_table.ensures (c.if-not-in_table.false)) in
+    let passes_4 : (let a = c.args in key_has (file_in a.file.now) (signing_key (file_in a.file.now) a.r) sign ≡ true) = (let a = c.args in
+      of_read (λ (k : ℕ). key_has (file_in a.file.now) k sign) c.signing_key_of-key.ensures c.key_has.ensures (c.if-not-key_has.false)) in
+    let passes_6 : (let a = c.args in (not (key_has (file_in a.file.now) (signing_key (file_in a.file.now) a.r) restricted) || is_kind (file_in a.file.now) hash_kind (message (file_in a.file.now) a.r)) ≡ true) = (let a = c.args in
+      unless (of_read (λ (k : ℕ). key_has (file_in a.file.now) k restricted) c.signing_key_of-key.ensures c.key_has-restricted.ensures (c.if-not-restricted.false)) (of_read (is_kind (file_in a.file.now) hash_kind) c.message_of-message.ensures c.is_kind.ensures (c.if-not-is_kind.false))) in
+    let a = c.args in
+    sym (sign_chain (file_in a.file.now) (state_of (view a.state.now) ledger) a.party a.r
+    ∙ chain_passes 13 _ _ passes_1
+    ∙ chain_passes 14 _ _ passes_2
+    ∙ chain_passes 15 _ _ passes_3
+    ∙ chain_passes 16 _ _ passes_4
+    ∙ chain_passes 17 _ _ passes_6
+    ∙ chain_fails 17 _ _ (unless (of_read (λ (k : ℕ). key_has (file_in a.file.now) k restricted) c.signing_key_of-key.ensures c.key_has-restricted.ensures (c.if-not-restricted.false)) (of_read ((view a.state.now).table a.party) c.message_of-message.ensures c.in_table-2.ensures (c.if-not-in_table-2.true))))
+
+pub returns : goal.returns
+returns c ledger =
+    let passes_1 : (let a = c.args in is_role (file_in a.file.now) device a.party ≡ true) = (sym c.is_role.ensures ∙ c.if-not-is_role.false) in
+    let passes_2 : (let a = c.args in (key_has (file_in a.file.now) (signing_key (file_in a.file.now) a.r) restricted || (view a.state.now).knows a.party (message (file_in a.file.now) a.r)) ≡ true) = (let a = c.args in
+      either_read ((view a.state.now).knows a.party) (c.key_has-restricted.ensures ∙ ap (λ (k : ℕ). key_has (file_in a.file.now) k restricted) c.signing_key_of-key.ensures) c.message_of-message.ensures c.known_unless.ensures (c.if-not-known_unless.false)) in
+    let passes_3 : (let a = c.args in (view a.state.now).table a.party (signing_key (file_in a.file.now) a.r) ≡ true) = (let a = c.args in
+      of_read ((view a.state.now).table a.party) c.signing_key_of-key.ensures c.in_table.ensures (c.if-not-in_table.false)) in
+    let passes_4 : (let a = c.args in key_has (file_in a.file.now) (signing_key (file_in a.file.now) a.r) sign ≡ true) = (let a = c.args in
+      of_read (λ (k : ℕ). key_has (file_in a.file.now) k sign) c.signing_key_of-key.ensures c.key_has.ensures (c.if-not-key_has.false)) in
+    let passes_6 : (let a = c.args in (not (key_has (file_in a.file.now) (signing_key (file_in a.file.now) a.r) restricted) || is_kind (file_in a.file.now) hash_kind (message (file_in a.file.now) a.r)) ≡ true) = (let a = c.args in
+      unless (of_read (λ (k : ℕ). key_has (file_in a.file.now) k restricted) c.signing_key_of-key.ensures c.key_has-restricted.ensures (c.if-not-restricted.false)) (of_read (is_kind (file_in a.file.now) hash_kind) c.message_of-message.ensures c.is_kind.ensures (c.if-not-is_kind.false))) in
+    let passes_7 : (let a = c.args in (not (key_has (file_in a.file.now) (signing_key (file_in a.file.now) a.r) restricted) || (view a.state.now).table a.party (message (file_in a.file.now) a.r)) ≡ true) = (let a = c.args in
+      unless (of_read (λ (k : ℕ). key_has (file_in a.file.now) k restricted) c.signing_key_of-key.ensures c.key_has-restricted.ensures (c.if-not-restricted.false)) (of_read ((view a.state.now).table a.party) c.message_of-message.ensures c.in_table-2.ensures (c.if-not-in_table-2.false))) in
+    let a = c.args in
+    sym (sign_chain (file_in a.file.now) (state_of (view a.state.now) ledger) a.party a.r
+    ∙ chain_passes 13 _ _ passes_1
+    ∙ chain_passes 14 _ _ passes_2
+    ∙ chain_passes 15 _ _ passes_3
+    ∙ chain_passes 16 _ _ passes_4
+    ∙ chain_passes 17 _ _ passes_6
+    ∙ chain_passes 17 _ _ passes_7
+    ∙ chain_none)

@@ -1,0 +1,23 @@
+use Prim.Native.Nat.{◌+◌}
+use native.Mathlib.Omega.{arith}
+use borrow.Author.Rules.{rules}
+use Rattle.rules.specs.File.{self_issue}
+use Rattle.lookup.proofs.Fields.{self_issue_there, four_bytes, one_read, known_as}
+use Rattle.loaded.proofs.Standing.{kind_declared}
+use Rattle.device.proofs.Effects.{self_issue_left, left_as}
+use Rattle.device.proofs.effect_issued.Goals as goal
+
+pub bounds-file-at : goal.bounds-file-at
+bounds-file-at c = omega (arith, four_bytes c.requires.1)
+
+pub overflow_cast-party : goal.overflow_cast-party
+overflow_cast-party c = omega (arith, c.type_inv.file (c.args.at + 1))
+
+pub word_at-r-requires : goal.word_at-r-requires
+word_at-r-requires c = omega (arith, four_bytes c.requires.1)
+
+pub learn-requires : goal.learn-requires
+learn-requires c = let p = c.requires in let g = known_as p.1 (one_read self_issue (self_issue_there _ _ p.2) c.word_at-r.ensures) in (p.0, g.0, kind_declared _ g.1 (λ q. omega arith), p.3)
+
+pub returns : goal.returns
+returns c = let p = c.requires in left_as p.1 (one_read self_issue (self_issue_there _ _ p.2) c.word_at-r.ensures) (self_issue_left c.learn.ensures)
