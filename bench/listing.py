@@ -1,7 +1,7 @@
 #!/usr/bin/env python3
 """How many instructions the listing of 8,190 refused commands takes, and how many of them printing.
 
-    rt check listing && rt staticlib birdweekly && python3 bench/listing.py [PROGRAM]
+    bind/program listing && bind/engine && python3 bench/listing.py [PROGRAM]
 
 The file is as long as a file may be: a device, a number, its hash, and commands 30 for that hash, each refused since nobody knows the
 number. PROGRAM is target/bin/listing if none is named. Starting the program does not show: what the listing of an empty file takes is

@@ -1,6 +1,6 @@
 /* The bytes of stack that a run of standard input takes: how much deeper a thread writes into its stack that runs.
 
-       rt staticlib birdweekly
+       bind/engine
        gcc -O2 -pthread -Ibind/c bench/stack.c target/staticlib/libbirdweekly.a -o target/stack
        target/stack < crates/cases/data/s_nested_pairs */
 #include <pthread.h>

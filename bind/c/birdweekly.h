@@ -1,4 +1,4 @@
-/* Birdweekly for C: link target/staticlib/libbirdweekly.a (rt staticlib birdweekly).
+/* Birdweekly for C: link target/staticlib/libbirdweekly.a (bind/engine makes it).
 
    Every call takes any bytes and lent buffers of any length; a null pointer with length 0 is fine. An answer has number
    0 (place 0 then) and its values, or a refusal with its number and place, and values 0. Every place of every buffer is

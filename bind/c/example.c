@@ -1,6 +1,6 @@
 /* Runs a scenario file, prints its listing, and the path of each certificate that was issued.
 
-       rt staticlib birdweekly
+       bind/engine
        gcc -O2 -Ibind/c bind/c/example.c target/staticlib/libbirdweekly.a -o target/example
        target/example crates/cases/data/s_honest_lak */
 #include "birdweekly.h"

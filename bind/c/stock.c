@@ -1,6 +1,6 @@
 /* Tells a planner how many boards an OEM desk's numbers are still enough for, after all commands of a scenario file.
 
-       rt staticlib birdweekly
+       bind/engine
        gcc -O2 -Ibind/c bind/c/stock.c target/staticlib/libbirdweekly.a -o target/stock
        target/stock crates/cases/data/s_stock_of_a_line 2 4
 

@@ -1,5 +1,5 @@
 //! Every sample, by the built command: its listing is the one that its comment has and the one that the proved program prints, its words
-//! and its picture are there, and its exit status tells what became of it. `rt check listing` makes the proved program.
+//! and its picture are there, and its exit status tells what became of it. `bind/program listing` makes the proved program.
 
 use std::io::Write;
 use std::path::{Path, PathBuf};
@@ -44,7 +44,7 @@ fn proved_listing(bytes: &[u8]) -> String {
         .stdin(Stdio::piped())
         .stdout(Stdio::piped())
         .spawn()
-        .unwrap_or_else(|error| panic!("{}: {error}; rt check listing makes it", program.display()));
+        .unwrap_or_else(|error| panic!("{}: {error}; bind/program listing makes it", program.display()));
     listing.stdin.take().expect("it reads").write_all(bytes).expect("it reads all");
     text(&listing.wait_with_output().expect("it ends").stdout)
 }

@@ -1,4 +1,4 @@
-//! Birdweekly for Rust: safe calls of the proved engine (`rt staticlib birdweekly`).
+//! Birdweekly for Rust: safe calls of the proved engine (`bind/engine` makes its library).
 //!
 //! The engine takes a scenario file, a factory's enrolment procedure as symbolic commands, and says which commands a
 //! certificate desk accepts, which certificates come out and how each leads back to an endorsement key.

@@ -5,7 +5,7 @@
 --     refused-does, device-done, plain_done, desk-does    what is left, and that it stands
 -- Assumes nothing.
 use mathlib.Core.Path.{◌≡◌, refl, sym, ap, subst, subst⁻¹, ◌∙◌}
-use mathlib.Core.Bool.{Bool, true, false, false≢true, ◌&&◌}
+use mathlib.Core.Bool.{Bool, true, false, false≢true}
 use mathlib.Core.List.{List, ◌++◌}
 use Prim.Native.Nat.{ℕ, ◌+◌, ◌<◌, ◌≤◌}
 use native.Mathlib.Decide.{ℕ_discrete}
@@ -16,13 +16,12 @@ use borrow.Author.Tests.{ltb-true, lt-ltb}
 use Rattle.rules.specs.declared.Entry.{Entry}
 use Rattle.rules.specs.Limits.{empty_field}
 use Rattle.rules.specs.Record.{body_length}
-use Rattle.rules.specs.File.{File}
 use Rattle.rules.specs.Load.{command_at}
 use Rattle.rules.specs.State.{State}
 use Rattle.rules.specs.Desk.{parent_certificate_of}
 use Rattle.rules.specs.Run.{outcome, after}
 use Rattle.theorems.proofs.Booleans.{and_true}
-use Rattle.theorems.proofs.Loading.{Checked, Wellformed}
+use Rattle.theorems.proofs.Loading.{Wellformed}
 use Rattle.theorems.proofs.LoadingFields.{each}
 use Rattle.theorems.proofs.Beside.{beside, Registerless, outcome_beside, effect_beside, invariant_beside}
 use Rattle.theorems.proofs.Invariant.{Invariant}

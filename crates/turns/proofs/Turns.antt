@@ -26,7 +26,6 @@ use Rattle.reader.specs.Place.{next_place}
 use Rattle.lookup.specs.There.{command_there}
 use Rattle.lookup.specs.Commands.{commands_left, CommandAt, Commands}
 use Rattle.lookup.proofs.Left.{command_here, commands_next, command_long, left_next, left_inside}
-use Rattle.state.specs.View.{view}
 use Rattle.loaded.specs.Loaded.{file_in}
 use Rattle.gained.specs.declared.Gained.{Gained}
 use Rattle.gained.specs.Took.{took, Whole}

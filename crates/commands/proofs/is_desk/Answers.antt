@@ -5,8 +5,7 @@ use native.Mathlib.Omega.{arith}
 use lib.Dec.{ltb}
 use borrow.Author.Tests.{lt-ltb, le-ltb}
 use Rattle.commands.specs.Standing.{desk_kind}
-use Rattle.commands.proofs.is_desk.Statement.{statement}
-use Rattle.commands.proofs.is_desk.Tie as tie
+use Rattle.commands.proofs.is_desk.Goals as goal
 
 and-false : (b : Bool) → false ≡ (b && false)
 and-false true = refl
@@ -22,11 +21,8 @@ above kind h = rw (le-ltb kind 0x44 (omega (arith, h))) (and-false (ltb 0x3D kin
 below : (kind : ℕ) → kind ≤ 0x43 → ltb 0x3D kind ≡ desk_kind kind
 below kind h = rw (lt-ltb kind 0x44 (omega (arith, h))) (and_true (ltb 0x3D kind))
 
-returns : tie.Need-returns
-returns c = above _ c.if1.true
+pub returns-then-kind-gt67 : goal.returns-then-kind-gt67
+returns-then-kind-gt67 c = above _ c.if-kind-gt67.true
 
-returns-2 : tie.Need-returns-2
-returns-2 c = below _ c.if1.false
-
-pub is-desk-spec : {M : Type 1} → statement M
-is-desk-spec = tie.close (tie.spec returns returns-2)
+pub returns : goal.returns
+returns c = below _ c.if-kind-gt67.false

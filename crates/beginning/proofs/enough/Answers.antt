@@ -6,8 +6,7 @@ use lib.Dec.{leb}
 use borrow.Author.Tests.{le-leb, lt-leb}
 use Rattle.rules.specs.Limits.{term_limit, command_limit, state_bytes, register_bytes}
 use Rattle.beginning.specs.Begins.{roomy}
-use Rattle.beginning.proofs.enough.Statement.{statement}
-use Rattle.beginning.proofs.enough.Tie as tie
+use Rattle.beginning.proofs.enough.Goals as goal
 
 module _ (s l o g : ℕ) where
   short-state : s < state_bytes → false ≡ roomy s l o g
@@ -22,17 +21,14 @@ module _ (s l o g : ℕ) where
   the_last : state_bytes ≤ s → term_limit ≤ l → command_limit ≤ o → leb register_bytes g ≡ roomy s l o g
   the_last a b h = rw (le-leb state_bytes s a, le-leb term_limit l b, le-leb command_limit o h) refl
 
-returns : tie.Need-returns
-returns c = let a = c.before.args in short-state a.state a.room a.outcomes a.registers c.if1.true
+pub returns-then-state-lt-STATE_BYTES : goal.returns-then-state-lt-STATE_BYTES
+returns-then-state-lt-STATE_BYTES c = let a = c.args in short-state a.state a.room a.outcomes a.registers c.if-state-lt-STATE_BYTES.true
 
-returns-2 : tie.Need-returns-2
-returns-2 c = let a = c.before.before.args in short-ledger a.state a.room a.outcomes a.registers c.before.if1.false c.if2.true
+pub returns-then-room-lt-TERM_LIMIT : goal.returns-then-room-lt-TERM_LIMIT
+returns-then-room-lt-TERM_LIMIT c = let a = c.args in short-ledger a.state a.room a.outcomes a.registers c.if-state-lt-STATE_BYTES.false c.if-room-lt-TERM_LIMIT.true
 
-returns-3 : tie.Need-returns-3
-returns-3 c = let a = c.before.before.before.args in short-outcomes a.state a.room a.outcomes a.registers c.before.before.if1.false c.before.if2.false c.if3.true
+pub returns-then-outcomes-lt-COMMAND_LIMIT : goal.returns-then-outcomes-lt-COMMAND_LIMIT
+returns-then-outcomes-lt-COMMAND_LIMIT c = let a = c.args in short-outcomes a.state a.room a.outcomes a.registers c.if-state-lt-STATE_BYTES.false c.if-room-lt-TERM_LIMIT.false c.if-outcomes-lt-COMMAND_LIMIT.true
 
-returns-4 : tie.Need-returns-4
-returns-4 c = let a = c.before.before.before.args in the_last a.state a.room a.outcomes a.registers c.before.before.if1.false c.before.if2.false c.if3.false
-
-pub enough-spec : {M : Type 1} → statement M
-enough-spec = tie.close (tie.spec returns returns-2 returns-3 returns-4)
+pub returns : goal.returns
+returns c = let a = c.args in the_last a.state a.room a.outcomes a.registers c.if-state-lt-STATE_BYTES.false c.if-room-lt-TERM_LIMIT.false c.if-outcomes-lt-COMMAND_LIMIT.false
