@@ -8,17 +8,14 @@
 --     issue-chain                        the outcome as a chain of its tests, part by part
 -- Assumes nothing.
 use mathlib.Core.Path.{◌≡◌, refl, ap, ◌∙◌}
-use mathlib.Core.Bool.{true}
-use mathlib.Core.List.{List, ◌∷◌, ◌++◌, Memᴰ}
-use Prim.Native.Nat.{ℕ, ◌<◌, ◌≤◌}
+use mathlib.Core.List.{List, ◌∷◌, ◌++◌}
+use Prim.Native.Nat.{ℕ, ◌<◌}
 use native.Mathlib.Omega.{arith}
 use lib.ListN.{length}
 use Rattle.rules.specs.declared.Entry.{Entry}
 use Rattle.rules.specs.declared.Family.{Family}
 use Rattle.rules.specs.declared.Subject.{Subject}
-use Rattle.rules.specs.Limits.{term_limit}
 use Rattle.rules.specs.Refusals.{Test, need}
-use Rattle.rules.specs.Families.{request_families}
 use Rattle.rules.specs.Term.{hash_kind, signature_kind, attest_kind, ldevid_request_kind, certificate_kind}
 use Rattle.rules.specs.File.{File, issue, is_role, kind, message, signing_key, attested_key, ldevid_message, ldevid_certificate, certified_key, signer, left_of, subject}
 use Rattle.rules.specs.State.{State}
@@ -29,7 +26,6 @@ use Rattle.state.specs.View.{view}
 use Rattle.tables.specs.Regions.{tables_in}
 use Rattle.theorems.specs.Chain.{chain}
 use Rattle.loaded.specs.Loaded.{file_in, Holds, Finds, TermNoted}
-use Rattle.loaded.specs.Entries.{Enters}
 use Rattle.theorems.proofs.Chain.{in_order_lem, chain_rest, passed}
 use Rattle.loaded.proofs.Standing.{checked_here, kind_declared}
 use Rattle.loaded.proofs.Declared.{signing_key_declared, certified_key_declared, signer_declared}
@@ -39,7 +35,6 @@ use Rattle.requests.specs.Tests.{called_tests, attest_tests, parentage_tests}
 use Rattle.issuance.specs.Tests.{entry_tests, parent_tests, below_tests}
 use Rattle.issuance.specs.Issues.{ParentsEntered}
 use Rattle.requests.proofs.Read.{is_kind_kind_lem}
-use Rattle.loaded.proofs.Ledger.{entry_most}
 use Rattle.requests.proofs.Passing.{has_form}
 
 -- the signature over the attest and the key that made it, the new key, the parent certificate, its key and its signer

@@ -30,7 +30,7 @@ use Rattle.state.proofs.Exact.{state_of}
 use Rattle.tables.specs.Regions.{Boards, Tables, tables_in, with_boards, with_ek, linked}
 use Rattle.boards.specs.Linked.{Falls, entry_of}
 use Rattle.loaded.specs.Loaded.{file_in, Learns}
-use Rattle.loaded.specs.Entries.{Enters, Boarded, DeskLeaves}
+use Rattle.loaded.specs.Entries.{Boarded, DeskLeaves}
 use Rattle.loaded.proofs.Ledger.{ledger_length, entry_most, entry_listed}
 use Rattle.loaded.proofs.Boards.{found_ek, falls_ek, boarded_linked, boarded_known, boarded_below}
 use Rattle.issuance.specs.Appends.{Appends, linked_by}

@@ -1,27 +1,22 @@
 -- Kinds of terms by what was read of them, and the terms that they name.
---     is-kind-kind           a term that is of a kind has it
---     other-kind             a term of a kind has no other constructor
---     idevid-subject to certificate-signer     the fields of a request and of a certificate, by its constructor
---     left-known, right-known, message-known     what they name is declared
+--     is_kind_kind_lem     a term that is of a kind has it
+--     certificate_found, idevid_found     a term of the kind has its constructor
+--     idevid_subject to certificate_signer     the fields of a request and of a certificate, by its constructor
+--     left_known, right_known, message_known     what they name is declared
 --     searched               what a search for a signing key asks
 -- Assumes nothing.
-use mathlib.Core.Path.{◌≡◌, refl, sym, ap, subst, subst⁻¹, ◌∙◌}
-use mathlib.Core.Bool.{true, not}
+use mathlib.Core.Path.{◌≡◌, refl, ap, subst⁻¹, ◌∙◌}
+use mathlib.Core.Bool.{true}
 use mathlib.Core.List.{List, [], ◌∷◌}
-use Prim.Native.Nat.{ℕ, suc, ◌+◌, ◌<◌}
+use Prim.Native.Nat.{ℕ, suc, ◌<◌}
 use native.Mathlib.Omega.{arith}
-use lib.Dec.{T}
 use lib.ListN.{length, get_or}
 use borrow.Author.Tests.{eqb-true}
-use denote.Enum.Declared.{tag_of}
-use mir.Val.{has_key}
-use types.Run.{OneOf, miss}
-use Rattle.rules.specs.contracts.Term as declared
 use Rattle.rules.specs.declared.Subject.{Subject}
 use Rattle.rules.specs.declared.Subject.TheVariants.{Tpm, Device}
 use Rattle.rules.specs.declared.Term.{Term}
 use Rattle.rules.specs.declared.Term.TheVariants.{PublicKey, PrivateKey, Hash, Signature, Attest, Credential, Number, IdevidRequest, LdevidRequest, Certificate, Pair, Register, Quote}
-use Rattle.rules.specs.Term.{kind_of, fields_in, subject_fields, subject_of, public_key_kind, signature_kind, pair_kind}
+use Rattle.rules.specs.Term.{kind_of, fields_in, subject_fields, subject_of, signature_kind, certificate_kind, idevid_request_kind, pair_kind}
 use Rattle.rules.specs.File.{File, term, kind, is_kind, field, message, idevid_certificate, idevid_key, certified_key, signer, left_of, right_of, subject}
 use Rattle.theorems.proofs.Loading.{Checked}
 use Rattle.loaded.specs.Loaded.{file_in, Holds, Finds}
@@ -33,27 +28,46 @@ pub is_kind_kind_lem : (f : File) (t : ℕ) {k : ℕ} → is_kind f k t ≡ true
 unfolding is_kind
 is_kind_kind_lem f t {k} e = eqb-true (kind f t) k e
 
--- constructors stand in the order of their kinds
-tag_kind : (x : Term) → kind_of x ≡ public_key_kind + tag_of declared.the_type x
+-- a term of one of these kinds has no other constructor
+one_certificate : (x : Term) → kind_of x ≡ certificate_kind → ((k : ℕ) (s : Subject) (p : ℕ) → x ≡ Certificate k s p → ⊥) → ⊥
 unfolding kind_of
-tag_kind (PublicKey id a) = refl
-tag_kind (PrivateKey id a) = refl
-tag_kind (Hash t) = refl
-tag_kind (Signature t k) = refl
-tag_kind (Attest k) = refl
-tag_kind (Credential t n k) = refl
-tag_kind (Number id) = refl
-tag_kind (IdevidRequest s c k) = refl
-tag_kind (LdevidRequest t c) = refl
-tag_kind (Certificate k s p) = refl
-tag_kind (Pair t u) = refl
-tag_kind (Register i) = refl
-tag_kind (Quote i t n) = refl
+one_certificate (PublicKey id a) q none = omega arith
+one_certificate (PrivateKey id a) q none = omega arith
+one_certificate (Hash t) q none = omega arith
+one_certificate (Signature t k) q none = omega arith
+one_certificate (Attest k) q none = omega arith
+one_certificate (Credential t n k) q none = omega arith
+one_certificate (Number id) q none = omega arith
+one_certificate (IdevidRequest s c k) q none = omega arith
+one_certificate (LdevidRequest t c) q none = omega arith
+one_certificate (Certificate k s p) q none = none k s p refl
+one_certificate (Pair t u) q none = omega arith
+one_certificate (Register i) q none = omega arith
+one_certificate (Quote i t n) q none = omega arith
 
-pub other_kind : (f : File) (t n : ℕ) (ks : List ℕ) {x : Term} → x ≡ term f t → T (not (has_key ks n)) → OneOf ks (tag_of declared.the_type x) → kind f t ≡ public_key_kind + n → ⊥
+one_idevid : (x : Term) → kind_of x ≡ idevid_request_kind → ((s : Subject) (c k : ℕ) → x ≡ IdevidRequest s c k → ⊥) → ⊥
+unfolding kind_of
+one_idevid (PublicKey id a) q none = omega arith
+one_idevid (PrivateKey id a) q none = omega arith
+one_idevid (Hash t) q none = omega arith
+one_idevid (Signature t k) q none = omega arith
+one_idevid (Attest k) q none = omega arith
+one_idevid (Credential t n k) q none = omega arith
+one_idevid (Number id) q none = omega arith
+one_idevid (IdevidRequest s c k) q none = none s c k refl
+one_idevid (LdevidRequest t c) q none = omega arith
+one_idevid (Certificate k s p) q none = omega arith
+one_idevid (Pair t u) q none = omega arith
+one_idevid (Register i) q none = omega arith
+one_idevid (Quote i t n) q none = omega arith
+
+pub certificate_found : (f : File) (t : ℕ) {x : Term} → x ≡ term f t → kind f t ≡ certificate_kind → ((k : ℕ) (s : Subject) (p : ℕ) → x ≡ Certificate k s p → ⊥) → ⊥
 unfolding kind
-other_kind f t n ks {x} e h o k =
-    let w : tag_of declared.the_type x ≡ n = omega (arith, tag_kind x, ap kind_of e ∙ k) in miss ks n h (subst (OneOf ks) w o)
+certificate_found f t {x} e q none = one_certificate x (ap kind_of e ∙ q) none
+
+pub idevid_found : (f : File) (t : ℕ) {x : Term} → x ≡ term f t → kind f t ≡ idevid_request_kind → ((s : Subject) (c k : ℕ) → x ≡ IdevidRequest s c k → ⊥) → ⊥
+unfolding kind
+idevid_found f t {x} e q none = one_idevid x (ap kind_of e ∙ q) none
 
 -- the fields after a Subject
 after : (s : Subject) (more : List ℕ) (i : ℕ) → get_or (subject_fields s more) (suc (suc i)) 0 ≡ get_or more i 0
