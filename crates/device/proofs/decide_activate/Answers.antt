@@ -81,8 +81,8 @@ returns-then-not-is_kind c ledger =
     let passes_1 : (let a = c.args in is_role (file_in a.file.now) device a.party ≡ true) = (sym c.is_role.ensures ∙ c.if-not-is_role.false) in
     let passes_2 : (let a = c.args in (view a.state.now).knows a.party a.r ≡ true) = (sym c.knows.ensures ∙ c.if-not-knows.false) in
     let passes_3 : (let a = c.args in half_in (file_in a.file.now) ((view a.state.now).table a.party) (credential_key (file_in a.file.now) a.r) ≡ true) = (let a = c.args in
-      let p = c.requires in
-      half_read p.0 p.2 (credential_key_declared (checked_here p.0) (kind_declared _ p.1.1 (λ q. omega arith)) p.1.1) ((view a.state.now).table a.party) c.credential_key_of-key.ensures c.holds_half.ensures (c.if-not-holds_half.false)) in
+    let p = c.requires in
+    half_read p.0 p.2 (credential_key_declared (checked_here p.0) (kind_declared _ p.1.1 (λ q. omega arith)) p.1.1) ((view a.state.now).table a.party) c.credential_key_of-key.ensures c.holds_half.ensures (c.if-not-holds_half.false)) in
     let a = c.args in
     sym (activate_chain (file_in a.file.now) (state_of (view a.state.now) ledger) a.party a.r
     ∙ chain_passes 13 _ _ passes_1
@@ -98,7 +98,7 @@ hashed_term-named-requires c =
 pub is_kind-requires-2 : goal.is_kind-requires-2
 is_kind-requires-2 c =
     let passes_4 : (let a = c.args in is_kind (file_in a.file.now) hash_kind (credential_term (file_in a.file.now) a.r) ≡ true) = (let a = c.args in
-      of_read (is_kind (file_in a.file.now) hash_kind) c.credential_term_of-content.ensures c.is_kind.ensures (c.if-not-is_kind.false)) in
+    of_read (is_kind (file_in a.file.now) hash_kind) c.credential_term_of-content.ensures c.is_kind.ensures (c.if-not-is_kind.false)) in
     let p = c.requires in
     rw (c.hashed_term-named.ensures, c.credential_term_of-content.ensures) (term_noted_lem p.2 (hashed_declared (checked_here p.0) (credential_term_declared (checked_here p.0) (kind_declared _ p.1.1 (λ q. omega arith)) p.1.1) (is_kind_kind _ _ _ passes_4)))
 
@@ -107,10 +107,10 @@ returns-then-not-is_kind-2 c ledger =
     let passes_1 : (let a = c.args in is_role (file_in a.file.now) device a.party ≡ true) = (sym c.is_role.ensures ∙ c.if-not-is_role.false) in
     let passes_2 : (let a = c.args in (view a.state.now).knows a.party a.r ≡ true) = (sym c.knows.ensures ∙ c.if-not-knows.false) in
     let passes_3 : (let a = c.args in half_in (file_in a.file.now) ((view a.state.now).table a.party) (credential_key (file_in a.file.now) a.r) ≡ true) = (let a = c.args in
-      let p = c.requires in
-      half_read p.0 p.2 (credential_key_declared (checked_here p.0) (kind_declared _ p.1.1 (λ q. omega arith)) p.1.1) ((view a.state.now).table a.party) c.credential_key_of-key.ensures c.holds_half.ensures (c.if-not-holds_half.false)) in
+    let p = c.requires in
+    half_read p.0 p.2 (credential_key_declared (checked_here p.0) (kind_declared _ p.1.1 (λ q. omega arith)) p.1.1) ((view a.state.now).table a.party) c.credential_key_of-key.ensures c.holds_half.ensures (c.if-not-holds_half.false)) in
     let passes_4 : (let a = c.args in is_kind (file_in a.file.now) hash_kind (credential_term (file_in a.file.now) a.r) ≡ true) = (let a = c.args in
-      of_read (is_kind (file_in a.file.now) hash_kind) c.credential_term_of-content.ensures c.is_kind.ensures (c.if-not-is_kind.false)) in
+    of_read (is_kind (file_in a.file.now) hash_kind) c.credential_term_of-content.ensures c.is_kind.ensures (c.if-not-is_kind.false)) in
     let a = c.args in
     sym (activate_chain (file_in a.file.now) (state_of (view a.state.now) ledger) a.party a.r
     ∙ chain_passes 13 _ _ passes_1
@@ -122,7 +122,7 @@ returns-then-not-is_kind-2 c ledger =
 pub holds_half-requires-2 : goal.holds_half-requires-2
 holds_half-requires-2 c =
     let passes_4 : (let a = c.args in is_kind (file_in a.file.now) hash_kind (credential_term (file_in a.file.now) a.r) ≡ true) = (let a = c.args in
-      of_read (is_kind (file_in a.file.now) hash_kind) c.credential_term_of-content.ensures c.is_kind.ensures (c.if-not-is_kind.false)) in
+    of_read (is_kind (file_in a.file.now) hash_kind) c.credential_term_of-content.ensures c.is_kind.ensures (c.if-not-is_kind.false)) in
     let p = c.requires in
     rw (c.hashed_term-named.ensures, c.credential_term_of-content.ensures) (half_asked p.0 p.2 (hashed_declared (checked_here p.0) (credential_term_declared (checked_here p.0) (kind_declared _ p.1.1 (λ q. omega arith)) p.1.1) (is_kind_kind _ _ _ passes_4)) p.1.0)
 
@@ -131,12 +131,12 @@ returns-then-not-holds_half-2 c ledger =
     let passes_1 : (let a = c.args in is_role (file_in a.file.now) device a.party ≡ true) = (sym c.is_role.ensures ∙ c.if-not-is_role.false) in
     let passes_2 : (let a = c.args in (view a.state.now).knows a.party a.r ≡ true) = (sym c.knows.ensures ∙ c.if-not-knows.false) in
     let passes_3 : (let a = c.args in half_in (file_in a.file.now) ((view a.state.now).table a.party) (credential_key (file_in a.file.now) a.r) ≡ true) = (let a = c.args in
-      let p = c.requires in
-      half_read p.0 p.2 (credential_key_declared (checked_here p.0) (kind_declared _ p.1.1 (λ q. omega arith)) p.1.1) ((view a.state.now).table a.party) c.credential_key_of-key.ensures c.holds_half.ensures (c.if-not-holds_half.false)) in
+    let p = c.requires in
+    half_read p.0 p.2 (credential_key_declared (checked_here p.0) (kind_declared _ p.1.1 (λ q. omega arith)) p.1.1) ((view a.state.now).table a.party) c.credential_key_of-key.ensures c.holds_half.ensures (c.if-not-holds_half.false)) in
     let passes_4 : (let a = c.args in is_kind (file_in a.file.now) hash_kind (credential_term (file_in a.file.now) a.r) ≡ true) = (let a = c.args in
-      of_read (is_kind (file_in a.file.now) hash_kind) c.credential_term_of-content.ensures c.is_kind.ensures (c.if-not-is_kind.false)) in
+    of_read (is_kind (file_in a.file.now) hash_kind) c.credential_term_of-content.ensures c.is_kind.ensures (c.if-not-is_kind.false)) in
     let passes_5 : (let a = c.args in is_kind (file_in a.file.now) public_key_kind (hashed_term (file_in a.file.now) (credential_term (file_in a.file.now) a.r)) ≡ true) = (let a = c.args in
-      of_read (is_kind (file_in a.file.now) public_key_kind) (c.hashed_term-named.ensures ∙ ap (hashed_term (file_in a.file.now)) c.credential_term_of-content.ensures) c.is_kind-2.ensures (c.if-not-is_kind-2.false)) in
+    of_read (is_kind (file_in a.file.now) public_key_kind) (c.hashed_term-named.ensures ∙ ap (hashed_term (file_in a.file.now)) c.credential_term_of-content.ensures) c.is_kind-2.ensures (c.if-not-is_kind-2.false)) in
     let a = c.args in
     let p = c.requires in
     sym (activate_chain (file_in a.file.now) (state_of (view a.state.now) ledger) a.party a.r
@@ -157,15 +157,15 @@ returns-then-not-key_has c ledger =
     let passes_1 : (let a = c.args in is_role (file_in a.file.now) device a.party ≡ true) = (sym c.is_role.ensures ∙ c.if-not-is_role.false) in
     let passes_2 : (let a = c.args in (view a.state.now).knows a.party a.r ≡ true) = (sym c.knows.ensures ∙ c.if-not-knows.false) in
     let passes_3 : (let a = c.args in half_in (file_in a.file.now) ((view a.state.now).table a.party) (credential_key (file_in a.file.now) a.r) ≡ true) = (let a = c.args in
-      let p = c.requires in
-      half_read p.0 p.2 (credential_key_declared (checked_here p.0) (kind_declared _ p.1.1 (λ q. omega arith)) p.1.1) ((view a.state.now).table a.party) c.credential_key_of-key.ensures c.holds_half.ensures (c.if-not-holds_half.false)) in
+    let p = c.requires in
+    half_read p.0 p.2 (credential_key_declared (checked_here p.0) (kind_declared _ p.1.1 (λ q. omega arith)) p.1.1) ((view a.state.now).table a.party) c.credential_key_of-key.ensures c.holds_half.ensures (c.if-not-holds_half.false)) in
     let passes_4 : (let a = c.args in is_kind (file_in a.file.now) hash_kind (credential_term (file_in a.file.now) a.r) ≡ true) = (let a = c.args in
-      of_read (is_kind (file_in a.file.now) hash_kind) c.credential_term_of-content.ensures c.is_kind.ensures (c.if-not-is_kind.false)) in
+    of_read (is_kind (file_in a.file.now) hash_kind) c.credential_term_of-content.ensures c.is_kind.ensures (c.if-not-is_kind.false)) in
     let passes_5 : (let a = c.args in is_kind (file_in a.file.now) public_key_kind (hashed_term (file_in a.file.now) (credential_term (file_in a.file.now) a.r)) ≡ true) = (let a = c.args in
-      of_read (is_kind (file_in a.file.now) public_key_kind) (c.hashed_term-named.ensures ∙ ap (hashed_term (file_in a.file.now)) c.credential_term_of-content.ensures) c.is_kind-2.ensures (c.if-not-is_kind-2.false)) in
+    of_read (is_kind (file_in a.file.now) public_key_kind) (c.hashed_term-named.ensures ∙ ap (hashed_term (file_in a.file.now)) c.credential_term_of-content.ensures) c.is_kind-2.ensures (c.if-not-is_kind-2.false)) in
     let passes_6 : (let a = c.args in half_in (file_in a.file.now) ((view a.state.now).table a.party) (hashed_term (file_in a.file.now) (credential_term (file_in a.file.now) a.r)) ≡ true) = (let a = c.args in
-      let p = c.requires in
-      half_read p.0 p.2 (hashed_declared (checked_here p.0) (credential_term_declared (checked_here p.0) (kind_declared _ p.1.1 (λ q. omega arith)) p.1.1) (is_kind_kind _ _ _ passes_4)) ((view a.state.now).table a.party) (c.hashed_term-named.ensures ∙ ap (hashed_term (file_in a.file.now)) c.credential_term_of-content.ensures) c.holds_half-2.ensures (c.if-not-holds_half-2.false)) in
+    let p = c.requires in
+    half_read p.0 p.2 (hashed_declared (checked_here p.0) (credential_term_declared (checked_here p.0) (kind_declared _ p.1.1 (λ q. omega arith)) p.1.1) (is_kind_kind _ _ _ passes_4)) ((view a.state.now).table a.party) (c.hashed_term-named.ensures ∙ ap (hashed_term (file_in a.file.now)) c.credential_term_of-content.ensures) c.holds_half-2.ensures (c.if-not-holds_half-2.false)) in
     let a = c.args in
     sym (activate_chain (file_in a.file.now) (state_of (view a.state.now) ledger) a.party a.r
     ∙ chain_passes 13 _ _ passes_1
@@ -186,17 +186,17 @@ returns-then-not-key_has-2 c ledger =
     let passes_1 : (let a = c.args in is_role (file_in a.file.now) device a.party ≡ true) = (sym c.is_role.ensures ∙ c.if-not-is_role.false) in
     let passes_2 : (let a = c.args in (view a.state.now).knows a.party a.r ≡ true) = (sym c.knows.ensures ∙ c.if-not-knows.false) in
     let passes_3 : (let a = c.args in half_in (file_in a.file.now) ((view a.state.now).table a.party) (credential_key (file_in a.file.now) a.r) ≡ true) = (let a = c.args in
-      let p = c.requires in
-      half_read p.0 p.2 (credential_key_declared (checked_here p.0) (kind_declared _ p.1.1 (λ q. omega arith)) p.1.1) ((view a.state.now).table a.party) c.credential_key_of-key.ensures c.holds_half.ensures (c.if-not-holds_half.false)) in
+    let p = c.requires in
+    half_read p.0 p.2 (credential_key_declared (checked_here p.0) (kind_declared _ p.1.1 (λ q. omega arith)) p.1.1) ((view a.state.now).table a.party) c.credential_key_of-key.ensures c.holds_half.ensures (c.if-not-holds_half.false)) in
     let passes_4 : (let a = c.args in is_kind (file_in a.file.now) hash_kind (credential_term (file_in a.file.now) a.r) ≡ true) = (let a = c.args in
-      of_read (is_kind (file_in a.file.now) hash_kind) c.credential_term_of-content.ensures c.is_kind.ensures (c.if-not-is_kind.false)) in
+    of_read (is_kind (file_in a.file.now) hash_kind) c.credential_term_of-content.ensures c.is_kind.ensures (c.if-not-is_kind.false)) in
     let passes_5 : (let a = c.args in is_kind (file_in a.file.now) public_key_kind (hashed_term (file_in a.file.now) (credential_term (file_in a.file.now) a.r)) ≡ true) = (let a = c.args in
-      of_read (is_kind (file_in a.file.now) public_key_kind) (c.hashed_term-named.ensures ∙ ap (hashed_term (file_in a.file.now)) c.credential_term_of-content.ensures) c.is_kind-2.ensures (c.if-not-is_kind-2.false)) in
+    of_read (is_kind (file_in a.file.now) public_key_kind) (c.hashed_term-named.ensures ∙ ap (hashed_term (file_in a.file.now)) c.credential_term_of-content.ensures) c.is_kind-2.ensures (c.if-not-is_kind-2.false)) in
     let passes_6 : (let a = c.args in half_in (file_in a.file.now) ((view a.state.now).table a.party) (hashed_term (file_in a.file.now) (credential_term (file_in a.file.now) a.r)) ≡ true) = (let a = c.args in
-      let p = c.requires in
-      half_read p.0 p.2 (hashed_declared (checked_here p.0) (credential_term_declared (checked_here p.0) (kind_declared _ p.1.1 (λ q. omega arith)) p.1.1) (is_kind_kind _ _ _ passes_4)) ((view a.state.now).table a.party) (c.hashed_term-named.ensures ∙ ap (hashed_term (file_in a.file.now)) c.credential_term_of-content.ensures) c.holds_half-2.ensures (c.if-not-holds_half-2.false)) in
+    let p = c.requires in
+    half_read p.0 p.2 (hashed_declared (checked_here p.0) (credential_term_declared (checked_here p.0) (kind_declared _ p.1.1 (λ q. omega arith)) p.1.1) (is_kind_kind _ _ _ passes_4)) ((view a.state.now).table a.party) (c.hashed_term-named.ensures ∙ ap (hashed_term (file_in a.file.now)) c.credential_term_of-content.ensures) c.holds_half-2.ensures (c.if-not-holds_half-2.false)) in
     let passes_7 : (let a = c.args in key_has (file_in a.file.now) (credential_key (file_in a.file.now) a.r) restricted ≡ true) = (let a = c.args in
-      of_read (λ (k : ℕ). key_has (file_in a.file.now) k restricted) c.credential_key_of-key.ensures c.key_has.ensures (c.if-not-key_has.false)) in
+    of_read (λ (k : ℕ). key_has (file_in a.file.now) k restricted) c.credential_key_of-key.ensures c.key_has.ensures (c.if-not-key_has.false)) in
     let a = c.args in
     sym (activate_chain (file_in a.file.now) (state_of (view a.state.now) ledger) a.party a.r
     ∙ chain_passes 13 _ _ passes_1
@@ -213,19 +213,19 @@ returns c ledger =
     let passes_1 : (let a = c.args in is_role (file_in a.file.now) device a.party ≡ true) = (sym c.is_role.ensures ∙ c.if-not-is_role.false) in
     let passes_2 : (let a = c.args in (view a.state.now).knows a.party a.r ≡ true) = (sym c.knows.ensures ∙ c.if-not-knows.false) in
     let passes_3 : (let a = c.args in half_in (file_in a.file.now) ((view a.state.now).table a.party) (credential_key (file_in a.file.now) a.r) ≡ true) = (let a = c.args in
-      let p = c.requires in
-      half_read p.0 p.2 (credential_key_declared (checked_here p.0) (kind_declared _ p.1.1 (λ q. omega arith)) p.1.1) ((view a.state.now).table a.party) c.credential_key_of-key.ensures c.holds_half.ensures (c.if-not-holds_half.false)) in
+    let p = c.requires in
+    half_read p.0 p.2 (credential_key_declared (checked_here p.0) (kind_declared _ p.1.1 (λ q. omega arith)) p.1.1) ((view a.state.now).table a.party) c.credential_key_of-key.ensures c.holds_half.ensures (c.if-not-holds_half.false)) in
     let passes_4 : (let a = c.args in is_kind (file_in a.file.now) hash_kind (credential_term (file_in a.file.now) a.r) ≡ true) = (let a = c.args in
-      of_read (is_kind (file_in a.file.now) hash_kind) c.credential_term_of-content.ensures c.is_kind.ensures (c.if-not-is_kind.false)) in
+    of_read (is_kind (file_in a.file.now) hash_kind) c.credential_term_of-content.ensures c.is_kind.ensures (c.if-not-is_kind.false)) in
     let passes_5 : (let a = c.args in is_kind (file_in a.file.now) public_key_kind (hashed_term (file_in a.file.now) (credential_term (file_in a.file.now) a.r)) ≡ true) = (let a = c.args in
-      of_read (is_kind (file_in a.file.now) public_key_kind) (c.hashed_term-named.ensures ∙ ap (hashed_term (file_in a.file.now)) c.credential_term_of-content.ensures) c.is_kind-2.ensures (c.if-not-is_kind-2.false)) in
+    of_read (is_kind (file_in a.file.now) public_key_kind) (c.hashed_term-named.ensures ∙ ap (hashed_term (file_in a.file.now)) c.credential_term_of-content.ensures) c.is_kind-2.ensures (c.if-not-is_kind-2.false)) in
     let passes_6 : (let a = c.args in half_in (file_in a.file.now) ((view a.state.now).table a.party) (hashed_term (file_in a.file.now) (credential_term (file_in a.file.now) a.r)) ≡ true) = (let a = c.args in
-      let p = c.requires in
-      half_read p.0 p.2 (hashed_declared (checked_here p.0) (credential_term_declared (checked_here p.0) (kind_declared _ p.1.1 (λ q. omega arith)) p.1.1) (is_kind_kind _ _ _ passes_4)) ((view a.state.now).table a.party) (c.hashed_term-named.ensures ∙ ap (hashed_term (file_in a.file.now)) c.credential_term_of-content.ensures) c.holds_half-2.ensures (c.if-not-holds_half-2.false)) in
+    let p = c.requires in
+    half_read p.0 p.2 (hashed_declared (checked_here p.0) (credential_term_declared (checked_here p.0) (kind_declared _ p.1.1 (λ q. omega arith)) p.1.1) (is_kind_kind _ _ _ passes_4)) ((view a.state.now).table a.party) (c.hashed_term-named.ensures ∙ ap (hashed_term (file_in a.file.now)) c.credential_term_of-content.ensures) c.holds_half-2.ensures (c.if-not-holds_half-2.false)) in
     let passes_7 : (let a = c.args in key_has (file_in a.file.now) (credential_key (file_in a.file.now) a.r) restricted ≡ true) = (let a = c.args in
-      of_read (λ (k : ℕ). key_has (file_in a.file.now) k restricted) c.credential_key_of-key.ensures c.key_has.ensures (c.if-not-key_has.false)) in
+    of_read (λ (k : ℕ). key_has (file_in a.file.now) k restricted) c.credential_key_of-key.ensures c.key_has.ensures (c.if-not-key_has.false)) in
     let passes_8 : (let a = c.args in key_has (file_in a.file.now) (credential_key (file_in a.file.now) a.r) decrypt ≡ true) = (let a = c.args in
-      of_read (λ (k : ℕ). key_has (file_in a.file.now) k decrypt) c.credential_key_of-key.ensures c.key_has-2.ensures (c.if-not-key_has-2.false)) in
+    of_read (λ (k : ℕ). key_has (file_in a.file.now) k decrypt) c.credential_key_of-key.ensures c.key_has-2.ensures (c.if-not-key_has-2.false)) in
     let a = c.args in
     sym (activate_chain (file_in a.file.now) (state_of (view a.state.now) ledger) a.party a.r
     ∙ chain_passes 13 _ _ passes_1

@@ -67,7 +67,7 @@ pub returns-then-not-holds_half : goal.returns-then-not-holds_half
 returns-then-not-holds_half c ledger =
     let passes_1 : (let a = c.args in is_role (file_in a.file.now) device a.party ≡ true) = (sym c.is_role.ensures ∙ c.if-not-is_role.false) in
     let passes_2 : (let a = c.args in (view a.state.now).table a.party (signing_key (file_in a.file.now) a.r) ≡ true) = (let a = c.args in
-      of_read ((view a.state.now).table a.party) c.signing_key_of-key.ensures c.in_table.ensures (c.if-not-in_table.false)) in
+    of_read ((view a.state.now).table a.party) c.signing_key_of-key.ensures c.in_table.ensures (c.if-not-in_table.false)) in
     let a = c.args in
     let p = c.requires in
     sym (certify_chain (file_in a.file.now) (state_of (view a.state.now) ledger) a.party a.r
@@ -84,10 +84,10 @@ pub returns-then-not-key_has : goal.returns-then-not-key_has
 returns-then-not-key_has c ledger =
     let passes_1 : (let a = c.args in is_role (file_in a.file.now) device a.party ≡ true) = (sym c.is_role.ensures ∙ c.if-not-is_role.false) in
     let passes_2 : (let a = c.args in (view a.state.now).table a.party (signing_key (file_in a.file.now) a.r) ≡ true) = (let a = c.args in
-      of_read ((view a.state.now).table a.party) c.signing_key_of-key.ensures c.in_table.ensures (c.if-not-in_table.false)) in
+    of_read ((view a.state.now).table a.party) c.signing_key_of-key.ensures c.in_table.ensures (c.if-not-in_table.false)) in
     let passes_3 : (let a = c.args in half_in (file_in a.file.now) ((view a.state.now).table a.party) (attested_key (file_in a.file.now) (message (file_in a.file.now) a.r)) ≡ true) = (let a = c.args in
-      let p = c.requires in
-      half_read p.0 p.2 (attested_key_declared (checked_here p.0) (message_declared (checked_here p.0) (kind_declared _ p.1.1 (λ q. omega arith)) p.1.1) p.1.2) ((view a.state.now).table a.party) (c.attested_key_of-attested.ensures ∙ ap (attested_key (file_in a.file.now)) c.message_of-message.ensures) c.holds_half.ensures (c.if-not-holds_half.false)) in
+    let p = c.requires in
+    half_read p.0 p.2 (attested_key_declared (checked_here p.0) (message_declared (checked_here p.0) (kind_declared _ p.1.1 (λ q. omega arith)) p.1.1) p.1.2) ((view a.state.now).table a.party) (c.attested_key_of-attested.ensures ∙ ap (attested_key (file_in a.file.now)) c.message_of-message.ensures) c.holds_half.ensures (c.if-not-holds_half.false)) in
     let a = c.args in
     sym (certify_chain (file_in a.file.now) (state_of (view a.state.now) ledger) a.party a.r
     ∙ chain_passes 13 _ _ passes_1
@@ -99,12 +99,12 @@ pub returns : goal.returns
 returns c ledger =
     let passes_1 : (let a = c.args in is_role (file_in a.file.now) device a.party ≡ true) = (sym c.is_role.ensures ∙ c.if-not-is_role.false) in
     let passes_2 : (let a = c.args in (view a.state.now).table a.party (signing_key (file_in a.file.now) a.r) ≡ true) = (let a = c.args in
-      of_read ((view a.state.now).table a.party) c.signing_key_of-key.ensures c.in_table.ensures (c.if-not-in_table.false)) in
+    of_read ((view a.state.now).table a.party) c.signing_key_of-key.ensures c.in_table.ensures (c.if-not-in_table.false)) in
     let passes_3 : (let a = c.args in half_in (file_in a.file.now) ((view a.state.now).table a.party) (attested_key (file_in a.file.now) (message (file_in a.file.now) a.r)) ≡ true) = (let a = c.args in
-      let p = c.requires in
-      half_read p.0 p.2 (attested_key_declared (checked_here p.0) (message_declared (checked_here p.0) (kind_declared _ p.1.1 (λ q. omega arith)) p.1.1) p.1.2) ((view a.state.now).table a.party) (c.attested_key_of-attested.ensures ∙ ap (attested_key (file_in a.file.now)) c.message_of-message.ensures) c.holds_half.ensures (c.if-not-holds_half.false)) in
+    let p = c.requires in
+    half_read p.0 p.2 (attested_key_declared (checked_here p.0) (message_declared (checked_here p.0) (kind_declared _ p.1.1 (λ q. omega arith)) p.1.1) p.1.2) ((view a.state.now).table a.party) (c.attested_key_of-attested.ensures ∙ ap (attested_key (file_in a.file.now)) c.message_of-message.ensures) c.holds_half.ensures (c.if-not-holds_half.false)) in
     let passes_4 : (let a = c.args in key_has (file_in a.file.now) (signing_key (file_in a.file.now) a.r) sign ≡ true) = (let a = c.args in
-      of_read (λ (k : ℕ). key_has (file_in a.file.now) k sign) c.signing_key_of-key.ensures c.key_has.ensures (c.if-not-key_has.false)) in
+    of_read (λ (k : ℕ). key_has (file_in a.file.now) k sign) c.signing_key_of-key.ensures c.key_has.ensures (c.if-not-key_has.false)) in
     let a = c.args in
     sym (certify_chain (file_in a.file.now) (state_of (view a.state.now) ledger) a.party a.r
     ∙ chain_passes 13 _ _ passes_1

@@ -58,7 +58,7 @@ pub returns-then-not-knows-2 : goal.returns-then-not-knows-2
 returns-then-not-knows-2 c ledger =
     let passes_1 : (let a = c.args in is_role (file_in a.file.now) device a.party ≡ true) = (sym c.is_role.ensures ∙ c.if-not-is_role.false) in
     let passes_2 : (let a = c.args in (view a.state.now).knows a.party (credential_term (file_in a.file.now) a.r) ≡ true) = (let a = c.args in
-      of_read ((view a.state.now).knows a.party) c.credential_term_of-content.ensures c.knows.ensures (c.if-not-knows.false)) in
+    of_read ((view a.state.now).knows a.party) c.credential_term_of-content.ensures c.knows.ensures (c.if-not-knows.false)) in
     let a = c.args in
     sym (make_credential_chain (file_in a.file.now) (state_of (view a.state.now) ledger) a.party a.r
     ∙ chain_passes 13 _ _ passes_1
@@ -79,9 +79,9 @@ pub returns-then-not-knows-3 : goal.returns-then-not-knows-3
 returns-then-not-knows-3 c ledger =
     let passes_1 : (let a = c.args in is_role (file_in a.file.now) device a.party ≡ true) = (sym c.is_role.ensures ∙ c.if-not-is_role.false) in
     let passes_2 : (let a = c.args in (view a.state.now).knows a.party (credential_term (file_in a.file.now) a.r) ≡ true) = (let a = c.args in
-      of_read ((view a.state.now).knows a.party) c.credential_term_of-content.ensures c.knows.ensures (c.if-not-knows.false)) in
+    of_read ((view a.state.now).knows a.party) c.credential_term_of-content.ensures c.knows.ensures (c.if-not-knows.false)) in
     let passes_3 : (let a = c.args in (view a.state.now).knows a.party (credential_number (file_in a.file.now) a.r) ≡ true) = (let a = c.args in
-      of_read ((view a.state.now).knows a.party) c.credential_number_of-number.ensures c.knows-2.ensures (c.if-not-knows-2.false)) in
+    of_read ((view a.state.now).knows a.party) c.credential_number_of-number.ensures c.knows-2.ensures (c.if-not-knows-2.false)) in
     let a = c.args in
     sym (make_credential_chain (file_in a.file.now) (state_of (view a.state.now) ledger) a.party a.r
     ∙ chain_passes 13 _ _ passes_1
@@ -93,11 +93,11 @@ pub returns : goal.returns
 returns c ledger =
     let passes_1 : (let a = c.args in is_role (file_in a.file.now) device a.party ≡ true) = (sym c.is_role.ensures ∙ c.if-not-is_role.false) in
     let passes_2 : (let a = c.args in (view a.state.now).knows a.party (credential_term (file_in a.file.now) a.r) ≡ true) = (let a = c.args in
-      of_read ((view a.state.now).knows a.party) c.credential_term_of-content.ensures c.knows.ensures (c.if-not-knows.false)) in
+    of_read ((view a.state.now).knows a.party) c.credential_term_of-content.ensures c.knows.ensures (c.if-not-knows.false)) in
     let passes_3 : (let a = c.args in (view a.state.now).knows a.party (credential_number (file_in a.file.now) a.r) ≡ true) = (let a = c.args in
-      of_read ((view a.state.now).knows a.party) c.credential_number_of-number.ensures c.knows-2.ensures (c.if-not-knows-2.false)) in
+    of_read ((view a.state.now).knows a.party) c.credential_number_of-number.ensures c.knows-2.ensures (c.if-not-knows-2.false)) in
     let passes_4 : (let a = c.args in (view a.state.now).knows a.party (credential_key (file_in a.file.now) a.r) ≡ true) = (let a = c.args in
-      of_read ((view a.state.now).knows a.party) c.credential_key_of-key.ensures c.knows-3.ensures (c.if-not-knows-3.false)) in
+    of_read ((view a.state.now).knows a.party) c.credential_key_of-key.ensures c.knows-3.ensures (c.if-not-knows-3.false)) in
     let a = c.args in
     sym (make_credential_chain (file_in a.file.now) (state_of (view a.state.now) ledger) a.party a.r
     ∙ chain_passes 13 _ _ passes_1

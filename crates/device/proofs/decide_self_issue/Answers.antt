@@ -61,7 +61,7 @@ pub returns-then-not-in_table : goal.returns-then-not-in_table
 returns-then-not-in_table c ledger =
     let passes_1 : (let a = c.args in is_role (file_in a.file.now) device a.party ≡ true) = (sym c.is_role.ensures ∙ c.if-not-is_role.false) in
     let passes_2 : (let a = c.args in (view a.state.now).knows a.party (certified_key (file_in a.file.now) a.r) ≡ true) = (let a = c.args in
-      of_read ((view a.state.now).knows a.party) c.certified_key_of-certified.ensures c.knows.ensures (c.if-not-knows.false)) in
+    of_read ((view a.state.now).knows a.party) c.certified_key_of-certified.ensures c.knows.ensures (c.if-not-knows.false)) in
     let a = c.args in
     sym (self_issue_chain (file_in a.file.now) (state_of (view a.state.now) ledger) a.party a.r
     ∙ chain_passes 13 _ _ passes_1
@@ -77,9 +77,9 @@ pub returns-then-not-key_has : goal.returns-then-not-key_has
 returns-then-not-key_has c ledger =
     let passes_1 : (let a = c.args in is_role (file_in a.file.now) device a.party ≡ true) = (sym c.is_role.ensures ∙ c.if-not-is_role.false) in
     let passes_2 : (let a = c.args in (view a.state.now).knows a.party (certified_key (file_in a.file.now) a.r) ≡ true) = (let a = c.args in
-      of_read ((view a.state.now).knows a.party) c.certified_key_of-certified.ensures c.knows.ensures (c.if-not-knows.false)) in
+    of_read ((view a.state.now).knows a.party) c.certified_key_of-certified.ensures c.knows.ensures (c.if-not-knows.false)) in
     let passes_3 : (let a = c.args in (view a.state.now).table a.party (signer (file_in a.file.now) a.r) ≡ true) = (let a = c.args in
-      of_read ((view a.state.now).table a.party) c.signer_of-signer.ensures c.in_table.ensures (c.if-not-in_table.false)) in
+    of_read ((view a.state.now).table a.party) c.signer_of-signer.ensures c.in_table.ensures (c.if-not-in_table.false)) in
     let a = c.args in
     sym (self_issue_chain (file_in a.file.now) (state_of (view a.state.now) ledger) a.party a.r
     ∙ chain_passes 13 _ _ passes_1
@@ -96,11 +96,11 @@ pub returns-then-key_has : goal.returns-then-key_has
 returns-then-key_has c ledger =
     let passes_1 : (let a = c.args in is_role (file_in a.file.now) device a.party ≡ true) = (sym c.is_role.ensures ∙ c.if-not-is_role.false) in
     let passes_2 : (let a = c.args in (view a.state.now).knows a.party (certified_key (file_in a.file.now) a.r) ≡ true) = (let a = c.args in
-      of_read ((view a.state.now).knows a.party) c.certified_key_of-certified.ensures c.knows.ensures (c.if-not-knows.false)) in
+    of_read ((view a.state.now).knows a.party) c.certified_key_of-certified.ensures c.knows.ensures (c.if-not-knows.false)) in
     let passes_3 : (let a = c.args in (view a.state.now).table a.party (signer (file_in a.file.now) a.r) ≡ true) = (let a = c.args in
-      of_read ((view a.state.now).table a.party) c.signer_of-signer.ensures c.in_table.ensures (c.if-not-in_table.false)) in
+    of_read ((view a.state.now).table a.party) c.signer_of-signer.ensures c.in_table.ensures (c.if-not-in_table.false)) in
     let passes_4 : (let a = c.args in key_has (file_in a.file.now) (signer (file_in a.file.now) a.r) sign ≡ true) = (let a = c.args in
-      of_read (λ (k : ℕ). key_has (file_in a.file.now) k sign) c.signer_of-signer.ensures c.key_has.ensures (c.if-not-key_has.false)) in
+    of_read (λ (k : ℕ). key_has (file_in a.file.now) k sign) c.signer_of-signer.ensures c.key_has.ensures (c.if-not-key_has.false)) in
     let a = c.args in
     sym (self_issue_chain (file_in a.file.now) (state_of (view a.state.now) ledger) a.party a.r
     ∙ chain_passes 13 _ _ passes_1
@@ -113,13 +113,13 @@ pub returns : goal.returns
 returns c ledger =
     let passes_1 : (let a = c.args in is_role (file_in a.file.now) device a.party ≡ true) = (sym c.is_role.ensures ∙ c.if-not-is_role.false) in
     let passes_2 : (let a = c.args in (view a.state.now).knows a.party (certified_key (file_in a.file.now) a.r) ≡ true) = (let a = c.args in
-      of_read ((view a.state.now).knows a.party) c.certified_key_of-certified.ensures c.knows.ensures (c.if-not-knows.false)) in
+    of_read ((view a.state.now).knows a.party) c.certified_key_of-certified.ensures c.knows.ensures (c.if-not-knows.false)) in
     let passes_3 : (let a = c.args in (view a.state.now).table a.party (signer (file_in a.file.now) a.r) ≡ true) = (let a = c.args in
-      of_read ((view a.state.now).table a.party) c.signer_of-signer.ensures c.in_table.ensures (c.if-not-in_table.false)) in
+    of_read ((view a.state.now).table a.party) c.signer_of-signer.ensures c.in_table.ensures (c.if-not-in_table.false)) in
     let passes_4 : (let a = c.args in key_has (file_in a.file.now) (signer (file_in a.file.now) a.r) sign ≡ true) = (let a = c.args in
-      of_read (λ (k : ℕ). key_has (file_in a.file.now) k sign) c.signer_of-signer.ensures c.key_has.ensures (c.if-not-key_has.false)) in
+    of_read (λ (k : ℕ). key_has (file_in a.file.now) k sign) c.signer_of-signer.ensures c.key_has.ensures (c.if-not-key_has.false)) in
     let passes_5 : (let a = c.args in not (key_has (file_in a.file.now) (signer (file_in a.file.now) a.r) restricted) ≡ true) = (let a = c.args in
-      ap not (of_read (λ (k : ℕ). key_has (file_in a.file.now) k restricted) c.signer_of-signer.ensures c.key_has-2.ensures c.if-key_has.false)) in
+    ap not (of_read (λ (k : ℕ). key_has (file_in a.file.now) k restricted) c.signer_of-signer.ensures c.key_has-2.ensures c.if-key_has.false)) in
     let a = c.args in
     sym (self_issue_chain (file_in a.file.now) (state_of (view a.state.now) ledger) a.party a.r
     ∙ chain_passes 13 _ _ passes_1

@@ -67,7 +67,7 @@ pub returns-then-not-in_table : goal.returns-then-not-in_table
 returns-then-not-in_table c ledger =
     let passes_1 : (let a = c.args in is_role (file_in a.file.now) device a.party ≡ true) = (sym c.is_role.ensures ∙ c.if-not-is_role.false) in
     let passes_2 : (let a = c.args in (key_has (file_in a.file.now) (signing_key (file_in a.file.now) a.r) restricted || (view a.state.now).knows a.party (message (file_in a.file.now) a.r)) ≡ true) = (let a = c.args in
-      either_read ((view a.state.now).knows a.party) (c.key_has-restricted.ensures ∙ ap (λ (k : ℕ). key_has (file_in a.file.now) k restricted) c.signing_key_of-key.ensures) c.message_of-message.ensures c.known_unless.ensures (c.if-not-known_unless.false)) in
+    either_read ((view a.state.now).knows a.party) (c.key_has-restricted.ensures ∙ ap (λ (k : ℕ). key_has (file_in a.file.now) k restricted) c.signing_key_of-key.ensures) c.message_of-message.ensures c.known_unless.ensures (c.if-not-known_unless.false)) in
     let a = c.args in
     sym (sign_chain (file_in a.file.now) (state_of (view a.state.now) ledger) a.party a.r
     ∙ chain_passes 13 _ _ passes_1
@@ -83,9 +83,9 @@ pub returns-then-not-key_has : goal.returns-then-not-key_has
 returns-then-not-key_has c ledger =
     let passes_1 : (let a = c.args in is_role (file_in a.file.now) device a.party ≡ true) = (sym c.is_role.ensures ∙ c.if-not-is_role.false) in
     let passes_2 : (let a = c.args in (key_has (file_in a.file.now) (signing_key (file_in a.file.now) a.r) restricted || (view a.state.now).knows a.party (message (file_in a.file.now) a.r)) ≡ true) = (let a = c.args in
-      either_read ((view a.state.now).knows a.party) (c.key_has-restricted.ensures ∙ ap (λ (k : ℕ). key_has (file_in a.file.now) k restricted) c.signing_key_of-key.ensures) c.message_of-message.ensures c.known_unless.ensures (c.if-not-known_unless.false)) in
+    either_read ((view a.state.now).knows a.party) (c.key_has-restricted.ensures ∙ ap (λ (k : ℕ). key_has (file_in a.file.now) k restricted) c.signing_key_of-key.ensures) c.message_of-message.ensures c.known_unless.ensures (c.if-not-known_unless.false)) in
     let passes_3 : (let a = c.args in (view a.state.now).table a.party (signing_key (file_in a.file.now) a.r) ≡ true) = (let a = c.args in
-      of_read ((view a.state.now).table a.party) c.signing_key_of-key.ensures c.in_table.ensures (c.if-not-in_table.false)) in
+    of_read ((view a.state.now).table a.party) c.signing_key_of-key.ensures c.in_table.ensures (c.if-not-in_table.false)) in
     let a = c.args in
     sym (sign_chain (file_in a.file.now) (state_of (view a.state.now) ledger) a.party a.r
     ∙ chain_passes 13 _ _ passes_1
@@ -97,11 +97,11 @@ pub returns-then-not-restricted : goal.returns-then-not-restricted
 returns-then-not-restricted c ledger =
     let passes_1 : (let a = c.args in is_role (file_in a.file.now) device a.party ≡ true) = (sym c.is_role.ensures ∙ c.if-not-is_role.false) in
     let passes_2 : (let a = c.args in (key_has (file_in a.file.now) (signing_key (file_in a.file.now) a.r) restricted || (view a.state.now).knows a.party (message (file_in a.file.now) a.r)) ≡ true) = (let a = c.args in
-      either_read ((view a.state.now).knows a.party) (c.key_has-restricted.ensures ∙ ap (λ (k : ℕ). key_has (file_in a.file.now) k restricted) c.signing_key_of-key.ensures) c.message_of-message.ensures c.known_unless.ensures (c.if-not-known_unless.false)) in
+    either_read ((view a.state.now).knows a.party) (c.key_has-restricted.ensures ∙ ap (λ (k : ℕ). key_has (file_in a.file.now) k restricted) c.signing_key_of-key.ensures) c.message_of-message.ensures c.known_unless.ensures (c.if-not-known_unless.false)) in
     let passes_3 : (let a = c.args in (view a.state.now).table a.party (signing_key (file_in a.file.now) a.r) ≡ true) = (let a = c.args in
-      of_read ((view a.state.now).table a.party) c.signing_key_of-key.ensures c.in_table.ensures (c.if-not-in_table.false)) in
+    of_read ((view a.state.now).table a.party) c.signing_key_of-key.ensures c.in_table.ensures (c.if-not-in_table.false)) in
     let passes_4 : (let a = c.args in key_has (file_in a.file.now) (signing_key (file_in a.file.now) a.r) sign ≡ true) = (let a = c.args in
-      of_read (λ (k : ℕ). key_has (file_in a.file.now) k sign) c.signing_key_of-key.ensures c.key_has.ensures (c.if-not-key_has.false)) in
+    of_read (λ (k : ℕ). key_has (file_in a.file.now) k sign) c.signing_key_of-key.ensures c.key_has.ensures (c.if-not-key_has.false)) in
     let a = c.args in
     sym (sign_chain (file_in a.file.now) (state_of (view a.state.now) ledger) a.party a.r
     ∙ chain_passes 13 _ _ passes_1
@@ -121,11 +121,11 @@ pub returns-then-not-is_kind : goal.returns-then-not-is_kind
 returns-then-not-is_kind c ledger =
     let passes_1 : (let a = c.args in is_role (file_in a.file.now) device a.party ≡ true) = (sym c.is_role.ensures ∙ c.if-not-is_role.false) in
     let passes_2 : (let a = c.args in (key_has (file_in a.file.now) (signing_key (file_in a.file.now) a.r) restricted || (view a.state.now).knows a.party (message (file_in a.file.now) a.r)) ≡ true) = (let a = c.args in
-      either_read ((view a.state.now).knows a.party) (c.key_has-restricted.ensures ∙ ap (λ (k : ℕ). key_has (file_in a.file.now) k restricted) c.signing_key_of-key.ensures) c.message_of-message.ensures c.known_unless.ensures (c.if-not-known_unless.false)) in
+    either_read ((view a.state.now).knows a.party) (c.key_has-restricted.ensures ∙ ap (λ (k : ℕ). key_has (file_in a.file.now) k restricted) c.signing_key_of-key.ensures) c.message_of-message.ensures c.known_unless.ensures (c.if-not-known_unless.false)) in
     let passes_3 : (let a = c.args in (view a.state.now).table a.party (signing_key (file_in a.file.now) a.r) ≡ true) = (let a = c.args in
-      of_read ((view a.state.now).table a.party) c.signing_key_of-key.ensures c.in_table.ensures (c.if-not-in_table.false)) in
+    of_read ((view a.state.now).table a.party) c.signing_key_of-key.ensures c.in_table.ensures (c.if-not-in_table.false)) in
     let passes_4 : (let a = c.args in key_has (file_in a.file.now) (signing_key (file_in a.file.now) a.r) sign ≡ true) = (let a = c.args in
-      of_read (λ (k : ℕ). key_has (file_in a.file.now) k sign) c.signing_key_of-key.ensures c.key_has.ensures (c.if-not-key_has.false)) in
+    of_read (λ (k : ℕ). key_has (file_in a.file.now) k sign) c.signing_key_of-key.ensures c.key_has.ensures (c.if-not-key_has.false)) in
     let a = c.args in
     sym (sign_chain (file_in a.file.now) (state_of (view a.state.now) ledger) a.party a.r
     ∙ chain_passes 13 _ _ passes_1
@@ -143,13 +143,13 @@ pub returns-then-not-in_table-2 : goal.returns-then-not-in_table-2
 returns-then-not-in_table-2 c ledger =
     let passes_1 : (let a = c.args in is_role (file_in a.file.now) device a.party ≡ true) = (sym c.is_role.ensures ∙ c.if-not-is_role.false) in
     let passes_2 : (let a = c.args in (key_has (file_in a.file.now) (signing_key (file_in a.file.now) a.r) restricted || (view a.state.now).knows a.party (message (file_in a.file.now) a.r)) ≡ true) = (let a = c.args in
-      either_read ((view a.state.now).knows a.party) (c.key_has-restricted.ensures ∙ ap (λ (k : ℕ). key_has (file_in a.file.now) k restricted) c.signing_key_of-key.ensures) c.message_of-message.ensures c.known_unless.ensures (c.if-not-known_unless.false)) in
+    either_read ((view a.state.now).knows a.party) (c.key_has-restricted.ensures ∙ ap (λ (k : ℕ). key_has (file_in a.file.now) k restricted) c.signing_key_of-key.ensures) c.message_of-message.ensures c.known_unless.ensures (c.if-not-known_unless.false)) in
     let passes_3 : (let a = c.args in (view a.state.now).table a.party (signing_key (file_in a.file.now) a.r) ≡ true) = (let a = c.args in
-      of_read ((view a.state.now).table a.party) c.signing_key_of-key.ensures c.in_table.ensures (c.if-not-in_table.false)) in
+    of_read ((view a.state.now).table a.party) c.signing_key_of-key.ensures c.in_table.ensures (c.if-not-in_table.false)) in
     let passes_4 : (let a = c.args in key_has (file_in a.file.now) (signing_key (file_in a.file.now) a.r) sign ≡ true) = (let a = c.args in
-      of_read (λ (k : ℕ). key_has (file_in a.file.now) k sign) c.signing_key_of-key.ensures c.key_has.ensures (c.if-not-key_has.false)) in
+    of_read (λ (k : ℕ). key_has (file_in a.file.now) k sign) c.signing_key_of-key.ensures c.key_has.ensures (c.if-not-key_has.false)) in
     let passes_6 : (let a = c.args in (not (key_has (file_in a.file.now) (signing_key (file_in a.file.now) a.r) restricted) || is_kind (file_in a.file.now) hash_kind (message (file_in a.file.now) a.r)) ≡ true) = (let a = c.args in
-      unless (of_read (λ (k : ℕ). key_has (file_in a.file.now) k restricted) c.signing_key_of-key.ensures c.key_has-restricted.ensures (c.if-not-restricted.false)) (of_read (is_kind (file_in a.file.now) hash_kind) c.message_of-message.ensures c.is_kind.ensures (c.if-not-is_kind.false))) in
+    unless (of_read (λ (k : ℕ). key_has (file_in a.file.now) k restricted) c.signing_key_of-key.ensures c.key_has-restricted.ensures (c.if-not-restricted.false)) (of_read (is_kind (file_in a.file.now) hash_kind) c.message_of-message.ensures c.is_kind.ensures (c.if-not-is_kind.false))) in
     let a = c.args in
     sym (sign_chain (file_in a.file.now) (state_of (view a.state.now) ledger) a.party a.r
     ∙ chain_passes 13 _ _ passes_1
@@ -163,15 +163,15 @@ pub returns : goal.returns
 returns c ledger =
     let passes_1 : (let a = c.args in is_role (file_in a.file.now) device a.party ≡ true) = (sym c.is_role.ensures ∙ c.if-not-is_role.false) in
     let passes_2 : (let a = c.args in (key_has (file_in a.file.now) (signing_key (file_in a.file.now) a.r) restricted || (view a.state.now).knows a.party (message (file_in a.file.now) a.r)) ≡ true) = (let a = c.args in
-      either_read ((view a.state.now).knows a.party) (c.key_has-restricted.ensures ∙ ap (λ (k : ℕ). key_has (file_in a.file.now) k restricted) c.signing_key_of-key.ensures) c.message_of-message.ensures c.known_unless.ensures (c.if-not-known_unless.false)) in
+    either_read ((view a.state.now).knows a.party) (c.key_has-restricted.ensures ∙ ap (λ (k : ℕ). key_has (file_in a.file.now) k restricted) c.signing_key_of-key.ensures) c.message_of-message.ensures c.known_unless.ensures (c.if-not-known_unless.false)) in
     let passes_3 : (let a = c.args in (view a.state.now).table a.party (signing_key (file_in a.file.now) a.r) ≡ true) = (let a = c.args in
-      of_read ((view a.state.now).table a.party) c.signing_key_of-key.ensures c.in_table.ensures (c.if-not-in_table.false)) in
+    of_read ((view a.state.now).table a.party) c.signing_key_of-key.ensures c.in_table.ensures (c.if-not-in_table.false)) in
     let passes_4 : (let a = c.args in key_has (file_in a.file.now) (signing_key (file_in a.file.now) a.r) sign ≡ true) = (let a = c.args in
-      of_read (λ (k : ℕ). key_has (file_in a.file.now) k sign) c.signing_key_of-key.ensures c.key_has.ensures (c.if-not-key_has.false)) in
+    of_read (λ (k : ℕ). key_has (file_in a.file.now) k sign) c.signing_key_of-key.ensures c.key_has.ensures (c.if-not-key_has.false)) in
     let passes_6 : (let a = c.args in (not (key_has (file_in a.file.now) (signing_key (file_in a.file.now) a.r) restricted) || is_kind (file_in a.file.now) hash_kind (message (file_in a.file.now) a.r)) ≡ true) = (let a = c.args in
-      unless (of_read (λ (k : ℕ). key_has (file_in a.file.now) k restricted) c.signing_key_of-key.ensures c.key_has-restricted.ensures (c.if-not-restricted.false)) (of_read (is_kind (file_in a.file.now) hash_kind) c.message_of-message.ensures c.is_kind.ensures (c.if-not-is_kind.false))) in
+    unless (of_read (λ (k : ℕ). key_has (file_in a.file.now) k restricted) c.signing_key_of-key.ensures c.key_has-restricted.ensures (c.if-not-restricted.false)) (of_read (is_kind (file_in a.file.now) hash_kind) c.message_of-message.ensures c.is_kind.ensures (c.if-not-is_kind.false))) in
     let passes_7 : (let a = c.args in (not (key_has (file_in a.file.now) (signing_key (file_in a.file.now) a.r) restricted) || (view a.state.now).table a.party (message (file_in a.file.now) a.r)) ≡ true) = (let a = c.args in
-      unless (of_read (λ (k : ℕ). key_has (file_in a.file.now) k restricted) c.signing_key_of-key.ensures c.key_has-restricted.ensures (c.if-not-restricted.false)) (of_read ((view a.state.now).table a.party) c.message_of-message.ensures c.in_table-2.ensures (c.if-not-in_table-2.false))) in
+    unless (of_read (λ (k : ℕ). key_has (file_in a.file.now) k restricted) c.signing_key_of-key.ensures c.key_has-restricted.ensures (c.if-not-restricted.false)) (of_read ((view a.state.now).table a.party) c.message_of-message.ensures c.in_table-2.ensures (c.if-not-in_table-2.false))) in
     let a = c.args in
     sym (sign_chain (file_in a.file.now) (state_of (view a.state.now) ledger) a.party a.r
     ∙ chain_passes 13 _ _ passes_1

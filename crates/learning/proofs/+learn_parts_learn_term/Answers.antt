@@ -48,19 +48,19 @@ learn_parts-returns-else-not-knows t c = parts_one _ _ _ _ (sym c.in-One.ensures
 pub learn_parts-returns-then-not-knows-3 : goal.learn_parts-returns-then-not-knows-3
 learn_parts-returns-then-not-knows-3 t c =
     let first : view c.if-not-knows-2.state ≡ learned (tables_in c.args.tables.now).terms c.args.party c.in-Two.a (view c.args.state.now) =
-      elim c.if-not-knows-2.branch [
-        learn_parts-then-not-knows-2 w ↦ ap view w.state-is ∙ w.learn_term-then-not-knows-2.ensures
+    elim c.if-not-knows-2.branch [
+      | learn_parts-then-not-knows-2 w ↦ ap view w.state-is ∙ w.learn_term-then-not-knows-2.ensures
       | learn_parts-else-not-knows-2 w ↦ ap view w.state-is ∙ learn_known _ _ _ _ (sym c.knows-in-Two.ensures ∙ w.if-not-knows-2.false)
-      ] in
+    ] in
     parts_two _ _ _ _ (sym c.in-Two.ensures) first c.learn_term-then-not-knows-3.ensures
 
 pub learn_parts-returns-else-not-knows-3 : goal.learn_parts-returns-else-not-knows-3
 learn_parts-returns-else-not-knows-3 t c =
     let first : view c.if-not-knows-2.state ≡ learned (tables_in c.args.tables.now).terms c.args.party c.in-Two.a (view c.args.state.now) =
-      elim c.if-not-knows-2.branch [
-        learn_parts-then-not-knows-2 w ↦ ap view w.state-is ∙ w.learn_term-then-not-knows-2.ensures
+    elim c.if-not-knows-2.branch [
+      | learn_parts-then-not-knows-2 w ↦ ap view w.state-is ∙ w.learn_term-then-not-knows-2.ensures
       | learn_parts-else-not-knows-2 w ↦ ap view w.state-is ∙ learn_known _ _ _ _ (sym c.knows-in-Two.ensures ∙ w.if-not-knows-2.false)
-      ] in
+    ] in
     parts_two _ _ _ _ (sym c.in-Two.ensures) first (learn_known _ _ _ _ (sym c.knows-in-Two-2.ensures ∙ c.if-not-knows-3.false))
 
 pub learn_term-returns-then-knows : goal.learn_term-returns-then-knows

@@ -67,7 +67,7 @@ pub returns-then-shown-first : goal.returns-then-shown-first
 returns-then-shown-first c ledger =
     let passes_1 : (let a = c.args in is_role (file_in a.file.now) device a.party ≡ true) = (sym c.is_role.ensures ∙ c.if-not-is_role.false) in
     let passes_2 : (let a = c.args in (view a.state.now).knows a.party (right_of (file_in a.file.now) (hashed_term (file_in a.file.now) a.r)) ≡ true) = (let a = c.args in
-      of_read ((view a.state.now).knows a.party) (c.right_of-second.ensures ∙ ap (right_of (file_in a.file.now)) c.hashed_term-content.ensures) c.knows.ensures (c.if-not-knows.false)) in
+    of_read ((view a.state.now).knows a.party) (c.right_of-second.ensures ∙ ap (right_of (file_in a.file.now)) c.hashed_term-content.ensures) c.knows.ensures (c.if-not-knows.false)) in
     let a = c.args in
     let first = c.left_of-first.ensures ∙ ap (left_of (file_in a.file.now)) c.hashed_term-content.ensures in
     sym (extend_chain (file_in a.file.now) (beside (registers_in a.registers.now) (state_of (view a.state.now) ledger)) a.party a.i a.r
@@ -79,7 +79,7 @@ pub returns : goal.returns
 returns c ledger =
     let passes_1 : (let a = c.args in is_role (file_in a.file.now) device a.party ≡ true) = (sym c.is_role.ensures ∙ c.if-not-is_role.false) in
     let passes_2 : (let a = c.args in (view a.state.now).knows a.party (right_of (file_in a.file.now) (hashed_term (file_in a.file.now) a.r)) ≡ true) = (let a = c.args in
-      of_read ((view a.state.now).knows a.party) (c.right_of-second.ensures ∙ ap (right_of (file_in a.file.now)) c.hashed_term-content.ensures) c.knows.ensures (c.if-not-knows.false)) in
+    of_read ((view a.state.now).knows a.party) (c.right_of-second.ensures ∙ ap (right_of (file_in a.file.now)) c.hashed_term-content.ensures) c.knows.ensures (c.if-not-knows.false)) in
     let a = c.args in
     let first = c.left_of-first.ensures ∙ ap (left_of (file_in a.file.now)) c.hashed_term-content.ensures in
     sym (extend_chain (file_in a.file.now) (beside (registers_in a.registers.now) (state_of (view a.state.now) ledger)) a.party a.i a.r

@@ -70,7 +70,7 @@ pub returns-then-not-in_table : goal.returns-then-not-in_table
 returns-then-not-in_table c ledger =
     let passes_1 : (let a = c.args in is_role (file_in a.file.now) device a.party ≡ true) = (sym c.is_role.ensures ∙ c.if-not-is_role.false) in
     let passes_2 : (let a = c.args in (view a.state.now).knows a.party (quote_number (file_in a.file.now) (message (file_in a.file.now) a.r)) ≡ true) = (let a = c.args in
-      of_read ((view a.state.now).knows a.party) (c.quote_number_of-number.ensures ∙ ap (quote_number (file_in a.file.now)) c.message_of-message.ensures) c.knows.ensures (c.if-not-knows.false)) in
+    of_read ((view a.state.now).knows a.party) (c.quote_number_of-number.ensures ∙ ap (quote_number (file_in a.file.now)) c.message_of-message.ensures) c.knows.ensures (c.if-not-knows.false)) in
     let a = c.args in
     sym (quote_chain (file_in a.file.now) (beside (registers_in a.registers.now) (state_of (view a.state.now) ledger)) a.party a.r
     ∙ chain_passes 13 _ _ passes_1
@@ -87,9 +87,9 @@ pub returns-then-not-key_has : goal.returns-then-not-key_has
 returns-then-not-key_has c ledger =
     let passes_1 : (let a = c.args in is_role (file_in a.file.now) device a.party ≡ true) = (sym c.is_role.ensures ∙ c.if-not-is_role.false) in
     let passes_2 : (let a = c.args in (view a.state.now).knows a.party (quote_number (file_in a.file.now) (message (file_in a.file.now) a.r)) ≡ true) = (let a = c.args in
-      of_read ((view a.state.now).knows a.party) (c.quote_number_of-number.ensures ∙ ap (quote_number (file_in a.file.now)) c.message_of-message.ensures) c.knows.ensures (c.if-not-knows.false)) in
+    of_read ((view a.state.now).knows a.party) (c.quote_number_of-number.ensures ∙ ap (quote_number (file_in a.file.now)) c.message_of-message.ensures) c.knows.ensures (c.if-not-knows.false)) in
     let passes_3 : (let a = c.args in (view a.state.now).table a.party (signing_key (file_in a.file.now) a.r) ≡ true) = (let a = c.args in
-      of_read ((view a.state.now).table a.party) c.signing_key_of-key.ensures c.in_table.ensures (c.if-not-in_table.false)) in
+    of_read ((view a.state.now).table a.party) c.signing_key_of-key.ensures c.in_table.ensures (c.if-not-in_table.false)) in
     let a = c.args in
     sym (quote_chain (file_in a.file.now) (beside (registers_in a.registers.now) (state_of (view a.state.now) ledger)) a.party a.r
     ∙ chain_passes 13 _ _ passes_1
@@ -107,11 +107,11 @@ pub returns-then-not-key_has-2 : goal.returns-then-not-key_has-2
 returns-then-not-key_has-2 c ledger =
     let passes_1 : (let a = c.args in is_role (file_in a.file.now) device a.party ≡ true) = (sym c.is_role.ensures ∙ c.if-not-is_role.false) in
     let passes_2 : (let a = c.args in (view a.state.now).knows a.party (quote_number (file_in a.file.now) (message (file_in a.file.now) a.r)) ≡ true) = (let a = c.args in
-      of_read ((view a.state.now).knows a.party) (c.quote_number_of-number.ensures ∙ ap (quote_number (file_in a.file.now)) c.message_of-message.ensures) c.knows.ensures (c.if-not-knows.false)) in
+    of_read ((view a.state.now).knows a.party) (c.quote_number_of-number.ensures ∙ ap (quote_number (file_in a.file.now)) c.message_of-message.ensures) c.knows.ensures (c.if-not-knows.false)) in
     let passes_3 : (let a = c.args in (view a.state.now).table a.party (signing_key (file_in a.file.now) a.r) ≡ true) = (let a = c.args in
-      of_read ((view a.state.now).table a.party) c.signing_key_of-key.ensures c.in_table.ensures (c.if-not-in_table.false)) in
+    of_read ((view a.state.now).table a.party) c.signing_key_of-key.ensures c.in_table.ensures (c.if-not-in_table.false)) in
     let passes_4 : (let a = c.args in key_has (file_in a.file.now) (signing_key (file_in a.file.now) a.r) sign ≡ true) = (let a = c.args in
-      of_read (λ (k : ℕ). key_has (file_in a.file.now) k sign) c.signing_key_of-key.ensures c.key_has.ensures (c.if-not-key_has.false)) in
+    of_read (λ (k : ℕ). key_has (file_in a.file.now) k sign) c.signing_key_of-key.ensures c.key_has.ensures (c.if-not-key_has.false)) in
     let a = c.args in
     sym (quote_chain (file_in a.file.now) (beside (registers_in a.registers.now) (state_of (view a.state.now) ledger)) a.party a.r
     ∙ chain_passes 13 _ _ passes_1
@@ -139,13 +139,13 @@ pub returns-then-shown-value : goal.returns-then-shown-value
 returns-then-shown-value c ledger =
     let passes_1 : (let a = c.args in is_role (file_in a.file.now) device a.party ≡ true) = (sym c.is_role.ensures ∙ c.if-not-is_role.false) in
     let passes_2 : (let a = c.args in (view a.state.now).knows a.party (quote_number (file_in a.file.now) (message (file_in a.file.now) a.r)) ≡ true) = (let a = c.args in
-      of_read ((view a.state.now).knows a.party) (c.quote_number_of-number.ensures ∙ ap (quote_number (file_in a.file.now)) c.message_of-message.ensures) c.knows.ensures (c.if-not-knows.false)) in
+    of_read ((view a.state.now).knows a.party) (c.quote_number_of-number.ensures ∙ ap (quote_number (file_in a.file.now)) c.message_of-message.ensures) c.knows.ensures (c.if-not-knows.false)) in
     let passes_3 : (let a = c.args in (view a.state.now).table a.party (signing_key (file_in a.file.now) a.r) ≡ true) = (let a = c.args in
-      of_read ((view a.state.now).table a.party) c.signing_key_of-key.ensures c.in_table.ensures (c.if-not-in_table.false)) in
+    of_read ((view a.state.now).table a.party) c.signing_key_of-key.ensures c.in_table.ensures (c.if-not-in_table.false)) in
     let passes_4 : (let a = c.args in key_has (file_in a.file.now) (signing_key (file_in a.file.now) a.r) sign ≡ true) = (let a = c.args in
-      of_read (λ (k : ℕ). key_has (file_in a.file.now) k sign) c.signing_key_of-key.ensures c.key_has.ensures (c.if-not-key_has.false)) in
+    of_read (λ (k : ℕ). key_has (file_in a.file.now) k sign) c.signing_key_of-key.ensures c.key_has.ensures (c.if-not-key_has.false)) in
     let passes_5 : (let a = c.args in key_has (file_in a.file.now) (signing_key (file_in a.file.now) a.r) restricted ≡ true) = (let a = c.args in
-      of_read (λ (k : ℕ). key_has (file_in a.file.now) k restricted) c.signing_key_of-key.ensures c.key_has-2.ensures (c.if-not-key_has-2.false)) in
+    of_read (λ (k : ℕ). key_has (file_in a.file.now) k restricted) c.signing_key_of-key.ensures c.key_has-2.ensures (c.if-not-key_has-2.false)) in
     let a = c.args in
     let f = file_in a.file.now in
     let shows = c.shown.ensures ∙ ap (registers_in a.registers.now a.party) (c.register_of-i.ensures ∙ ap (register_of f) c.message_of-message.ensures) in
@@ -162,13 +162,13 @@ pub returns : goal.returns
 returns c ledger =
     let passes_1 : (let a = c.args in is_role (file_in a.file.now) device a.party ≡ true) = (sym c.is_role.ensures ∙ c.if-not-is_role.false) in
     let passes_2 : (let a = c.args in (view a.state.now).knows a.party (quote_number (file_in a.file.now) (message (file_in a.file.now) a.r)) ≡ true) = (let a = c.args in
-      of_read ((view a.state.now).knows a.party) (c.quote_number_of-number.ensures ∙ ap (quote_number (file_in a.file.now)) c.message_of-message.ensures) c.knows.ensures (c.if-not-knows.false)) in
+    of_read ((view a.state.now).knows a.party) (c.quote_number_of-number.ensures ∙ ap (quote_number (file_in a.file.now)) c.message_of-message.ensures) c.knows.ensures (c.if-not-knows.false)) in
     let passes_3 : (let a = c.args in (view a.state.now).table a.party (signing_key (file_in a.file.now) a.r) ≡ true) = (let a = c.args in
-      of_read ((view a.state.now).table a.party) c.signing_key_of-key.ensures c.in_table.ensures (c.if-not-in_table.false)) in
+    of_read ((view a.state.now).table a.party) c.signing_key_of-key.ensures c.in_table.ensures (c.if-not-in_table.false)) in
     let passes_4 : (let a = c.args in key_has (file_in a.file.now) (signing_key (file_in a.file.now) a.r) sign ≡ true) = (let a = c.args in
-      of_read (λ (k : ℕ). key_has (file_in a.file.now) k sign) c.signing_key_of-key.ensures c.key_has.ensures (c.if-not-key_has.false)) in
+    of_read (λ (k : ℕ). key_has (file_in a.file.now) k sign) c.signing_key_of-key.ensures c.key_has.ensures (c.if-not-key_has.false)) in
     let passes_5 : (let a = c.args in key_has (file_in a.file.now) (signing_key (file_in a.file.now) a.r) restricted ≡ true) = (let a = c.args in
-      of_read (λ (k : ℕ). key_has (file_in a.file.now) k restricted) c.signing_key_of-key.ensures c.key_has-2.ensures (c.if-not-key_has-2.false)) in
+    of_read (λ (k : ℕ). key_has (file_in a.file.now) k restricted) c.signing_key_of-key.ensures c.key_has-2.ensures (c.if-not-key_has-2.false)) in
     let a = c.args in
     let f = file_in a.file.now in
     let shows = c.shown.ensures ∙ ap (registers_in a.registers.now a.party) (c.register_of-i.ensures ∙ ap (register_of f) c.message_of-message.ensures) in

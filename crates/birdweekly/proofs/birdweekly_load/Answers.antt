@@ -6,8 +6,7 @@ use Rattle.rules.specs.declared.LoadAnswer.{LoadAnswer}
 use Rattle.rules.specs.declared.LoadAnswer.TheVariants.{Loaded, Refused}
 use Rattle.rules.specs.Lent.{Answer, load_in_numbers}
 use Rattle.birdweekly.specs.Numbers.{load_numbers}
-use Rattle.birdweekly.proofs.birdweekly_load.Statement.{statement}
-use Rattle.birdweekly.proofs.birdweekly_load.Tie as tie
+use Rattle.birdweekly.proofs.birdweekly_load.Goals as goal
 
 -- the struct of an answer
 loaded-numbers : {x : LoadAnswer} {a : Answer} (p t c : ℕ) → load_in_numbers x ≡ a → x ≡ Loaded p t c → record { number = 0; place = 0; parties = p; terms = t; commands = c } ≡ load_numbers a
@@ -18,39 +17,8 @@ refused_numbers : {x : LoadAnswer} {a : Answer} (n at : ℕ) → load_in_numbers
 unfolding load_in_numbers
 refused_numbers n at e q = ap (λ (y : LoadAnswer). load_numbers (load_in_numbers y)) (sym q) ∙ ap load_numbers e
 
-load-requires : tie.Need-load-requires
-load-requires c κs = search rules
+pub returns-in-Loaded : goal.returns-in-Loaded
+returns-in-Loaded c = record { answer = loaded-numbers _ _ _ c.load-answer.ensures.answer c.in-Loaded.is; left = c.load-answer.ensures.left }
 
-enum-known-answer : tie.Need-enum-known-answer
-enum-known-answer c = search rules
-
-enum-known-answer-2 : tie.Need-enum-known-answer-2
-enum-known-answer-2 c = search rules
-
-same_length : tie.Need-same-length
-same_length c = search rules
-
-returns : tie.Need-returns
-returns c =
-    let l = c.before.before.before.before.before.load.ensures in
-    (loaded-numbers _ _ _ l.0 c.before.answer.given.1, l.1)
-
-same-length-2 : tie.Need-same-length-2
-same-length-2 c = search rules
-
-returns-2 : tie.Need-returns-2
-returns-2 c =
-    let l = c.before.before.before.before.before.load.ensures in
-    (refused_numbers _ _ l.0 c.before.answer2.given.1, l.1)
-
-pub birdweekly-load-spec : {M : Type 1} → statement M
-birdweekly-load-spec =
-    tie.close
-    (tie.spec
-    load-requires
-    enum-known-answer
-    enum-known-answer-2
-    same_length
-    returns
-    same-length-2
-    returns-2)
+pub returns-in-Refused : goal.returns-in-Refused
+returns-in-Refused c = record { answer = refused_numbers _ _ c.load-answer.ensures.answer c.in-Refused.is; left = c.load-answer.ensures.left }

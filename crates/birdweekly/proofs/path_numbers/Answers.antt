@@ -6,8 +6,7 @@ use Rattle.rules.specs.declared.PathAnswer.{PathAnswer}
 use Rattle.rules.specs.declared.PathAnswer.TheVariants.{Steps, Refused}
 use Rattle.rules.specs.Lent.{path_in_numbers}
 use Rattle.birdweekly.specs.Numbers.{path_numbers}
-use Rattle.birdweekly.proofs.path_numbers.Statement.{statement}
-use Rattle.birdweekly.proofs.path_numbers.Tie as tie
+use Rattle.birdweekly.proofs.path_numbers.Goals as goal
 
 steps-numbers : {x : PathAnswer} (n : ℕ) → x ≡ Steps n → record { number = 0; place = 0; steps = n } ≡ path_numbers (path_in_numbers x)
 unfolding path_in_numbers
@@ -17,17 +16,8 @@ refused_numbers : {x : PathAnswer} (n at : ℕ) → x ≡ Refused n at → recor
 unfolding path_in_numbers
 refused_numbers n at q = sym (ap (λ (y : PathAnswer). path_numbers (path_in_numbers y)) q)
 
-enum-known-answer : tie.Need-enum-known-answer
-enum-known-answer c = search rules
+pub returns-in-Steps : goal.returns-in-Steps
+returns-in-Steps c = steps-numbers _ c.in-Steps.is
 
-enum-known-answer-2 : tie.Need-enum-known-answer-2
-enum-known-answer-2 c = search rules
-
-returns : tie.Need-returns
-returns c = steps-numbers _ c.before.answer.given.1
-
-returns-2 : tie.Need-returns-2
-returns-2 c = refused_numbers _ _ c.before.answer2.given.1
-
-pub path-numbers-spec : {M : Type 1} → statement M
-path-numbers-spec = tie.close (tie.spec enum-known-answer enum-known-answer-2 returns returns-2)
+pub returns-in-Refused : goal.returns-in-Refused
+returns-in-Refused c = refused_numbers _ _ c.in-Refused.is

@@ -3,18 +3,11 @@ use mathlib.Core.Path.{ap}
 use borrow.Author.Rules.{rules}
 use Rattle.birdweekly.specs.declared.Numbers.{Numbers}
 use Rattle.birdweekly.specs.declared.RunNumbers.{RunNumbers}
-use Rattle.birdweekly.proofs.run_numbers.Statement.{statement}
-use Rattle.birdweekly.proofs.run_numbers.Tie as tie
+use Rattle.birdweekly.proofs.run_numbers.Goals as goal
 
 named : Numbers → RunNumbers
 named m = record { number = m.number; place = m.place; accepted = m.first; refused = m.second; issued = m.third }
 
-in-numbers-requires : tie.Need-in-numbers-requires
-in-numbers-requires c κs = search rules
-
-returns : tie.Need-returns
+pub returns : goal.returns
 unfolding named
-returns c = ap named c.in-numbers.ensures
-
-pub run-numbers-spec : {M : Type 1} → statement M
-run-numbers-spec = tie.close (tie.spec in-numbers-requires returns)
+returns c = ap named c.in_numbers-n.ensures
