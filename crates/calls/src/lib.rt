@@ -1,4 +1,4 @@
-// The calls on a lent slice of entries, walked by hand: Run and what is asked after it, and Path. `entry` reads one of them.
+// The calls on a lent slice of entries: Run and what is asked after it, and Path. `entry` reads one of them.
 #![tactic(auto)]
 
 ghost use Rattle.std.specs.Prelude.{◌≡◌, get_or};

@@ -1,4 +1,4 @@
-// The loop over commands on the lent ledger, by hand: a turn each, and what it gains is appended.
+// The loop over commands on the lent ledger: a turn each, and what it gains is appended.
 #![tactic(auto)]
 
 ghost use Rattle.std.specs.Prelude.{◌≡◌};

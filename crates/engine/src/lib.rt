@@ -1,4 +1,4 @@
-// Run on a lent slice of entries, by hand: what is found before the first command, the ledger's places cleared, and the loop over commands.
+// Run on a lent slice of entries: what is found before the first command, the ledger's places cleared, and the loop over commands.
 #![tactic(auto)]
 
 ghost use Rattle.std.specs.Prelude.{◌≡◌, ◌≤◌, length};

@@ -62,7 +62,7 @@ fn no_entry() -> Entry
     }
 }
 
-// Fills a buffer with the listing of a file, with a ledger of its own, walked by hand.
+// Fills a buffer with the listing of a file, with a ledger of its own.
 fn list_with(
     file: &[u8],
     state: &mut [u8],

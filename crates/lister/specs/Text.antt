@@ -1,5 +1,5 @@
 -- How much room lines take, and a listing in lent bytes.
-use Rattle.std.specs.Prelude.{◌≡◌, List, ℕ, ◌+◌, ◌*◌, ◌≤◌, length, take, drop}
+use Rattle.std.specs.Prelude.{◌≡◌, List, ℕ, ◌+◌, ◌*◌, ◌≤◌, take, drop}
 use Rattle.rules.specs.Limits.{command_limit, term_limit}
 
 -- bytes of the longest lines of a refused command, of an entry, of the totals and of a file that is not loaded:

@@ -130,7 +130,7 @@ pub fn ledger_line(out: &mut [u8], at: usize, e: Entry) -> usize
     entry_line(out, at, e.certificate, e.parent, e.depth)
 }
 
-// The lines of the first entries of a ledger, walked by hand.
+// The lines of the first entries of a ledger.
 pub fn entries_into(ledger: &[Entry], out: &mut [u8], at: usize, issued: usize) -> usize
     requires { (issued ≤ length ledger.now) × (at + entry_bytes * issued ≤ length out.old) }
     ensures { Written out.old at (entry_lines (take issued ledger.now)) out.new result × (result ≤ at + entry_bytes * issued) }

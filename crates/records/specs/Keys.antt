@@ -1,5 +1,5 @@
 -- A term's fields as one number, by which terms are looked for.
-use Rattle.std.specs.Prelude.{◌≡◌, List, ℕ, ◌+◌, ◌*◌, ◌<◌, ◌≤◌, get_or}
+use Rattle.std.specs.Prelude.{List, ℕ, ◌+◌, ◌*◌, ◌<◌, get_or}
 use Rattle.rules.specs.declared.Term.{Term}
 use Rattle.rules.specs.Term.{fields_in}
 use Rattle.records.specs.declared.Words.{Words}

@@ -1,5 +1,5 @@
 -- Device commands and checks (document 01, "Device commands", "Checks and listing"): what each asks, and what it changes.
-use Rattle.std.specs.Prelude.{Bool, true, cond, not, ◌&&◌, ◌||◌, List, [], ◌∷◌, ℕ, eqb}
+use Rattle.std.specs.Prelude.{Bool, cond, not, ◌&&◌, ◌||◌, List, [], ◌∷◌, ℕ, eqb}
 use Rattle.rules.specs.Limits.{device, oem_desk, owner_desk}
 use Rattle.rules.specs.Refusals.{Test, need}
 use Rattle.rules.specs.Attributes as flag

@@ -1,5 +1,5 @@
 -- Loading (document 01, "The scenario file", "Terms", "Set-up"): refusals 2 to 12, in the order that "When the desk says no" gives.
-use Rattle.std.specs.Prelude.{Bool, true, cond, not, ◌&&◌, ◌||◌, List, [], ◌∷◌, ◌++◌, reverse, ℕ, zero, suc, ◌+◌, eqb, ltb, leb, get_or, length}
+use Rattle.std.specs.Prelude.{Bool, cond, not, ◌&&◌, ◌||◌, List, [], ◌∷◌, ◌++◌, reverse, ℕ, zero, suc, ◌+◌, eqb, ltb, leb, get_or, length}
 use Rattle.rules.specs.declared.Subject.{Subject}
 use Rattle.rules.specs.declared.Subject.TheVariants.{Tpm, Device}
 use Rattle.rules.specs.declared.Term.{Term}

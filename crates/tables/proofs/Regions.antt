@@ -18,7 +18,7 @@ use lib.Seq.{get_or-set_same, get_or-set_other}
 use borrow.Author.Tests.{ltb-true, ltb-false, lt-ltb, eqb-true, eqb-false}
 use Rattle.rules.specs.Limits.{party_limit, term_limit}
 use Rattle.rules.specs.State.{put}
-use Rattle.tables.specs.Regions.{signer_start, half_start, entry_start, depth_start, kind_start, field_words, field_start, newest_start, serial_buckets, serial_bucket, serial_start, earlier_start, ek_start, table_words, EmptyTables, region, Boards, boards_in, Unlinked, Terms, terms_in, Tables, tables_in, with_signer, with_half, with_entry, with_depth, with_terms, with_boards, with_kind, with_field, with_ek, linked}
+use Rattle.tables.specs.Regions.{signer_start, half_start, entry_start, depth_start, kind_start, field_words, field_start, newest_start, serial_buckets, serial_bucket, serial_start, earlier_start, ek_start, table_words, EmptyTables, region, Boards, boards_in, Unlinked, terms_in, Tables, tables_in, with_signer, with_half, with_entry, with_depth, with_terms, with_boards, with_kind, with_field, with_ek, linked}
 
 pub region_at : (xs : List ℕ) (start size i : ℕ) → i < size → get_or xs (start + i) 0 ≡ region xs start size i
 unfolding region

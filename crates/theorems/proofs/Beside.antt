@@ -4,13 +4,11 @@
 --     outcome-beside, effect-beside   what such a command decides and leaves
 --     invariant-beside                what holds of every state holds beside other registers that show what they may
 -- Assumes nothing.
-use mathlib.Core.Path.{◌≡◌, refl, ap, sym, ◌∙◌}
+use mathlib.Core.Path.{◌≡◌, refl}
 use mathlib.Core.Logic.{⊎_elim, inl, inr}
 use mathlib.Core.Bool.{Bool, true, false, cond}
-use mathlib.Core.List.{List, [], ◌∷◌, ◌++◌}
+use mathlib.Core.List.{List, [], ◌∷◌}
 use Prim.Native.Nat.{ℕ}
-use lib.Dec.{eqb}
-use Rattle.rules.specs.Refusals.{Test, refusal_of}
 use Rattle.rules.specs.File.{File, Command, IakPair, hash, sign, certify, make_credential, activate_credential, make_idevid_request, make_ldevid_request, make_pair, check_hash, check_signature, check_certificate, check_attributes, send, self_issue, challenge, issue_iak, issue, issue_iaks, extend, quote, hashed_term}
 use Rattle.rules.specs.State.{State, learnt, ticketed, opening, closing, entered}
 use Rattle.rules.specs.Device.{no_ticket, hash_effect, hash_tests, sign_tests, certify_tests, make_credential_tests, activate_credential_tests, both_known_tests, send_tests, self_issue_tests, check_tests, holds_half}

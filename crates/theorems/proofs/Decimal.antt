@@ -15,7 +15,7 @@ use lib.ListN.{length}
 use borrow.Author.Tests.{ltb-true, ltb-false, lt-ltb}
 use Rattle.rules.specs.Listing.{digits, decimal}
 use Rattle.theorems.specs.Residency.{All}
-use Rattle.theorems.specs.Decimal.{zero_digit, Digit, read_back, NoZeroInFront, Numeral, DigitsOf, DecimalLaws, DigitsDetermined, DecimalOnly}
+use Rattle.theorems.specs.Decimal.{zero_digit, Digit, read_back, NoZeroInFront, Numeral, DecimalLaws, DigitsDetermined, DecimalOnly}
 
 -- digits give less than one more digit would
 pub read_below : (bs : List ℕ) → All Digit bs → read_back bs < 10 ^ length bs

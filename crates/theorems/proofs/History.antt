@@ -15,8 +15,8 @@ use borrow.Author.Tests.{eqb-true}
 use Rattle.rules.specs.declared.Entry.{Entry}
 use Rattle.rules.specs.declared.Family.{Family}
 use Rattle.rules.specs.Families.{iak_family}
-use Rattle.rules.specs.Term.{attest_kind, credential_kind, number_kind}
-use Rattle.rules.specs.File.{File, Command, hash, sign, certify, make_credential, activate_credential, make_idevid_request, make_ldevid_request, make_pair, check_hash, check_signature, check_certificate, check_attributes, send, self_issue, challenge, issue_iak, issue, issue_iaks, extend, quote, IakPair, kind, is_kind, hashed_term, credential_number}
+use Rattle.rules.specs.Term.{credential_kind, number_kind}
+use Rattle.rules.specs.File.{File, Command, hash, sign, certify, make_credential, activate_credential, make_idevid_request, make_ldevid_request, make_pair, check_hash, check_signature, check_certificate, check_attributes, send, self_issue, challenge, issue_iak, issue, issue_iaks, extend, quote, IakPair, kind, hashed_term, credential_number}
 use Rattle.rules.specs.Load.{commands_of}
 use Rattle.rules.specs.Learning.{Knowledge, each, learn}
 use Rattle.rules.specs.State.{State, start, number_used, credential_open, credential_closed, put, learnt, ticketed, opening, closing, entered, showing}

@@ -13,7 +13,7 @@ use lib.Dec.{eqb}
 use lib.ListN.{length}
 use borrow.Author.Tests.{eq-eqb, ne_eqb, eqb-true}
 use Rattle.rules.specs.Limits.{device, oem_desk, party_limit}
-use Rattle.rules.specs.Term.{hash_kind, attest_kind, credential_kind, number_kind}
+use Rattle.rules.specs.Term.{hash_kind, credential_kind, number_kind}
 use Rattle.rules.specs.File.{File, Command, hash, sign, certify, make_credential, activate_credential, make_idevid_request, make_ldevid_request, make_pair, check_hash, check_signature, check_certificate, check_attributes, send, self_issue, challenge, issue_iak, issue, issue_iaks, extend, quote, IakPair, role_of, kind, is_kind, hashed_term, credential_number}
 use Rattle.rules.specs.Learning.{Knowledge}
 use Rattle.rules.specs.State.{State, number_used, credential_open, credential_closed, put, start, learnt, ticketed, opening, closing, entered, showing}

@@ -1,10 +1,8 @@
-use borrow.Author.Rules.{rules}
-use mathlib.Core.Path.{◌≡◌, refl, sym, ◌∙◌}
-use Prim.Native.Nat.{◌-◌, ◌≤◌}
+use mathlib.Core.Path.{refl, sym, ◌∙◌}
+use Prim.Native.Nat.{◌-◌}
 use native.Mathlib.Omega.{arith}
 use Rattle.rules.specs.Limits.{term_limit}
-use Rattle.tables.specs.Regions.{tables_in}
-use Rattle.boards.specs.Linked.{walk, entry_of}
+use Rattle.boards.specs.Linked.{entry_of}
 use Rattle.boards.proofs.Walk.{walk_none, walk_here, walk_next}
 use Rattle.boards.proofs.entry_of.Goals as goal
 

@@ -1,11 +1,8 @@
-use borrow.Author.Rules.{rules}
-use mathlib.Core.Path.{◌≡◌, refl, sym, ◌∙◌}
-use Prim.Native.Nat.{◌-◌, ◌≤◌}
-use native.Mathlib.Omega.{arith}
+use mathlib.Core.Path.{◌≡◌}
+use Prim.Native.Nat.{◌≤◌}
 use Rattle.rules.specs.Limits.{term_limit}
 use Rattle.tables.specs.Regions.{tables_in}
 use Rattle.boards.specs.Linked.{walk, entry_of}
-use Rattle.boards.proofs.Walk.{walk_none, walk_here, walk_next}
 use Rattle.boards.proofs.entry_of.Given as goal
 
 abbrev pub invariant-loop-e : goal.invariant-loop-e

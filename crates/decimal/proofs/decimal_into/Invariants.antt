@@ -1,7 +1,5 @@
 use Prim.Native.Nat.{◌<◌}
-use native.Mathlib.Omega.{arith}
-use borrow.Author.Rules.{rules}
-use Rattle.decimal.proofs.Spelling.{decimal_short, Spelling, spelling_start, spelling_below, spelling_digit, spelling_room, spelling_next, spelling_last}
+use Rattle.decimal.proofs.Spelling.{Spelling}
 use Rattle.decimal.proofs.decimal_into.Given as goal
 
 abbrev pub invariant-loop-n : goal.invariant-loop-n

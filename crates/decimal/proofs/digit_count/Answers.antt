@@ -1,9 +1,8 @@
 use mathlib.Core.Path.{◌≡◌, ap}
-use Prim.Native.Nat.{ℕ, ◌-◌, ◌^◌}
+use Prim.Native.Nat.{ℕ, ◌^◌}
 use native.Mathlib.Omega.{arith}
-use borrow.Author.Rules.{rules}
 use Rattle.theorems.specs.Decimal.{digit_limit}
-use Rattle.decimal.proofs.Spelling.{Counting, counting_next, counting_end}
+use Rattle.decimal.proofs.Spelling.{counting_next, counting_end}
 use Rattle.decimal.proofs.digit_count.Goals as goal
 
 pub loop-n-init : goal.loop-n-init

@@ -1,9 +1,6 @@
-use mathlib.Core.Path.{◌≡◌, ap}
-use Prim.Native.Nat.{ℕ, ◌-◌, ◌^◌}
-use native.Mathlib.Omega.{arith}
-use borrow.Author.Rules.{rules}
+use Prim.Native.Nat.{◌-◌}
 use Rattle.theorems.specs.Decimal.{digit_limit}
-use Rattle.decimal.proofs.Spelling.{Counting, counting_next, counting_end}
+use Rattle.decimal.proofs.Spelling.{Counting}
 use Rattle.decimal.proofs.digit_count.Given as goal
 
 abbrev pub invariant-loop-n : goal.invariant-loop-n

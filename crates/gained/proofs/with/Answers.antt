@@ -1,4 +1,3 @@
-use borrow.Author.Rules.{rules}
 use Rattle.gained.proofs.Took.{adds}
 use Rattle.gained.proofs.with.Goals as goal
 

@@ -1,4 +1,4 @@
-use Rattle.std.proofs.Common.{refl, sym, ◌∙◌, arith}
+use Rattle.std.proofs.Common.{arith}
 use Rattle.ledger.proofs.Placed.{puts_begin, puts_next}
 use Rattle.ledger.proofs.append_gained.Goals as goal
 

@@ -1,4 +1,4 @@
-use Rattle.std.proofs.Common.{refl, sym, ◌∙◌, arith}
+use Rattle.std.proofs.Common.{arith}
 use Rattle.ledger.proofs.Placed.{clear_begin, clear_next}
 use Rattle.ledger.proofs.clear.Goals as goal
 

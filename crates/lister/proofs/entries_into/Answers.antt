@@ -1,5 +1,3 @@
-use Rattle.std.proofs.Common.{refl, arith}
-use Rattle.decimal.proofs.Writing.{written_length}
 use Rattle.lister.proofs.Parts.{lines_start, lines_room, lines_next, lines_end}
 use Rattle.lister.proofs.entries_into.Goals as goal
 

@@ -1,4 +1,4 @@
-use Rattle.std.proofs.Common.{◌≡◌, ◌-◌, length}
+use Rattle.std.proofs.Common.{◌-◌}
 use Rattle.lister.proofs.Parts.{Lines}
 use Rattle.lister.proofs.entries_into.Given as goal
 

@@ -1,5 +1,4 @@
 use native.Mathlib.Omega.{arith}
-use borrow.Author.Rules.{rules}
 use Rattle.lister.proofs.Room.{fault_short}
 use Rattle.lister.proofs.fault_line.Goals as goal
 

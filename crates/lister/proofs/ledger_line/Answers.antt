@@ -1,4 +1,3 @@
-use borrow.Author.Rules.{rules}
 use Rattle.lister.proofs.ledger_line.Goals as goal
 
 pub returns : goal.returns

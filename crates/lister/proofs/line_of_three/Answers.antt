@@ -1,4 +1,3 @@
-use borrow.Author.Rules.{rules}
 use Rattle.rules.specs.Listing.{line, numbers}
 use Rattle.decimal.proofs.Writing.{written_then}
 use Rattle.lister.proofs.Room.{letter_room, number_room, end_room, letter_then, number_then}

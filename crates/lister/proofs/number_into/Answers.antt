@@ -1,5 +1,4 @@
 use native.Mathlib.Omega.{arith}
-use borrow.Author.Rules.{rules}
 use Rattle.decimal.proofs.Writing.{written_then, written_length}
 use Rattle.lister.proofs.number_into.Goals as goal
 

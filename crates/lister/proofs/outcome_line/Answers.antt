@@ -1,5 +1,4 @@
 use native.Mathlib.Omega.{arith}
-use borrow.Author.Rules.{rules}
 use borrow.Author.Tests.{eq-eqb, ne_eqb}
 use Rattle.lister.specs.Parts.{outcome_line}
 use Rattle.decimal.proofs.Writing.{written_none}

@@ -1,5 +1,4 @@
 use native.Mathlib.Omega.{arith}
-use borrow.Author.Rules.{rules}
 use Rattle.lister.proofs.Room.{refusal_short}
 use Rattle.lister.proofs.refusal_line.Goals as goal
 

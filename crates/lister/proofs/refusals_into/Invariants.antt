@@ -1,13 +1,9 @@
-use mathlib.Core.Path.{◌≡◌, refl, ◌∙◌}
+use mathlib.Core.Path.{◌≡◌}
 use Prim.Native.Nat.{◌+◌, ◌*◌, ◌-◌, ◌≤◌}
-use native.Mathlib.Omega.{arith}
-use borrow.Author.Rules.{rules}
 use lib.ListN.{length, take}
 use Rattle.rules.specs.Listing.{refusal_lines}
 use Rattle.decimal.specs.Text.{Written}
 use Rattle.lister.specs.Text.{refusal_bytes}
-use Rattle.decimal.proofs.Writing.{written_length}
-use Rattle.lister.proofs.Parts.{refusals_start, refusals_next}
 use Rattle.lister.proofs.refusals_into.Given as goal
 
 abbrev pub invariant-loop-i : goal.invariant-loop-i

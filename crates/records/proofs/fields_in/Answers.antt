@@ -1,4 +1,3 @@
-use borrow.Author.Rules.{rules}
 use Rattle.records.proofs.Packed.{packed_past}
 use Rattle.records.proofs.fields_in.Goals as goal
 

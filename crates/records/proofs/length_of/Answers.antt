@@ -1,7 +1,6 @@
 use mathlib.Core.Path.{◌≡◌, refl, sym, ap}
 use Prim.Native.Nat.{ℕ, ◌+◌, ◌<◌, ◌≤◌}
 use native.Mathlib.Omega.{arith}
-use borrow.Author.Rules.{rules}
 use borrow.Author.Tests.{ne_eqb, lt-leb}
 use Rattle.rules.specs.Record.{section_of, body_length, fields_of, widths, width}
 use Rattle.records.proofs.EachKind.{values, agree, section_past}

@@ -1,6 +1,5 @@
 use native.Mathlib.Omega.{arith}
 use mir.Facts.{Fits-widen}
-use borrow.Author.Rules.{rules}
 use Rattle.rules.specs.Term.{fields_in}
 use Rattle.rules.specs.Load.{term_at}
 use Rattle.rules.specs.Record.{section_of, fields_of, body_length, width, widths}

@@ -1,5 +1,4 @@
 use borrow.Author.Tests.{ne_eqb}
-use borrow.Author.Rules.{rules}
 use Rattle.records.specs.Codes.{low_field}
 use Rattle.records.proofs.low_field.Goals as goal
 

@@ -1,5 +1,4 @@
 use mir.Facts.{Fits-widen}
-use borrow.Author.Rules.{rules}
 use Rattle.rules.specs.Term.{fields_in}
 use Rattle.rules.specs.Load.{term_at}
 use Rattle.records.proofs.quote_words.Goals as goal

@@ -1,5 +1,4 @@
 use borrow.Author.Tests.{ne_eqb}
-use borrow.Author.Rules.{rules}
 use Rattle.rules.specs.Term.{subject_fields}
 use Rattle.rules.specs.Load.{subject_at}
 use Rattle.records.proofs.tag_at.Goals as goal

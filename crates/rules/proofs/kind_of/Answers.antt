@@ -1,6 +1,5 @@
 use Rattle.rules.specs.Term.{kind_of}
 use borrow.Author.Rules.{rules}
-use Rattle.rules.proofs.kind_of.Reads as reads
 use Rattle.rules.proofs.kind_of.Goals as goal
 
 pub returns-in-PublicKey : goal.returns-in-PublicKey

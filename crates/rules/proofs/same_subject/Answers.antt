@@ -1,6 +1,4 @@
 use Rattle.rules.specs.Term.{same_subject}
-use borrow.Author.Rules.{rules}
-use Rattle.rules.proofs.same_subject.Reads as reads
 use Rattle.rules.proofs.same_subject.Goals as goal
 
 pub returns-in-Tpm-b : goal.returns-in-Tpm-b

@@ -1,11 +1,7 @@
-use borrow.Author.Rules.{rules}
-use native.Mathlib.Omega.{arith}
-use mathlib.Core.Path.{◌≡◌, ◌∙◌}
-use mathlib.Core.List.{◌++◌, append-nil}
+use mathlib.Core.Path.{◌≡◌}
+use mathlib.Core.List.{◌++◌}
 use Prim.Native.Nat.{◌≤◌, ◌-◌}
-use lib.ListN.{length, drop, replicate, length-set}
-use lib.Seq.{drop-length}
-use Rattle.state.proofs.Bytes.{cleared}
+use lib.ListN.{length, drop, replicate}
 use Rattle.state.proofs.clear.Given as goal
 
 abbrev pub invariant-loop-i : goal.invariant-loop-i

@@ -1,4 +1,3 @@
-use borrow.Author.Rules.{rules}
 use lib.Pow.{pow_pos}
 use Rattle.state.specs.View.{bit}
 use Rattle.state.proofs.knows.Goals as goal

@@ -1,4 +1,3 @@
-use borrow.Author.Rules.{rules}
 use native.Mathlib.Omega.{arith}
 use Rattle.state.proofs.Bytes.{view_desk}
 use Rattle.state.proofs.note_desk.Goals as goal

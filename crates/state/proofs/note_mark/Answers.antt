@@ -1,4 +1,3 @@
-use borrow.Author.Rules.{rules}
 use native.Mathlib.Omega.{arith}
 use Rattle.state.proofs.Bytes.{view_mark}
 use Rattle.state.proofs.note_mark.Goals as goal

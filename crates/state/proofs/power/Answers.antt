@@ -1,4 +1,3 @@
-use borrow.Author.Rules.{rules}
 use Rattle.state.proofs.Bits.{shifted}
 use Rattle.state.proofs.power.Goals as goal
 

@@ -1,4 +1,3 @@
-use borrow.Author.Rules.{rules}
 use Rattle.rules.specs.Limits.{term_limit}
 use Rattle.tables.specs.Regions.{earlier_start}
 use Rattle.tables.proofs.Regions.{region_at}

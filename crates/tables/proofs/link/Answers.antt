@@ -1,4 +1,3 @@
-use borrow.Author.Rules.{rules}
 use Rattle.tables.proofs.Regions.{put_linked}
 use Rattle.tables.proofs.link.Goals as goal
 

@@ -1,4 +1,3 @@
-use borrow.Author.Rules.{rules}
 use Rattle.tables.specs.Regions.{newest_start, serial_buckets}
 use Rattle.tables.proofs.Regions.{region_at}
 use Rattle.tables.proofs.newest_of.Goals as goal

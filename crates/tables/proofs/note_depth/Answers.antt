@@ -1,4 +1,3 @@
-use borrow.Author.Rules.{rules}
 use Rattle.tables.proofs.Regions.{put_depth}
 use Rattle.tables.proofs.note_depth.Goals as goal
 

@@ -1,4 +1,3 @@
-use borrow.Author.Rules.{rules}
 use Rattle.tables.proofs.Regions.{put_ek}
 use Rattle.tables.proofs.note_ek.Goals as goal
 

@@ -1,4 +1,3 @@
-use borrow.Author.Rules.{rules}
 use Rattle.tables.proofs.Regions.{put_entry}
 use Rattle.tables.proofs.note_entry.Goals as goal
 

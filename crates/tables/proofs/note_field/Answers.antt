@@ -1,4 +1,3 @@
-use borrow.Author.Rules.{rules}
 use Rattle.tables.proofs.Regions.{put_field}
 use Rattle.tables.proofs.note_field.Goals as goal
 

@@ -1,4 +1,3 @@
-use borrow.Author.Rules.{rules}
 use Rattle.tables.proofs.Regions.{put_half}
 use Rattle.tables.proofs.note_half.Goals as goal
 

@@ -1,4 +1,3 @@
-use borrow.Author.Rules.{rules}
 use Rattle.tables.proofs.Regions.{put_kind}
 use Rattle.tables.proofs.note_kind.Goals as goal
 

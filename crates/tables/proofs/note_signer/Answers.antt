@@ -1,4 +1,3 @@
-use borrow.Author.Rules.{rules}
 use Rattle.tables.proofs.Regions.{put_signer}
 use Rattle.tables.proofs.note_signer.Goals as goal
 

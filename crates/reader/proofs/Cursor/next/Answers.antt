@@ -1,5 +1,4 @@
 use native.Mathlib.Omega.{arith}
-use borrow.Author.Rules.{rules}
 use lib.ListN.{get_or}
 use Rattle.records.proofs.Lengths.{body_small}
 use Rattle.reader.specs.Place.{next_place}

@@ -1,6 +1,5 @@
 use borrow.Author.Rules.{rules}
 use Rattle.rules.specs.Attributes.{same_attributes}
-use Rattle.rules.proofs.Attributes.same.Reads as reads
 use Rattle.rules.proofs.Attributes.same.Goals as goal
 
 pub returns : goal.returns
