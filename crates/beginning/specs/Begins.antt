@@ -1,5 +1,5 @@
 -- What is found and left before the first command.
-use Rattle.std.specs.Prelude.{◌≡◌, Bool, true, false, ◌&&◌, List, ◌++◌, ℕ, ◌<◌, ◌≤◌, leb, length, take, drop, replicate}
+use Rattle.std.specs.Prelude.{◌≡◌, Bool, true, false, ◌&&◌, List, ℕ, ◌<◌, ◌≤◌, leb, length, take, drop, replicate}
 use Rattle.rules.specs.Limits.{file_limit, term_limit, command_limit, state_bytes, register_bytes}
 use Rattle.rules.specs.State.{start_registers}
 use Rattle.state.proofs.Exact.{Bytes}

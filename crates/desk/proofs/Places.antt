@@ -26,7 +26,6 @@ use Rattle.state.proofs.Exact.{state_of}
 use Rattle.learning.specs.There.{kind_there}
 use Rattle.lookup.specs.There.{command_there}
 use Rattle.lookup.specs.Commands.{CommandAt}
-use Rattle.lookup.proofs.Left.{command_range}
 use Rattle.lookup.proofs.Fields.{command_ends, issue_length, issue_there}
 use Rattle.loaded.specs.Loaded.{file_in, Leaves}
 use Rattle.loaded.specs.Entries.{Enters, Boarded, DecidesListed, Accepts, DeskLeaves}

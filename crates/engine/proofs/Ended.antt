@@ -1,32 +1,24 @@
 -- After the last command of a file that loads: what the loop over commands leaves is what the rules say of a run.
 --     loaded-left      totals, and the buffers
 -- Assumes nothing.
-use mathlib.Core.Path.{◌≡◌, refl, sym, ap, subst, ◌∙◌}
-use mathlib.Core.Bool.{Bool, true, false, cond}
+use mathlib.Core.Path.{◌≡◌, refl, sym, ap, ◌∙◌}
 use mathlib.Core.List.{List, [], ◌∷◌, ◌++◌, append_assoc}
-use Prim.Native.Nat.{ℕ, zero, suc, ◌+◌, ◌*◌, ◌-◌, ◌<◌, ◌≤◌}
+use Prim.Native.Nat.{ℕ, zero, suc, ◌+◌, ◌*◌, ◌-◌, ◌≤◌}
 use native.Mathlib.Omega.{arith}
-use lib.Dec.{eqb, ltb}
 use lib.ListN.{length, get_or, take, drop, replicate, length-replicate, length-append}
 use lib.Seq.{sets, sets-eq}
-use borrow.Author.Tests.{ltb-true}
 use Rattle.rules.specs.declared.Entry.{Entry}
 use Rattle.rules.specs.Limits.{file_limit, party_limit, row_width, term_limit, command_limit, state_bytes, register_bytes}
-use Rattle.rules.specs.Record.{section_of, command_section}
 use Rattle.rules.specs.File.{File, Command}
-use Rattle.rules.specs.Load.{Load, load, loaded, refused}
+use Rattle.rules.specs.Load.{load, loaded}
 use Rattle.rules.specs.State.{State, start_registers, start}
 use Rattle.rules.specs.Run.{run, outcomes, reached, outcomes_of, zeros, others, accepted, refusals, issued}
 use Rattle.rules.specs.Lent.{Lent, row, rows, register_rows, first_part, no_entry, written}
-use Rattle.theorems.proofs.Loading.{Wellformed}
 use Rattle.theorems.proofs.Beside.{beside}
-use Rattle.theorems.proofs.Laws.{totals}
 use Rattle.state.specs.View.{view}
 use Rattle.state.proofs.Exact.{ZeroAt, whole, rows_length}
-use Rattle.learning.specs.There.{kind_there}
-use Rattle.reader.specs.Place.{next_place}
 use Rattle.lookup.specs.Commands.{commands_from, commands_left}
-use Rattle.lookup.proofs.Left.{first_commands_lem, commands_wellformed, left_few}
+use Rattle.lookup.proofs.Left.{first_commands_lem}
 use Rattle.scan.specs.declared.Scanned.{Scanned}
 use Rattle.loader.specs.Tabled.{Filled}
 use Rattle.loaded.specs.Loaded.{file_in}

@@ -2,21 +2,20 @@
 --     places-fit       the places to clear are there
 --     record-ready     the loop may start
 -- Assumes nothing.
-use mathlib.Core.Path.{◌≡◌, refl, sym, ap, subst, subst⁻¹, ◌∙◌}
+use mathlib.Core.Path.{◌≡◌, refl, sym, ap, subst⁻¹, ◌∙◌}
 use mathlib.Core.Logic.{inl, inr}
 use mathlib.Core.Bool.{Bool, true, false}
-use mathlib.Core.List.{List, [], ◌++◌}
-use Prim.Native.Nat.{ℕ, ◌+◌, ◌<◌, ◌≤◌}
+use mathlib.Core.List.{List, []}
+use Prim.Native.Nat.{ℕ, ◌<◌, ◌≤◌}
 use native.Mathlib.Omega.{arith}
 use native.Mathlib.Decide.{dec_lt}
-use lib.ListN.{length, take, drop, replicate, length-replicate}
+use lib.ListN.{length, take}
 use lib.Seq.{length-take-le}
 use Rattle.rules.specs.declared.Entry.{Entry}
-use Rattle.rules.specs.Limits.{file_limit, term_limit, command_limit, state_bytes, register_bytes}
+use Rattle.rules.specs.Limits.{file_limit, command_limit, state_bytes, register_bytes}
 use Rattle.rules.specs.File.{File}
 use Rattle.rules.specs.State.{start_registers, start, depth_of}
 use Rattle.theorems.proofs.Loading.{Wellformed, checked}
-use Rattle.state.specs.View.{view}
 use Rattle.state.proofs.Exact.{Bytes}
 use Rattle.registers.specs.View.{registers_in}
 use Rattle.tables.specs.Regions.{Unlinked, tables_in}
@@ -32,10 +31,8 @@ use Rattle.commands.specs.Standing.{memory, state_in, Kept, Stands}
 use Rattle.commands.proofs.Keeping.{kept_start}
 use Rattle.turns.specs.declared.Begun.{Begun}
 use Rattle.turns.specs.Turns.{RunReady}
-use Rattle.beginning.specs.Begins.{roomy, stops, begun_by, Registered, PartsBegin, Begins}
+use Rattle.beginning.specs.Begins.{roomy, Registered, Begins}
 use Rattle.beginning.proofs.Begins.{state_long, ledger_long, outcomes_long, registers_long}
-use Rattle.ledger.specs.Placed.{cleared}
-use Rattle.ledger.proofs.Placed.{length_cleared}
 use Rattle.command_loop.specs.Recorded.{within, CommandsReady, RecordReady}
 
 none_entered : (c : ℕ) → 0 ≡ entry_from 0 [] c

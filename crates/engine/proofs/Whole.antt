@@ -3,11 +3,11 @@
 --     run-stood      what calls above it start from
 --     near-place     the place of a refusal is small
 -- Assumes nothing.
-use mathlib.Core.Path.{◌≡◌, refl, sym, ap, subst, subst⁻¹, ◌∙◌}
+use mathlib.Core.Path.{◌≡◌, refl, sym, ap, subst, ◌∙◌}
 use mathlib.Core.Logic.{inl, inr}
-use mathlib.Core.Bool.{Bool, true, false, cond, ◌&&◌}
+use mathlib.Core.Bool.{Bool, true, false, cond}
 use mathlib.Core.List.{List, [], ◌∷◌, ◌++◌}
-use Prim.Native.Nat.{ℕ, zero, suc, ◌+◌, ◌-◌, ◌*◌, ◌^◌, ◌<◌, ◌≤◌}
+use Prim.Native.Nat.{ℕ, suc, ◌-◌, ◌^◌, ◌<◌, ◌≤◌}
 use native.Mathlib.Omega.{arith}
 use native.Mathlib.Decide.{dec_lt}
 use lib.Dec.{eqb, leb}
@@ -16,12 +16,12 @@ use borrow.Author.Tests.{le-leb, lt-leb, eq-eqb, ne_eqb}
 use Rattle.rules.specs.declared.Entry.{Entry}
 use Rattle.rules.specs.Limits.{file_limit, party_limit, term_limit, command_limit, state_bytes, register_bytes}
 use Rattle.rules.specs.File.{File}
-use Rattle.rules.specs.Load.{Load, load, loaded, refused}
+use Rattle.rules.specs.Load.{load, loaded, refused}
 use Rattle.rules.specs.Run.{reached, outcomes_of, accepted, refusals, issued}
-use Rattle.rules.specs.Lent.{Answer, success, refusal, rows, register_rows, Lent, no_entry, first_part, written, leaves, long_enough, answered, run_answer, run_leaves}
+use Rattle.rules.specs.Lent.{success, refusal, rows, register_rows, Lent, no_entry, first_part, written, leaves, long_enough, answered, run_answer, run_leaves}
 use Rattle.scan.specs.declared.Scanned.{Scanned}
 use Rattle.loader.specs.Tabled.{Filled, FillResult}
-use Rattle.loader.proofs.Bounds.{record_limit, near_refusal}
+use Rattle.loader.proofs.Bounds.{near_refusal}
 use Rattle.commands.specs.Standing.{state_in, Stands}
 use Rattle.loaded.specs.Loaded.{file_in}
 use Rattle.loaded.proofs.Filled.{file_is}

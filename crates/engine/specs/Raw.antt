@@ -7,7 +7,6 @@ use Rattle.rules.specs.Lent.{Answer, success, refusal, Lent, no_entry, first_par
 use Rattle.loaded.specs.Loaded.{file_in}
 use Rattle.commands.specs.Standing.{state_in, Stands}
 use Rattle.beginning.specs.Begins.{Begins}
-use Rattle.engine.specs.Runs.{lent_with}
 use Rattle.ledger.specs.Placed.{cleared}
 use Rattle.command_loop.specs.Recorded.{within, Recorded}
 use Rattle.engine.specs.declared.Finished.{Finished}

@@ -14,7 +14,6 @@ use Rattle.rules.specs.declared.Subject.{Subject}
 use Rattle.rules.specs.declared.Subject.TheVariants.{Tpm, Device}
 use Rattle.rules.specs.declared.Term.{Term}
 use Rattle.rules.specs.declared.Term.TheVariants.{PublicKey, PrivateKey, Hash, Signature, Attest, Credential, Number, IdevidRequest, LdevidRequest, Certificate, Pair, Register, Quote}
-use Rattle.rules.specs.Attributes.{no_attributes}
 use Rattle.rules.specs.Term.{idevid_request_kind, certificate_kind, kind_of, fields_in, subject_fields, attributes_of}
 use Rattle.rules.specs.File.{File, term, kind, field, attributes}
 use Rattle.tables.specs.Regions.{Terms, tables_in, field_of}

@@ -5,19 +5,18 @@
 --     start-all                                  by all of them, as the rules say it
 -- Assumes nothing.
 use mathlib.Core.Bool.{Bool, true, false, cond, ◌&&◌}
-use mathlib.Core.Path.{◌≡◌, refl, ap, sym, ◌∙◌}
-use mathlib.Core.List.{List, [], ◌∷◌}
+use mathlib.Core.Path.{◌≡◌, refl, sym, ◌∙◌}
+use mathlib.Core.List.{List, ◌∷◌}
 use Prim.Native.Nat.{ℕ, suc, ◌+◌, ◌*◌, ◌<◌, ◌≤◌}
 use native.Mathlib.Omega.{arith}
 use lib.Dec.{eqb, ltb}
 use lib.ListN.{length, get_or, drop, get_or-eq_default}
 use lib.Seq.{drop-length, drop-cons}
 use borrow.Author.Tests.{eqb-true, eqb-false, eq-eqb, ne_eqb, ltb-true, ltb-false, lt-ltb, le-ltb}
-use Rattle.rules.specs.declared.Term.{Term}
 use Rattle.rules.specs.declared.Term.TheVariants.{Hash}
 use Rattle.rules.specs.Limits.{device, role_count, party_limit, register_count, register_bytes, empty_field}
 use Rattle.rules.specs.Record.{word}
-use Rattle.rules.specs.Term.{register_kind, kind_of, fields_in}
+use Rattle.rules.specs.Term.{register_kind}
 use Rattle.rules.specs.File.{File, role_of, is_role, term, kind, field, register_of}
 use Rattle.rules.specs.State.{starting_at, start_registers}
 use Rattle.registers.specs.View.{register_at, registers_in, shown_at}

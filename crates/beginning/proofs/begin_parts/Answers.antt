@@ -1,6 +1,5 @@
 use mathlib.Core.Path.{refl, ap, ◌∙◌}
 use Prim.Native.Nat.{ℕ}
-use borrow.Author.Rules.{rules}
 use lib.ListN.{replicate}
 use Rattle.beginning.proofs.Begins.{start_ready}
 use Rattle.beginning.proofs.begin_parts.Goals as goal

@@ -1,5 +1,4 @@
 use native.Mathlib.Omega.{arith}
-use borrow.Author.Rules.{rules}
 use Rattle.loaded.proofs.Standing.{checked_here, kind_declared, term_here}
 use Rattle.loaded.proofs.Declared.{credential_number_declared}
 use Rattle.loaded.proofs.Noted.{term_noted_lem}

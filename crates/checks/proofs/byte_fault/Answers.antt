@@ -1,5 +1,4 @@
 use native.Mathlib.Omega.{arith}
-use borrow.Author.Rules.{rules}
 use Rattle.rules.specs.Load.{refuse_unless}
 use Rattle.checks.proofs.Tests.{tests}
 use Rattle.checks.proofs.byte_fault.Goals as goal

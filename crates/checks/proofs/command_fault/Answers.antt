@@ -1,6 +1,5 @@
 use mathlib.Core.Path.{ap}
 use native.Mathlib.Omega.{arith}
-use borrow.Author.Rules.{rules}
 use Rattle.rules.specs.Record.{width}
 use Rattle.checks.specs.There.{field_fault_noted}
 use Rattle.checks.proofs.command_fault.Goals as goal

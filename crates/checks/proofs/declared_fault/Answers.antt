@@ -1,4 +1,3 @@
-use borrow.Author.Rules.{rules}
 use Rattle.rules.specs.Load.{refuse_unless}
 use Rattle.checks.proofs.Tests.{tests}
 use Rattle.checks.proofs.declared_fault.Goals as goal

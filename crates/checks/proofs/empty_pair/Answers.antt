@@ -1,4 +1,3 @@
-use borrow.Author.Rules.{rules}
 use borrow.Author.Tests.{eq-eqb, ne_eqb}
 use Rattle.rules.specs.Load.{empty_pair}
 use Rattle.checks.proofs.empty_pair.Goals as goal

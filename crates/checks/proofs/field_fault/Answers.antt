@@ -1,7 +1,6 @@
 use mathlib.Core.Path.{refl, ap}
 use mathlib.Core.Logic.{inl, inr}
 use native.Mathlib.Omega.{arith}
-use borrow.Author.Rules.{rules}
 use Rattle.rules.specs.Record.{width}
 use Rattle.checks.specs.There.{field_fault_noted}
 use Rattle.checks.proofs.field_fault.Goals as goal

@@ -1,6 +1,5 @@
 use mathlib.Core.Path.{sym, ◌∙◌}
 use native.Mathlib.Omega.{arith}
-use borrow.Author.Rules.{rules}
 use Rattle.rules.specs.Load.{first, refuse_unless}
 use Rattle.checks.proofs.Records.{content_lower}
 use Rattle.checks.proofs.Tests.{tests}

@@ -1,5 +1,4 @@
 use native.Mathlib.Omega.{arith}
-use borrow.Author.Rules.{rules}
 use Rattle.rules.specs.Load.{first, refuse_unless}
 use Rattle.checks.specs.There.{field_fault_noted}
 use Rattle.checks.proofs.Tests.{tests}

@@ -1,4 +1,3 @@
-use borrow.Author.Rules.{rules}
 use Rattle.checks.proofs.kind_there.Goals as goal
 
 pub returns : goal.returns

@@ -2,7 +2,6 @@ use mathlib.Core.Path.{◌≡◌, sym, ◌∙◌}
 use mathlib.Core.Bool.{false, cond}
 use mathlib.Core.List.{List}
 use Prim.Native.Nat.{ℕ, zero, suc}
-use borrow.Author.Rules.{rules}
 use Rattle.rules.specs.Load.{first, empty_pair}
 use Rattle.checks.specs.There.{field_fault_noted}
 use Rattle.checks.proofs.pair_fault.Goals as goal

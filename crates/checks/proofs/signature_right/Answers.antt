@@ -1,4 +1,3 @@
-use borrow.Author.Rules.{rules}
 use mathlib.Core.Bool.{false≢true}
 use Rattle.checks.specs.There.{field_fault_noted}
 use Rattle.checks.proofs.Seen.{signature_seen}

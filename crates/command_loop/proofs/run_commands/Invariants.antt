@@ -1,4 +1,3 @@
-use Rattle.std.proofs.Common.{◌≡◌}
 use Rattle.command_loop.proofs.Keeping.{Keeps}
 use Rattle.command_loop.proofs.run_commands.Given as goal
 

@@ -1,6 +1,5 @@
 use mathlib.Core.Path.{sym, ◌∙◌}
 use native.Mathlib.Omega.{arith}
-use borrow.Author.Tests.{not-true, not-false}
 use Rattle.theorems.proofs.Chain.{chain_none, chain_passes, chain_fails}
 use Rattle.loaded.proofs.Standing.{party_here, term_here}
 use Rattle.device.proofs.both_known.Goals as goal

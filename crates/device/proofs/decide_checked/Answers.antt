@@ -1,7 +1,6 @@
 use mathlib.Core.Path.{refl, ◌∙◌}
 use Prim.Native.Nat.{◌+◌}
 use native.Mathlib.Omega.{arith}
-use borrow.Author.Rules.{rules}
 use Rattle.rules.specs.File.{check_hash, check_signature, check_certificate, check_attributes}
 use Rattle.theorems.proofs.LastArm.{last_arm}
 use Rattle.lookup.proofs.Fields.{check_hash_there, check_signature_there, check_certificate_there, check_attributes_there, four_bytes, two_read, known_as}

@@ -1,7 +1,6 @@
 use mathlib.Core.Path.{sym, ap, ◌∙◌}
 use Prim.Native.Nat.{ℕ}
 use native.Mathlib.Omega.{arith}
-use borrow.Author.Tests.{not-true, not-false}
 use Rattle.state.specs.View.{view}
 use Rattle.state.proofs.Exact.{state_of}
 use Rattle.loaded.specs.Loaded.{file_in}

@@ -1,6 +1,5 @@
 use Prim.Native.Nat.{◌+◌}
 use native.Mathlib.Omega.{arith}
-use borrow.Author.Rules.{rules}
 use Rattle.rules.specs.File.{self_issue}
 use Rattle.lookup.proofs.Fields.{self_issue_there, four_bytes, one_read, known_as}
 use Rattle.device.proofs.Read.{decided_as}

@@ -1,7 +1,6 @@
 use mathlib.Core.Path.{◌∙◌}
 use Prim.Native.Nat.{◌+◌}
 use native.Mathlib.Omega.{arith}
-use borrow.Author.Rules.{rules}
 use Rattle.rules.specs.File.{hash, sign, certify, make_credential, activate_credential, make_idevid_request, make_ldevid_request, make_pair}
 use Rattle.theorems.proofs.LastArm.{last_arm}
 use Rattle.lookup.proofs.Fields.{hash_there, sign_there, certify_there, make_credential_there, activate_there, idevid_request_there, ldevid_request_there, pair_there_lem, four_bytes, one_read, known_as}

@@ -1,7 +1,6 @@
 use mathlib.Core.Path.{◌≡◌, sym, ◌∙◌}
 use mathlib.Core.Bool.{true}
 use native.Mathlib.Omega.{arith}
-use borrow.Author.Tests.{not-true, not-false}
 use Rattle.rules.specs.Limits.{device}
 use Rattle.rules.specs.File.{is_role, credential_term, credential_number, credential_key}
 use Rattle.state.specs.View.{view}

@@ -1,6 +1,5 @@
 use mathlib.Core.Path.{sym, ◌∙◌}
 use native.Mathlib.Omega.{arith}
-use borrow.Author.Tests.{not-true, not-false}
 use Rattle.state.specs.View.{view}
 use Rattle.state.proofs.Exact.{state_of}
 use Rattle.loaded.specs.Loaded.{file_in}

@@ -1,5 +1,4 @@
 use mathlib.Core.Path.{sym, ap, ◌∙◌}
-use borrow.Author.Rules.{rules}
 use Rattle.rules.specs.Device.{no_ticket}
 use Rattle.loaded.specs.Loaded.{file_in}
 use Rattle.loaded.proofs.Standing.{checked_here}

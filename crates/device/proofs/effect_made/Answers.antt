@@ -1,7 +1,6 @@
 use mathlib.Core.Path.{sym, ◌∙◌}
 use Prim.Native.Nat.{◌+◌}
 use native.Mathlib.Omega.{arith}
-use borrow.Author.Rules.{rules}
 use Rattle.rules.specs.File.{hash, activate_credential}
 use Rattle.lookup.proofs.Fields.{hash_there, activate_there, four_bytes, one_read, known_as}
 use Rattle.device.proofs.Read.{made_known}

@@ -1,7 +1,6 @@
 use mathlib.Core.Path.{refl}
 use Prim.Native.Nat.{◌+◌}
 use native.Mathlib.Omega.{arith}
-use borrow.Author.Rules.{rules}
 use Rattle.rules.specs.File.{send}
 use Rattle.lookup.proofs.Fields.{send_there, four_bytes, two_read, known_as}
 use Rattle.device.proofs.Read.{five_bytes}

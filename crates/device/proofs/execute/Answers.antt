@@ -1,6 +1,5 @@
 use mathlib.Core.Path.{refl, sym, ◌∙◌}
 use native.Mathlib.Omega.{arith}
-use borrow.Author.Rules.{rules}
 use Rattle.lookup.proofs.Left.{command_range}
 use Rattle.device.proofs.Effects.{checks_left}
 use Rattle.device.proofs.execute.Goals as goal

@@ -1,5 +1,4 @@
 use mathlib.Core.Path.{sym, ◌∙◌}
-use borrow.Author.Tests.{not-true, not-false}
 use Rattle.rules.specs.Device.{may_send}
 use Rattle.loaded.proofs.Tested.{or_first, or_second, and_first, and_second}
 use Rattle.device.proofs.may_send.Goals as goal

@@ -1,4 +1,3 @@
-use borrow.Author.Rules.{rules}
 use Rattle.rules.specs.File.{attested_key}
 use Rattle.loaded.proofs.attested_key_of.Goals as goal
 

@@ -1,6 +1,5 @@
 use mathlib.Core.Path.{◌∙◌, sym}
 use native.Mathlib.Omega.{arith}
-use borrow.Author.Rules.{rules}
 use Rattle.loaded.proofs.Noted.{key_attributes_lem, no_attributes_lem}
 use Rattle.loaded.proofs.attributes_of.Goals as goal
 

@@ -1,4 +1,3 @@
-use borrow.Author.Rules.{rules}
 use Rattle.loaded.proofs.Noted.{certificate_term}
 use Rattle.loaded.proofs.certificate_of.Goals as goal
 

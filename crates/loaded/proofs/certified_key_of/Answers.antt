@@ -1,4 +1,3 @@
-use borrow.Author.Rules.{rules}
 use Rattle.rules.specs.File.{certified_key}
 use Rattle.loaded.proofs.certified_key_of.Goals as goal
 

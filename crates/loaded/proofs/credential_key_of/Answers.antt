@@ -1,4 +1,3 @@
-use borrow.Author.Rules.{rules}
 use Rattle.rules.specs.File.{credential_key}
 use Rattle.loaded.proofs.credential_key_of.Goals as goal
 

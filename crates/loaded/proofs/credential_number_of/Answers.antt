@@ -1,4 +1,3 @@
-use borrow.Author.Rules.{rules}
 use Rattle.rules.specs.File.{credential_number}
 use Rattle.loaded.proofs.credential_number_of.Goals as goal
 

@@ -1,4 +1,3 @@
-use borrow.Author.Rules.{rules}
 use Rattle.rules.specs.File.{credential_term}
 use Rattle.loaded.proofs.credential_term_of.Goals as goal
 

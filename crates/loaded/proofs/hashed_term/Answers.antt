@@ -1,4 +1,3 @@
-use borrow.Author.Rules.{rules}
 use Rattle.rules.specs.File.{hashed_term}
 use Rattle.loaded.proofs.hashed_term.Goals as goal
 

@@ -1,4 +1,3 @@
-use borrow.Author.Rules.{rules}
 use Rattle.rules.specs.File.{idevid_certificate}
 use Rattle.loaded.proofs.idevid_certificate_of.Goals as goal
 

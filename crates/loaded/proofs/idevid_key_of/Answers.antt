@@ -1,4 +1,3 @@
-use borrow.Author.Rules.{rules}
 use Rattle.rules.specs.File.{idevid_key}
 use Rattle.loaded.proofs.idevid_key_of.Goals as goal
 

@@ -1,4 +1,3 @@
-use borrow.Author.Rules.{rules}
 use Rattle.loaded.proofs.Noted.{request_term}
 use Rattle.loaded.proofs.idevid_request_of.Goals as goal
 

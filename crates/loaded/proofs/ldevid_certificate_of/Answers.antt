@@ -1,4 +1,3 @@
-use borrow.Author.Rules.{rules}
 use Rattle.rules.specs.File.{ldevid_certificate}
 use Rattle.loaded.proofs.ldevid_certificate_of.Goals as goal
 

@@ -1,4 +1,3 @@
-use borrow.Author.Rules.{rules}
 use Rattle.rules.specs.File.{ldevid_message}
 use Rattle.loaded.proofs.ldevid_message_of.Goals as goal
 

@@ -1,5 +1,4 @@
 use mathlib.Core.Path.{sym, ◌∙◌}
-use borrow.Author.Rules.{rules}
 use Rattle.loaded.proofs.Learning.{learn_ready, learns_left, learns_known}
 use Rattle.loaded.proofs.learn.Goals as goal
 

@@ -1,4 +1,3 @@
-use borrow.Author.Rules.{rules}
 use Rattle.rules.specs.File.{left_of}
 use Rattle.loaded.proofs.left_of.Goals as goal
 

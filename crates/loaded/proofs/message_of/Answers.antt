@@ -1,4 +1,3 @@
-use borrow.Author.Rules.{rules}
 use Rattle.rules.specs.File.{message}
 use Rattle.loaded.proofs.message_of.Goals as goal
 

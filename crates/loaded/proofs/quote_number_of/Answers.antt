@@ -1,4 +1,3 @@
-use borrow.Author.Rules.{rules}
 use Rattle.rules.specs.File.{quote_number}
 use Rattle.loaded.proofs.quote_number_of.Goals as goal
 

@@ -1,4 +1,3 @@
-use borrow.Author.Rules.{rules}
 use Rattle.rules.specs.File.{quoted_value}
 use Rattle.loaded.proofs.quoted_value_of.Goals as goal
 

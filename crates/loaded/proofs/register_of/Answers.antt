@@ -1,4 +1,3 @@
-use borrow.Author.Rules.{rules}
 use Rattle.rules.specs.File.{register_of}
 use Rattle.loaded.proofs.register_of.Goals as goal
 

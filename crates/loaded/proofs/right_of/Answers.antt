@@ -1,4 +1,3 @@
-use borrow.Author.Rules.{rules}
 use Rattle.rules.specs.File.{right_of}
 use Rattle.loaded.proofs.right_of.Goals as goal
 

@@ -1,4 +1,3 @@
-use borrow.Author.Rules.{rules}
 use Rattle.rules.specs.File.{signer}
 use Rattle.loaded.proofs.signer_of.Goals as goal
 

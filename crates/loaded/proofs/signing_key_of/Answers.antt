@@ -1,4 +1,3 @@
-use borrow.Author.Rules.{rules}
 use Rattle.rules.specs.File.{signing_key}
 use Rattle.loaded.proofs.signing_key_of.Goals as goal
 

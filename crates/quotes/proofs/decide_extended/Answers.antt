@@ -1,7 +1,6 @@
 use mathlib.Core.Path.{refl}
 use Prim.Native.Nat.{◌+◌}
 use native.Mathlib.Omega.{arith}
-use borrow.Author.Rules.{rules}
 use Rattle.registers.specs.View.{registers_in}
 use Rattle.rules.specs.File.{extend}
 use Rattle.lookup.proofs.Fields.{extend_there, four_bytes, two_read, known_as}

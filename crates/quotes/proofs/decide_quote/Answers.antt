@@ -2,7 +2,7 @@ use mathlib.Core.Path.{◌≡◌, sym, ap, ◌∙◌}
 use mathlib.Core.Bool.{true}
 use Prim.Native.Nat.{ℕ}
 use native.Mathlib.Omega.{arith}
-use borrow.Author.Tests.{not-true, not-false, ne_eqb, eq-eqb}
+use borrow.Author.Tests.{ne_eqb, eq-eqb}
 use Rattle.rules.specs.Limits.{device}
 use Rattle.rules.specs.Attributes.{restricted, sign}
 use Rattle.rules.specs.File.{is_role, message, signing_key, register_of, quoted_value, quote_number}

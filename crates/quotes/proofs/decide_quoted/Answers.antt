@@ -1,6 +1,5 @@
 use Prim.Native.Nat.{◌+◌}
 use native.Mathlib.Omega.{arith}
-use borrow.Author.Rules.{rules}
 use Rattle.registers.specs.View.{registers_in}
 use Rattle.rules.specs.File.{quote}
 use Rattle.lookup.proofs.Fields.{quote_there, four_bytes, one_read, known_as}

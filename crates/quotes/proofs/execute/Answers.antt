@@ -1,5 +1,4 @@
 use mathlib.Core.Path.{refl, sym, ◌∙◌}
-use borrow.Author.Rules.{rules}
 use Rattle.quotes.proofs.Effects.{is_quote}
 use Rattle.quotes.proofs.execute.Goals as goal
 

@@ -1,10 +1,7 @@
 use mathlib.Core.Path.{◌≡◌, subst, ◌∙◌}
-use Prim.Native.Nat.{ℕ, ◌+◌, ◌-◌, ◌≤◌}
+use Prim.Native.Nat.{ℕ, ◌+◌, ◌-◌}
 use native.Mathlib.Omega.{arith}
 use borrow.Author.Rules.{rules}
-use lib.ListN.{length}
-use Rattle.rules.specs.Limits.{register_bytes}
-use Rattle.state.proofs.Exact.{Bytes}
 use Rattle.loaded.specs.Loaded.{file_in}
 use Rattle.registers.specs.View.{registers_in}
 use Rattle.registers.specs.Starting.{start_from}

@@ -1,14 +1,11 @@
-use mathlib.Core.Path.{◌≡◌, subst, ◌∙◌}
-use Prim.Native.Nat.{ℕ, ◌+◌, ◌-◌, ◌≤◌}
-use native.Mathlib.Omega.{arith}
-use borrow.Author.Rules.{rules}
+use mathlib.Core.Path.{◌≡◌}
+use Prim.Native.Nat.{◌≤◌}
 use lib.ListN.{length}
 use Rattle.rules.specs.Limits.{register_bytes}
 use Rattle.state.proofs.Exact.{Bytes}
 use Rattle.loaded.specs.Loaded.{file_in}
 use Rattle.registers.specs.View.{registers_in}
 use Rattle.registers.specs.Starting.{start_from}
-use Rattle.registers.proofs.Start.{start_none, start_all}
 use Rattle.registers.proofs.fill.Given as goal
 
 -- the terms from `left` on are done

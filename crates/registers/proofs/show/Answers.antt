@@ -1,4 +1,3 @@
-use borrow.Author.Rules.{rules}
 use Rattle.registers.proofs.Bytes.{shown_put}
 use Rattle.registers.proofs.show.Goals as goal
 

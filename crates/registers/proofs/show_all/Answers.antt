@@ -1,9 +1,7 @@
-use mathlib.Core.Path.{◌≡◌, subst, sym, ◌∙◌}
-use Prim.Native.Nat.{ℕ, ◌-◌, ◌≤◌}
+use mathlib.Core.Path.{◌≡◌, subst}
+use Prim.Native.Nat.{ℕ}
 use native.Mathlib.Omega.{arith}
 use borrow.Author.Rules.{rules}
-use lib.ListN.{length}
-use Rattle.rules.specs.Limits.{register_bytes}
 use Rattle.loaded.specs.Loaded.{file_in}
 use Rattle.registers.specs.View.{registers_in}
 use Rattle.registers.specs.Starting.{shown_by_devices}

@@ -1,13 +1,10 @@
-use mathlib.Core.Path.{◌≡◌, subst, sym, ◌∙◌}
-use Prim.Native.Nat.{ℕ, ◌-◌, ◌≤◌}
-use native.Mathlib.Omega.{arith}
-use borrow.Author.Rules.{rules}
+use mathlib.Core.Path.{◌≡◌}
+use Prim.Native.Nat.{◌-◌, ◌≤◌}
 use lib.ListN.{length}
 use Rattle.rules.specs.Limits.{register_bytes}
 use Rattle.loaded.specs.Loaded.{file_in}
 use Rattle.registers.specs.View.{registers_in}
 use Rattle.registers.specs.Starting.{shown_by_devices}
-use Rattle.registers.proofs.Start.{devices_none}
 use Rattle.registers.proofs.show_all.Given as goal
 
 abbrev pub invariant-loop-p : goal.invariant-loop-p

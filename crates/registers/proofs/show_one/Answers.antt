@@ -1,8 +1,6 @@
 use mathlib.Core.Path.{sym, ap, ◌∙◌}
 use Prim.Native.Nat.{ℕ}
 use native.Mathlib.Omega.{arith}
-use borrow.Author.Rules.{rules}
-use borrow.Author.Tests.{not-true, not-false}
 use Rattle.loaded.specs.Loaded.{file_in}
 use Rattle.loaded.proofs.Standing.{party_here}
 use Rattle.registers.specs.View.{shown_at}

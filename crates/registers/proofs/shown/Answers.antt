@@ -1,5 +1,4 @@
 use mathlib.Core.Path.{sym, ap, ◌∙◌}
-use borrow.Author.Rules.{rules}
 use Rattle.rules.specs.Record.{word}
 use Rattle.registers.proofs.Bytes.{shown_there}
 use Rattle.registers.proofs.shown.Goals as goal

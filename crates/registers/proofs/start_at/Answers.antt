@@ -1,6 +1,5 @@
 use mathlib.Core.Path.{sym, ◌∙◌}
 use native.Mathlib.Omega.{arith}
-use borrow.Author.Rules.{rules}
 use Rattle.loaded.specs.Loaded.{file_in}
 use Rattle.loaded.proofs.Noted.{term_noted_lem}
 use Rattle.registers.specs.Starting.{shown_by_devices}

@@ -1,6 +1,4 @@
 -- `stock::boards_left` meets its contract: 39 by its three reasons, or the stock divided. Assumes nothing.
-use borrow.Author.Rules.{rules}
-use borrow.Author.Tests.{not-true, not-false}
 use mathlib.Core.Path.{sym, ◌∙◌}
 use mathlib.Core.Logic.{inl, inr}
 use native.Mathlib.Omega.{arith}

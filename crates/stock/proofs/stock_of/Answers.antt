@@ -1,14 +1,8 @@
 -- `stock::stock_of` meets its contract: the count of the terms before. Assumes nothing.
 use borrow.Author.Rules.{rules}
 use mathlib.Core.Path.{◌≡◌, ap, ◌∙◌}
-use mathlib.Core.List.{List}
-use Prim.Native.Nat.{◌-◌, ◌≤◌}
 use native.Mathlib.Omega.{arith}
-use Rattle.rules.specs.declared.Entry.{Entry}
 use Rattle.rules.specs.Stock.{stock_among, stock}
-use Rattle.state.specs.View.{view}
-use Rattle.state.proofs.Exact.{state_of}
-use Rattle.loaded.specs.Loaded.{file_in}
 use Rattle.loaded.proofs.Standing.{term_here}
 use Rattle.stock.proofs.Counting.{counted, one_at_most}
 use Rattle.stock.proofs.stock_of.Goals as goal
