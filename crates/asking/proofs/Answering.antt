@@ -4,24 +4,23 @@
 --     ask-ran                       the whole promise
 -- Assumes nothing.
 use mathlib.Core.Path.{◌≡◌, refl, sym, ap, subst, ◌∙◌}
-use mathlib.Core.Bool.{Bool, true, false, cond}
+use mathlib.Core.Bool.{cond}
 use mathlib.Core.List.{List, [], ◌∷◌}
-use Prim.Native.Nat.{ℕ, zero, suc, ◌+◌, ◌/◌, ◌%◌, ◌<◌, ◌≤◌}
+use Prim.Native.Nat.{ℕ, zero, suc, ◌+◌, ◌<◌}
 use native.Mathlib.Omega.{arith}
 use native.Mathlib.Decide.{dec_lt}
-use lib.Dec.{eqb}
-use lib.ListN.{length, take}
+use lib.ListN.{length}
 use borrow.Author.Tests.{eq-eqb, ne_eqb}
 use Rattle.rules.specs.declared.Entry.{Entry}
 use Rattle.rules.specs.declared.Question.{Question}
 use Rattle.rules.specs.declared.Question.TheVariants.{Totals, Stock}
 use Rattle.rules.specs.declared.AskAnswer.{AskAnswer}
 use Rattle.rules.specs.declared.AskAnswer.TheVariants as told
-use Rattle.rules.specs.Limits.{command_limit, state_bytes}
+use Rattle.rules.specs.Limits.{command_limit}
 use Rattle.rules.specs.Run.{reached}
 use Rattle.rules.specs.File.{File}
 use Rattle.rules.specs.State.{State}
-use Rattle.rules.specs.Lent.{Answer, success, refusal, Lent, Called, run_answer, run_leaves}
+use Rattle.rules.specs.Lent.{success, refusal, Lent, Called, run_answer}
 use Rattle.rules.specs.Stock.{in_stock, stock_among, stock, boards_left, stock_answer}
 use Rattle.rules.specs.Questions.{ask_in_numbers, count_of, answer_of, leaves_of}
 use Rattle.theorems.proofs.Beside.{beside}
@@ -29,7 +28,7 @@ use Rattle.theorems.proofs.Asking.{refused_first_lem, asked_loaded, left_as_run_
 use Rattle.loaded.specs.Loaded.{file_in}
 use Rattle.engine.specs.Runs.{lent_with}
 use Rattle.engine.specs.declared.Finished.{Finished}
-use Rattle.engine.specs.Raw.{ran_in, Ran, Runs, Stood}
+use Rattle.engine.specs.Raw.{ran_in, Runs, Stood}
 use Rattle.engine.proofs.Whole.{run_left, run_stood, near_place}
 use Rattle.asking.specs.Asks.{Askable, Answers}
 

@@ -2,10 +2,10 @@
 --     room_fits, first-ready, climb-ready, answer-ready     what a run leaves is what Path needs
 --     path-ran       what a run and the path by its ledger leave is what the rules say
 -- Assumes nothing.
-use mathlib.Core.Path.{◌≡◌, refl, sym, ap, subst, subst⁻¹, ◌∙◌}
+use mathlib.Core.Path.{◌≡◌, refl, sym, ap, subst, ◌∙◌}
 use mathlib.Core.Bool.{Bool, true, false, cond, ◌&&◌, ◌||◌}
 use mathlib.Core.List.{List, [], ◌∷◌, ◌++◌}
-use Prim.Native.Nat.{ℕ, zero, suc, ◌+◌, ◌-◌, ◌^◌, ◌<◌, ◌≤◌}
+use Prim.Native.Nat.{ℕ, zero, suc, ◌+◌, ◌-◌, ◌<◌, ◌≤◌}
 use native.Mathlib.Omega.{arith}
 use native.Mathlib.Decide.{dec_lt}
 use lib.Dec.{eqb, leb}
@@ -14,7 +14,7 @@ use lib.Seq.{sets, sets-eq}
 use borrow.Author.Tests.{eq-eqb, ne_eqb, le-leb, lt-leb}
 use Rattle.rules.specs.declared.Entry.{Entry}
 use Rattle.rules.specs.declared.PathAnswer.{PathAnswer}
-use Rattle.rules.specs.Limits.{file_limit, term_limit, command_limit, state_bytes, register_bytes, depth_limit, path_places}
+use Rattle.rules.specs.Limits.{term_limit, command_limit, state_bytes, register_bytes, depth_limit, path_places}
 use Rattle.rules.specs.Load.{Load, loaded, refused, load}
 use Rattle.rules.specs.State.{listed, depth_of, parent_of}
 use Rattle.rules.specs.Run.{reached}
@@ -27,7 +27,7 @@ use Rattle.turns.specs.declared.Begun.{Begun}
 use Rattle.beginning.specs.Begins.{roomy, stops}
 use Rattle.engine.specs.Runs.{lent_with}
 use Rattle.engine.specs.declared.Finished.{Finished}
-use Rattle.engine.specs.Raw.{ran_in, Ran, Runs, Stood}
+use Rattle.engine.specs.Raw.{ran_in, Runs, Stood}
 use Rattle.engine.proofs.Whole.{run_left, run_stood, near_place, run_short}
 use Rattle.path.specs.declared.Stage.{Stage}
 use Rattle.path.specs.Climbing.{place_at, climbed, first_length, FirstReady, first_stage, ClimbReady, AnswerReady, Answers}

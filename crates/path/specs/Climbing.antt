@@ -1,9 +1,9 @@
 -- A path by the tables' column of places and the entries of a lent ledger.
-use Rattle.std.specs.Prelude.{◌≡◌, Bool, cond, List, [], ◌∷◌, ℕ, zero, suc, ◌+◌, ◌-◌, ◌%◌, ◌^◌, ◌<◌, ◌≤◌, eqb, length, get_or}
+use Rattle.std.specs.Prelude.{◌≡◌, cond, List, [], ◌∷◌, ℕ, zero, suc, ◌+◌, ◌-◌, ◌%◌, ◌^◌, ◌<◌, ◌≤◌, eqb, length, get_or}
 use Rattle.rules.specs.declared.Entry.{Entry}
 use Rattle.rules.specs.declared.PathAnswer.{PathAnswer}
 use Rattle.rules.specs.Limits.{term_limit, depth_limit}
-use Rattle.rules.specs.Lent.{Answer, success, refusal, no_entry, path_in_numbers}
+use Rattle.rules.specs.Lent.{success, refusal, no_entry, path_in_numbers}
 use Rattle.tables.specs.Regions.{tables_in}
 use Rattle.engine.specs.declared.Finished.{Finished}
 use Rattle.path.specs.declared.Stage.{Stage}

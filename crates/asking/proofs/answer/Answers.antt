@@ -1,6 +1,5 @@
 -- `asking::answer` meets its contract: what is told where there was a run, else the run's refusal. Assumes nothing.
-use borrow.Author.Rules.{rules}
-use mathlib.Core.Path.{◌≡◌, sym}
+use mathlib.Core.Path.{sym}
 use native.Mathlib.Omega.{arith}
 use lib.Seq.{length-take-le}
 use Rattle.rules.specs.Limits.{state_bytes}

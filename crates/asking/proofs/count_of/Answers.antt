@@ -1,5 +1,4 @@
 -- `asking::count_of` meets its contract. Assumes nothing.
-use borrow.Author.Rules.{rules}
 use mathlib.Core.Path.{sym, ap}
 use Rattle.rules.specs.Questions.{count_of}
 use Rattle.asking.proofs.count_of.Goals as goal

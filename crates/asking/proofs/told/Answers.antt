@@ -1,5 +1,4 @@
 -- `asking::told` meets its contract: an arm for each question. Assumes nothing.
-use borrow.Author.Rules.{rules}
 use mathlib.Core.Path.{◌≡◌, subst⁻¹}
 use Rattle.rules.specs.declared.Question.{Question}
 use Rattle.rules.specs.declared.AskAnswer.TheVariants.{Totals}

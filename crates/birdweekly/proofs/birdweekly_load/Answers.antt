@@ -1,6 +1,5 @@
 -- `birdweekly::birdweekly_load` meets its contract: the loader's answer, as numbers. Assumes nothing.
 use mathlib.Core.Path.{◌≡◌, sym, ap, ◌∙◌}
-use borrow.Author.Rules.{rules}
 use Prim.Native.Nat.{ℕ}
 use Rattle.rules.specs.declared.LoadAnswer.{LoadAnswer}
 use Rattle.rules.specs.declared.LoadAnswer.TheVariants.{Loaded, Refused}

@@ -1,7 +1,6 @@
 -- `birdweekly::in_numbers` meets its contract: an arm for each answer. Assumes nothing.
 use mathlib.Core.Path.{◌≡◌, sym, ap}
 use Prim.Native.Nat.{ℕ}
-use borrow.Author.Rules.{rules}
 use Rattle.rules.specs.declared.AskAnswer.{AskAnswer}
 use Rattle.rules.specs.declared.AskAnswer.TheVariants.{Totals, Boards, Refused}
 use Rattle.rules.specs.Questions.{ask_in_numbers}

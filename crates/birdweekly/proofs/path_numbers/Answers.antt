@@ -1,7 +1,6 @@
 -- `birdweekly::path_numbers` meets its contract. Assumes nothing.
 use mathlib.Core.Path.{◌≡◌, sym, ap}
 use Prim.Native.Nat.{ℕ}
-use borrow.Author.Rules.{rules}
 use Rattle.rules.specs.declared.PathAnswer.{PathAnswer}
 use Rattle.rules.specs.declared.PathAnswer.TheVariants.{Steps, Refused}
 use Rattle.rules.specs.Lent.{path_in_numbers}

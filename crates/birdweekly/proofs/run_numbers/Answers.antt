@@ -1,6 +1,5 @@
 -- `birdweekly::run_numbers` meets its contract: the values by their names. Assumes nothing.
 use mathlib.Core.Path.{ap}
-use borrow.Author.Rules.{rules}
 use Rattle.birdweekly.specs.declared.Numbers.{Numbers}
 use Rattle.birdweekly.specs.declared.RunNumbers.{RunNumbers}
 use Rattle.birdweekly.proofs.run_numbers.Goals as goal

@@ -1,6 +1,5 @@
 -- `birdweekly::stock_numbers` meets its contract: the values by their names. Assumes nothing.
 use mathlib.Core.Path.{ap}
-use borrow.Author.Rules.{rules}
 use Rattle.birdweekly.specs.declared.Numbers.{Numbers}
 use Rattle.birdweekly.specs.declared.StockNumbers.{StockNumbers}
 use Rattle.birdweekly.proofs.stock_numbers.Goals as goal

@@ -1,5 +1,4 @@
 -- `path::answer` meets its contract. Assumes nothing.
-use borrow.Author.Rules.{rules}
 use native.Mathlib.Omega.{arith}
 use Rattle.path.proofs.Climbing.{told_refused, told_none, told_some}
 use Rattle.path.proofs.answer.Goals as goal

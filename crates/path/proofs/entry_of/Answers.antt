@@ -1,5 +1,4 @@
 -- `path::entry_of` meets its contract. Assumes nothing.
-use borrow.Author.Rules.{rules}
 use mathlib.Core.Path.{sym}
 use Rattle.path.proofs.Climbing.{column_beyond}
 use Rattle.path.proofs.entry_of.Goals as goal

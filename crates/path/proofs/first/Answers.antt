@@ -1,6 +1,4 @@
 -- `path::first` meets its contract. Assumes nothing.
-use borrow.Author.Rules.{rules}
-use native.Mathlib.Omega.{arith}
 use Rattle.path.proofs.Climbing.{first_is_lem}
 use Rattle.path.proofs.first.Goals as goal
 

@@ -1,7 +1,5 @@
 -- `path::length_of` meets its contract. Assumes nothing.
-use borrow.Author.Rules.{rules}
-use native.Mathlib.Omega.{arith}
-use mathlib.Core.Path.{◌≡◌, sym, ◌∙◌}
+use mathlib.Core.Path.{sym, ◌∙◌}
 use Rattle.path.proofs.Climbing.{column_beyond, first_refused_lem, first_none, first_some}
 use Rattle.path.proofs.length_of.Goals as goal
 

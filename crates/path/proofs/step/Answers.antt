@@ -1,6 +1,4 @@
 -- `path::step` meets its contract. Assumes nothing.
-use borrow.Author.Rules.{rules}
-use native.Mathlib.Omega.{arith}
 use mathlib.Core.Path.{refl}
 use Rattle.path.proofs.Climbing.{next_is}
 use Rattle.path.proofs.step.Goals as goal
