@@ -3,6 +3,7 @@
 --     askable                       what a run leaves can be asked
 --     ask-ran                       the whole promise
 -- Assumes nothing.
+use Rattle.tables.specs.declared.columns.Tables.{Tables}
 use mathlib.Core.Path.{◌≡◌, refl, sym, ap, subst, ◌∙◌}
 use mathlib.Core.Bool.{cond}
 use mathlib.Core.List.{List, [], ◌∷◌}
@@ -47,7 +48,7 @@ ran_numbers r z = rw (eq-eqb r.begun.number 0 z) refl
 pub refused_numbers : (r : Finished) → (r.begun.number ≡ 0 → ⊥) → ran_in r ≡ refusal r.begun.number r.begun.place
 refused_numbers r z = rw (ne_eqb r.begun.number 0 z) refl
 
-module _ (bs : List ℕ) (n : ℕ) (s : List ℕ) (l : List Entry) (out g s' : List ℕ) {l' : List Entry} {out' g' tables : List ℕ} {r : Finished} (w : Runs bs n (length l) s l out g s' l' out' g' tables r) (ls : length s' ≡ length s) where
+module _ (bs : List ℕ) (n : ℕ) (s : List ℕ) (l : List Entry) (out g s' : List ℕ) {l' : List Entry} {out' g' : List ℕ} {tables : Tables} {r : Finished} (w : Runs bs n (length l) s l out g s' l' out' g' tables r) (ls : length s' ≡ length s) where
   abbrev stood : r.begun.number ≡ 0 → Stood bs n (lent_with s l out g) (lent_with s' l' out' g') tables r
   stood z = run_stood bs n s l out g s' w z ls
 
@@ -79,7 +80,7 @@ module _ (bs : List ℕ) (lent : Lent) where
   refused_by (Stock party iaks) number place q = sym (refused_first_lem (boards_left party iaks) bs command_limit lent number place (sym q))
 
   -- what is told of what the run left is the answer
-  ran_by : (question : Question) {after : Lent} {tables : List ℕ} {r : Finished} (x : AskAnswer) → r.begun.number ≡ 0 → ran_in r ≡ run_answer bs (count_of question) lent
+  ran_by : (question : Question) {after : Lent} {tables : Tables} {r : Finished} (x : AskAnswer) → r.begun.number ≡ 0 → ran_in r ≡ run_answer bs (count_of question) lent
       → Stood bs (count_of question) lent after tables r → Answers r question bs after.state x → ask_in_numbers x ≡ answer_of question bs lent
   unfolding count_of answer_of stock_answer
   ran_by (Totals n) {after} {tables} {r} x z q left h = h.told z [] ∙ sym (ran_numbers r z) ∙ q
@@ -93,7 +94,7 @@ module _ (bs : List ℕ) (lent : Lent) where
 abbrev pub AskRan : List ℕ → Question → Lent → Lent → AskAnswer → Type 0
 AskRan bs question lent after x = Called (answer_of question bs) (leaves_of question bs) lent after (ask_in_numbers x)
 
-module _ (bs : List ℕ) (question : Question) (s : List ℕ) (l : List Entry) (out g s' : List ℕ) {l' : List Entry} {out' g' tables : List ℕ} {r : Finished} where
+module _ (bs : List ℕ) (question : Question) (s : List ℕ) (l : List Entry) (out g s' : List ℕ) {l' : List Entry} {out' g' : List ℕ} {tables : Tables} {r : Finished} where
   asked_of : Runs bs (count_of question) (length l) s l out g s' l' out' g' tables r → length s' ≡ length s → (x : AskAnswer) → Answers r question bs s' x → AskRan bs question (lent_with s l out g) (lent_with s' l' out' g') x
   asked_of w ls x h =
       let run = run_left bs (count_of question) s l out g s' w in

@@ -3,6 +3,7 @@
 --     start-ready                    what loading leaves is what registers are filled by
 --     begins-short, begins-long, begins-parts     too short a buffer, too long a file, and the first parts written
 -- Assumes nothing.
+use Rattle.tables.specs.declared.columns.Tables.{Tables}
 use mathlib.Core.Path.{◌≡◌, refl, sym, ap, subst⁻¹, ◌∙◌}
 use mathlib.Core.Logic.{inl, inr}
 use mathlib.Core.Bool.{true, false, false≢true, ◌&&◌}
@@ -41,7 +42,7 @@ module _ (state room outcomes registers : ℕ) (e : roomy state room outcomes re
   pub registers_long : register_bytes ≤ registers
   registers_long = leb-true register_bytes registers three.1
 
-pub start_ready : {bs s tables : List ℕ} {r : Scanned} → FillResult bs s tables r → length s ≡ state_bytes → r.number ≡ 0 → StartReady bs tables r.tally.parties r.tally.terms
+pub start_ready : {bs s : List ℕ} {tables : Tables} {r : Scanned} → FillResult bs s tables r → length s ≡ state_bytes → r.number ≡ 0 → StartReady bs tables r.tally.parties r.tally.terms
 start_ready {s = s} (inl (z, w)) room e = record {
   loads = (s, filled_holds w room);
   finds = filled_finds w;
@@ -50,14 +51,14 @@ start_ready {s = s} (inl (z, w)) room e = record {
 }
 start_ready (inr (m, z, l, k)) room e = absurd (omega (arith, e, z))
 
-module _ {bs : List ℕ} {room : ℕ} {s out g tables : List ℕ} {b : Begun} where
+module _ {bs : List ℕ} {room : ℕ} {s out g : List ℕ} {tables : Tables} {b : Begun} where
   pub begins_short : roomy (length s) room (length out) (length g) ≡ false → b ≡ stops 1 → Begins bs room s out g s out g tables b
   begins_short e q = record { short_buffers = λ _. (q, (refl, (refl, refl))); long_file = λ t. absurd (false≢true (sym e ∙ t)); parts = λ t. absurd (false≢true (sym e ∙ t)) }
 
   pub begins_long : roomy (length s) room (length out) (length g) ≡ true → file_limit < length bs → b ≡ stops 2 → Begins bs room s out g s out g tables b
   begins_long e h q = record { short_buffers = λ t. absurd (false≢true (sym t ∙ e)); long_file = λ _ _. (q, (refl, (refl, refl))); parts = λ _ l. absurd (omega (arith, h, l)) }
 
-pub begins_parts : {bs : List ℕ} {room : ℕ} {s out g s' out' g' tables : List ℕ} {b : Begun} → roomy (length s) room (length out) (length g) ≡ true → length bs ≤ file_limit
+pub begins_parts : {bs : List ℕ} {room : ℕ} {s out g s' out' g' : List ℕ} {tables : Tables} {b : Begun} → roomy (length s) room (length out) (length g) ≡ true → length bs ≤ file_limit
     → length s' ≡ state_bytes → length out' ≡ command_limit → length g' ≡ register_bytes → PartsBegin bs s' out' g' tables b
     → Begins bs room s out g (s' ++ drop state_bytes s) (out' ++ drop command_limit out) (g' ++ drop register_bytes g) tables b
 begins_parts {bs} {s = s} {out} {g} {s'} {out'} {g'} {tables} {b} e h ls lo lg w = record {

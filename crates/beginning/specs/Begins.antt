@@ -1,10 +1,11 @@
 -- What is found and left before the first command.
+use Rattle.tables.specs.declared.columns.Tables.{Tables}
 use Rattle.std.specs.Prelude.{◌≡◌, Bool, true, false, ◌&&◌, List, ℕ, ◌<◌, ◌≤◌, leb, length, take, drop, replicate}
 use Rattle.rules.specs.Limits.{file_limit, term_limit, command_limit, state_bytes, register_bytes}
 use Rattle.rules.specs.State.{start_registers}
 use Rattle.state.proofs.Exact.{Bytes}
 use Rattle.scan.specs.declared.Scanned.{Scanned}
-use Rattle.tables.specs.Regions.{EmptyTables}
+use Rattle.tables.specs.Columns.{EmptyTables}
 use Rattle.loader.specs.Tabled.{FillResult}
 use Rattle.loaded.specs.Loaded.{file_in, Finds}
 use Rattle.registers.specs.View.{registers_in}
@@ -23,7 +24,7 @@ abbrev pub begun_by : Scanned → Begun
 begun_by r = record { number = r.number; place = r.place; places = term_limit; parties = r.tally.parties; terms = r.tally.terms; first = r.first }
 
 -- a file that loaded, for its registers
-pub record StartReady (bs tables : List ℕ) (parties terms : ℕ) : Type 0 where
+pub record StartReady (bs : List ℕ) (tables : Tables) (parties terms : ℕ) : Type 0 where
   pub loads : Loads bs
   pub finds : Finds bs tables
   pub parties_are : parties ≡ length (file_in bs).roles
@@ -34,14 +35,14 @@ pub record Registered (bs : List ℕ) (number : ℕ) (g : List ℕ) : Type 0 whe
   pub started : number ≡ 0 → registers_in g ≡ start_registers (file_in bs)
   pub cleared : (number ≡ 0 → ⊥) → g ≡ replicate register_bytes 0
 
-pub record PartsReady (bs s out g tables : List ℕ) : Type 0 where
+pub record PartsReady (bs s out g : List ℕ) (tables : Tables) : Type 0 where
   pub short : length bs ≤ file_limit
   pub room : length s ≡ state_bytes
   pub places : length out ≡ command_limit
   pub registers : length g ≡ register_bytes
   pub empty : EmptyTables tables
 
-pub record PartsBegin (bs s out g tables : List ℕ) (b : Begun) : Type 0 where
+pub record PartsBegin (bs s out g : List ℕ) (tables : Tables) (b : Begun) : Type 0 where
   pub scanned : Scanned
   pub filled : FillResult bs s tables scanned
   pub begun : b ≡ begun_by scanned
@@ -51,7 +52,7 @@ pub record PartsBegin (bs s out g tables : List ℕ) (b : Begun) : Type 0 where
   pub registers_bytes : Bytes g
 
 -- in buffers of any length
-pub record Begins (bs : List ℕ) (room : ℕ) (s out g s' out' g' tables' : List ℕ) (b : Begun) : Type 0 where
+pub record Begins (bs : List ℕ) (room : ℕ) (s out g s' out' g' : List ℕ) (tables' : Tables) (b : Begun) : Type 0 where
   pub short_buffers : roomy (length s) room (length out) (length g) ≡ false → (b ≡ stops 1) × ((s' ≡ s) × ((out' ≡ out) × (g' ≡ g)))
   pub long_file : roomy (length s) room (length out) (length g) ≡ true → file_limit < length bs → (b ≡ stops 2) × ((s' ≡ s) × ((out' ≡ out) × (g' ≡ g)))
   pub parts : roomy (length s) room (length out) (length g) ≡ true → length bs ≤ file_limit

@@ -3,16 +3,17 @@
 
 ghost use Rattle.std.specs.Prelude.{◌≡◌, length};
 ghost use Rattle.rules.specs.Limits.{register_bytes};
-ghost use Rattle.tables.specs.Regions.{EmptyTables};
+ghost use Rattle.tables.specs.Columns.{EmptyTables};
 ghost use Rattle.beginning.specs.Begins.{roomy, StartReady, Registered, PartsReady, PartsBegin, Begins, stops};
 
 use turns::Begun;
+use tables::Tables;
 
 // What registers hold before the first command, where loading found so many parties and terms, or a refusal.
 fn begin_registers(
     file: &[u8],
     registers: &mut [u8],
-    tables: &[u16; tables::WORDS],
+    tables: &Tables,
     number: u8,
     parties: usize,
     terms: usize,
@@ -33,7 +34,7 @@ fn begin_parts(
     state: &mut [u8],
     outcomes: &mut [u8],
     registers: &mut [u8],
-    tables: &mut [u16; tables::WORDS],
+    tables: &mut Tables,
 ) -> Begun
     requires { PartsReady file.now state.old outcomes.old registers.old tables.old }
     ensures { PartsBegin file.now state.new outcomes.new registers.new tables.new result }
@@ -96,7 +97,7 @@ pub fn begin(
     state: &mut [u8],
     outcomes: &mut [u8],
     registers: &mut [u8],
-    tables: &mut [u16; tables::WORDS],
+    tables: &mut Tables,
 ) -> Begun
     requires { EmptyTables tables.old }
     ensures { Begins file.now room state.old outcomes.old registers.old state.new outcomes.new registers.new tables.new result }

@@ -13,7 +13,7 @@ use borrow.Author.Tests.{eqb-true, eqb-false, eq-eqb, ne_eqb}
 use Rattle.rules.specs.State.{put}
 use Rattle.theorems.specs.Residency.{All}
 use Rattle.theorems.proofs.Pigeonhole.{pigeonhole}
-use Rattle.tables.specs.Regions.{serial_buckets, serial_bucket, Boards, Unlinked, with_ek, linked}
+use Rattle.tables.specs.Columns.{serial_buckets, serial_bucket, Boards, Unlinked, with_ek, linked}
 use Rattle.boards.specs.Linked.{Falls, walk, entry_of}
 use Rattle.boards.proofs.Walk.{falls_linked, falls_more}
 

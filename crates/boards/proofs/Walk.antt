@@ -12,7 +12,7 @@ use native.Mathlib.Omega.{arith}
 use lib.Dec.{eqb}
 use borrow.Author.Tests.{eqb-true, eqb-false, eq-eqb, ne_eqb}
 use Rattle.rules.specs.State.{put}
-use Rattle.tables.specs.Regions.{serial_bucket, Boards, linked}
+use Rattle.tables.specs.Columns.{serial_bucket, Boards, linked}
 use Rattle.boards.specs.Linked.{Falls, walk, entry_of}
 
 module _ (b : Boards) (n : ℕ) (f : Falls b n) (s : ℕ) where

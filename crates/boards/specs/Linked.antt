@@ -1,7 +1,7 @@
 -- The ledger's entries by their Subject's serial number: a list for each bucket, the entry that was linked last first. An entry is one more
 -- than its place, or 0.
 use Rattle.std.specs.Prelude.{cond, ℕ, zero, suc, ◌-◌, ◌≤◌, eqb}
-use Rattle.tables.specs.Regions.{serial_bucket, Boards}
+use Rattle.tables.specs.Columns.{serial_bucket, Boards}
 
 -- the lists of n entries: each entry stands before those of lower places
 pub record Falls (b : Boards) (n : ℕ) : Type 0 where

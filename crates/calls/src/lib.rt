@@ -10,9 +10,10 @@ ghost use Rattle.path.specs.Climbing.{ClimbReady, climbed};
 
 use path::Stage;
 use rules::{AskAnswer, Entry, PathAnswer, Question};
+use tables::Tables;
 
 // The steps of a path go to the list, an entry of the ledger read for each.
-fn climb(tables: &[u16; tables::WORDS], ledger: &[Entry], list: &mut [u16], start: Stage)
+fn climb(tables: &Tables, ledger: &[Entry], list: &mut [u16], start: Stage)
     requires { ClimbReady tables.now ledger.now list.old start }
     ensures { list.new ≡ sets list.old start.at (climbed tables.now ledger.now start.left start.certificate) }
 {
@@ -40,7 +41,7 @@ pub fn ask(
 {
     let room = ledger.len();
     let n = asking::count_of(question);
-    let mut tables = [0u16; tables::WORDS];
+    let mut tables = Tables::new();
     let done = engine::run(
         file,
         n,
@@ -73,7 +74,7 @@ pub fn path(
     let places = list.len();
     let length = ledger.len();
     let room = path::room_for(places, length);
-    let mut tables = [0u16; tables::WORDS];
+    let mut tables = Tables::new();
     let done = engine::run(
         file,
         n,

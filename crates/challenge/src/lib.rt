@@ -12,6 +12,8 @@ ghost use Rattle.state.proofs.Exact.{state_of};
 ghost use Rattle.theorems.specs.Chain.{chain};
 ghost use Rattle.loaded.specs.Loaded.{file_in, Holds, Finds, Decides, Leaves};
 
+use tables::Tables;
+
 // The number of a challenge: known to the desk, to one party in all, and unused.
 fn fresh_number(state: &[u8], party: usize, number: usize) -> u8
     requires { (party < party_limit) × (row_width * number + row_width ≤ length state.now) }
@@ -33,7 +35,7 @@ fn fresh_number(state: &[u8], party: usize, number: usize) -> u8
 pub fn decide(
     file: &[u8],
     state: &[u8],
-    tables: &[u16; tables::WORDS],
+    tables: &Tables,
     parties: usize,
     party: usize,
     q: usize,
@@ -78,7 +80,7 @@ pub fn decide(
 pub fn effect(
     file: &[u8],
     state: &mut [u8],
-    tables: &[u16; tables::WORDS],
+    tables: &Tables,
     party: usize,
     q: usize,
     r: usize,

@@ -14,7 +14,7 @@ use Rattle.rules.specs.Record.{section_of, body_length, fields_of, width, widths
 use Rattle.rules.specs.Load.{first}
 use Rattle.records.specs.Codes.{code_of, packed, low_field}
 use Rattle.records.proofs.EachKind.{agree}
-use Rattle.tables.specs.Regions.{Terms}
+use Rattle.tables.specs.Columns.{Terms}
 use Rattle.checks.specs.There.{field_fault_noted}
 use Rattle.checks.specs.Plain.{fields_fault_noted, Plain}
 

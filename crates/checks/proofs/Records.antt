@@ -6,7 +6,7 @@ use mathlib.Core.List.Memᴰ
 use mathlib.Core.List.{[], ◌∷◌}
 use Prim.Native.Nat.{ℕ, ◌<◌}
 use Rattle.rules.specs.Term.{hash_kind, signature_kind}
-use Rattle.tables.specs.Regions.{Terms, field_of}
+use Rattle.tables.specs.Columns.{Terms, field_of}
 use Rattle.learning.specs.Noted.{parts_by, parts_noted, TermsNoted}
 
 signature_parts : (v : Terms) (t : ℕ) → v.kind t ≡ signature_kind → parts_noted v t ≡ field_of v t 0 ∷ []

@@ -11,7 +11,7 @@ use Rattle.rules.specs.declared.Field.TheVariants.{IdentifierField, AttributesFi
 use Rattle.rules.specs.Term.{public_key_kind, private_key_kind}
 use Rattle.rules.specs.Record.{section_of, body_length, fields_of, width, widths}
 use Rattle.records.proofs.EachKind.{agree}
-use Rattle.tables.specs.Regions.{Terms}
+use Rattle.tables.specs.Columns.{Terms}
 use Rattle.checks.specs.There.{field_fault_noted}
 use Rattle.checks.specs.Plain.{fields_fault_noted, Right}
 use Rattle.checks.proofs.Plain.{both}

@@ -3,7 +3,7 @@ use Rattle.std.specs.Prelude.{◌≡◌, List, [], ◌∷◌, ℕ, ◌+◌, ◌�
 use Rattle.rules.specs.declared.Field.{Field}
 use Rattle.rules.specs.Record.{section_of, body_length, fields_of, width, command_section}
 use Rattle.rules.specs.Load.{first}
-use Rattle.tables.specs.Regions.{Terms}
+use Rattle.tables.specs.Columns.{Terms}
 use Rattle.checks.specs.There.{field_fault_noted}
 
 -- 7, 8: the fields of a body in their order, from an offset on

@@ -10,7 +10,7 @@ use Rattle.rules.specs.Term.{hash_kind, signature_kind, attest_kind, credential_
 use Rattle.rules.specs.Record.{party_section, term_section, word}
 use Rattle.rules.specs.Load.{first, refuse_unless, empty_pair}
 use Rattle.state.specs.View.{view}
-use Rattle.tables.specs.Regions.{Terms, field_of}
+use Rattle.tables.specs.Columns.{Terms, field_of}
 use Rattle.learning.specs.There.{TermRecord, kind_there, term_there, parts_there}
 
 -- 3 to 6 at a record: its section and the place where it ends, the file's length, the section and the counts so far

@@ -9,46 +9,42 @@ ghost use Rattle.rules.specs.Record.{body_length, width as width_of, word};
 ghost use Rattle.rules.specs.Load.{refuse_unless, empty_pair};
 ghost use Rattle.records.specs.Codes.{field_limit, FieldRows};
 ghost use Rattle.state.specs.View.{view};
-ghost use Rattle.tables.specs.Regions.{Terms, tables_in};
+ghost use Rattle.tables.specs.Columns.{Terms, tables_in};
 ghost use Rattle.learning.specs.There.{kind_there};
 ghost use Rattle.learning.specs.Noted.{TermsNoted};
 ghost use Rattle.checks.specs.There.{head_fault, role_there, inner_fault_noted, field_fault_noted};
 ghost use Rattle.checks.specs.Plain.{Plain, Right};
 
-use rules::{Attributes, Field};
+use rules::{Attributes, Field, Refusal};
+use tables::Tables;
 
-// 3 to 6 at a record, by its kind's section and the place where it ends: 0, or the refusal.
-pub fn head_fault(
+// 3 to 6 at a record, by its kind's section and the place where it ends.
+pub fn check_head(
     own: u8,
     end: usize,
     length: usize,
     section: u8,
     parties: usize,
     terms: usize,
-) -> u8
-    ensures { result ≡ head_fault own end length section parties terms }
+) -> Result<(), Refusal>
+    ensures { number_in result ≡ head_fault own end length section parties terms }
 {
     if own == 0 {
-        return 3;
+        return Err(Refusal::KindUnknown);
     }
     if length < end {
-        return 4;
+        return Err(Refusal::CutShort);
     }
     if own < section {
-        return 5;
+        return Err(Refusal::SectionOrder);
     }
-    if own == 1 {
-        if rules::PARTY_LIMIT <= parties {
-            return 6;
-        }
-        return 0;
+    if own == 1 && rules::PARTY_LIMIT <= parties {
+        return Err(Refusal::TooMany);
     }
-    if own == 2 {
-        if rules::TERM_LIMIT <= terms {
-            return 6;
-        }
+    if own == 2 && rules::TERM_LIMIT <= terms {
+        return Err(Refusal::TooMany);
     }
-    0
+    Ok(())
 }
 
 // The role of a party, from its record.
@@ -69,7 +65,7 @@ pub fn kind_there(file: &[u8], state: &[u8], t: usize) -> u8
 }
 
 // A byte of the body below a limit: 0, or 7.
-fn byte_fault(body: &[u8], i: usize, limit: usize) -> u8
+fn check_byte(body: &[u8], i: usize, limit: usize) -> u8
     requires { i < length body.now }
     ensures { result ≡ refuse_unless 7 (ltb (get_or body.now i 0) limit) }
 {
@@ -78,7 +74,7 @@ fn byte_fault(body: &[u8], i: usize, limit: usize) -> u8
 }
 
 // A declared term number in the body: 0, or 7.
-fn declared_fault(body: &[u8], i: usize, terms: usize) -> u8
+fn check_declared(body: &[u8], i: usize, terms: usize) -> u8
     requires { i + 1 < length body.now }
     ensures { result ≡ refuse_unless 7 (ltb (word body.now i) terms) }
 {
@@ -87,7 +83,7 @@ fn declared_fault(body: &[u8], i: usize, terms: usize) -> u8
 }
 
 // A declared term of a kind in the body: 0, 7 or 8.
-fn kind_fault(tables: &[u16; tables::WORDS], body: &[u8], i: usize, kind: u8, terms: usize) -> u8
+fn check_kind(tables: &Tables, body: &[u8], i: usize, kind: u8, terms: usize) -> u8
     requires { TermsNoted (tables_in tables.now).terms terms × (i + 1 < length body.now) }
     ensures { result ≡ field_fault_noted (tables_in tables.now).terms 0 terms (TermOf kind) i body.now }
 {
@@ -95,7 +91,7 @@ fn kind_fault(tables: &[u16; tables::WORDS], body: &[u8], i: usize, kind: u8, te
     if terms <= t {
         return 7;
     }
-    if tables::kind_of(tables, t) == kind as u16 {
+    if tables.kind_of(t) == kind as u16 {
         0
     } else {
         8
@@ -103,8 +99,8 @@ fn kind_fault(tables: &[u16; tables::WORDS], body: &[u8], i: usize, kind: u8, te
 }
 
 // A hash of a term of a kind in the body, or a signature over one: 0, 7 or 8.
-fn inner_fault(
-    tables: &[u16; tables::WORDS],
+fn check_inner(
+    tables: &Tables,
     body: &[u8],
     i: usize,
     outer: u16,
@@ -120,11 +116,11 @@ fn inner_fault(
     if terms <= t {
         return 7;
     }
-    if tables::kind_of(tables, t) != outer {
+    if tables.kind_of(t) != outer {
         return 8;
     }
-    let content = tables::field_of(tables, t, 0) as usize;
-    if tables::kind_of(tables, content) == inner {
+    let content = tables.field_of(t, 0) as usize;
+    if tables.kind_of(content) == inner {
         0
     } else {
         8
@@ -144,7 +140,7 @@ pub fn empty_pair(body: &[u8], i: usize) -> bool
 }
 
 // A credential and a certificate in the body, or an empty pair: 0, 7 or 8.
-fn pair_fault(tables: &[u16; tables::WORDS], body: &[u8], i: usize, terms: usize) -> u8
+fn check_pair(tables: &Tables, body: &[u8], i: usize, terms: usize) -> u8
     requires { TermsNoted (tables_in tables.now).terms terms × (i + 3 < length body.now) }
     ensures { result ≡ field_fault_noted (tables_in tables.now).terms 0 terms IakPairField i body.now }
 {
@@ -152,16 +148,16 @@ fn pair_fault(tables: &[u16; tables::WORDS], body: &[u8], i: usize, terms: usize
     if empty_pair(body, i) {
         return 0;
     }
-    let bad = kind_fault(tables, body, i, 0x15, terms);
+    let bad = check_kind(tables, body, i, 0x15, terms);
     if bad != 0 {
         return bad;
     }
-    kind_fault(tables, body, second, 0x19, terms)
+    check_kind(tables, body, second, 0x19, terms)
 }
 
 // 7, 8 at a field of a body: 0, or the refusal.
-pub fn field_fault(
-    tables: &[u16; tables::WORDS],
+pub fn check_field(
+    tables: &Tables,
     body: &[u8],
     field: Field,
     i: usize,
@@ -172,24 +168,24 @@ pub fn field_fault(
     ensures { result ≡ field_fault_noted (tables_in tables.now).terms parties terms field i body.now }
 {
     match field {
-        Field::RoleField => byte_fault(body, i, rules::ROLE_COUNT),
+        Field::RoleField => check_byte(body, i, rules::ROLE_COUNT),
         Field::IdentifierField => 0,
-        Field::AttributesField => byte_fault(body, i, Attributes::LIMIT),
-        Field::SubjectField => byte_fault(body, i, 2),
-        Field::PartyField => byte_fault(body, i, parties),
-        Field::AnyTerm => declared_fault(body, i, terms),
-        Field::TermOf(kind) => kind_fault(tables, body, i, kind, terms),
-        Field::SignedAttest => inner_fault(tables, body, i, 0x13, 0x14, terms),
-        Field::IakPairField => pair_fault(tables, body, i, terms),
-        Field::RegisterField => byte_fault(body, i, rules::REGISTER_COUNT),
-        Field::HashedPair => inner_fault(tables, body, i, 0x12, 0x1A, terms),
-        Field::SignedQuote => inner_fault(tables, body, i, 0x13, 0x1C, terms),
+        Field::AttributesField => check_byte(body, i, Attributes::LIMIT),
+        Field::SubjectField => check_byte(body, i, 2),
+        Field::PartyField => check_byte(body, i, parties),
+        Field::AnyTerm => check_declared(body, i, terms),
+        Field::TermOf(kind) => check_kind(tables, body, i, kind, terms),
+        Field::SignedAttest => check_inner(tables, body, i, 0x13, 0x14, terms),
+        Field::IakPairField => check_pair(tables, body, i, terms),
+        Field::RegisterField => check_byte(body, i, rules::REGISTER_COUNT),
+        Field::HashedPair => check_inner(tables, body, i, 0x12, 0x1A, terms),
+        Field::SignedQuote => check_inner(tables, body, i, 0x13, 0x1C, terms),
     }
 }
 
 // The same of a command's field: a party and a term of a kind at once, the rest as of any field.
-pub fn command_fault(
-    tables: &[u16; tables::WORDS],
+pub fn check_command_field(
+    tables: &Tables,
     body: &[u8],
     field: Field,
     i: usize,
@@ -200,31 +196,31 @@ pub fn command_fault(
     ensures { result ≡ field_fault_noted (tables_in tables.now).terms parties terms field i body.now }
 {
     match field {
-        Field::RoleField => field_fault(tables, body, field, i, parties, terms),
-        Field::IdentifierField => field_fault(tables, body, field, i, parties, terms),
-        Field::AttributesField => field_fault(tables, body, field, i, parties, terms),
-        Field::SubjectField => field_fault(tables, body, field, i, parties, terms),
-        Field::PartyField => byte_fault(body, i, parties),
-        Field::AnyTerm => field_fault(tables, body, field, i, parties, terms),
-        Field::TermOf(kind) => kind_fault(tables, body, i, kind, terms),
-        Field::SignedAttest => field_fault(tables, body, field, i, parties, terms),
-        Field::IakPairField => field_fault(tables, body, field, i, parties, terms),
-        Field::RegisterField => field_fault(tables, body, field, i, parties, terms),
-        Field::HashedPair => field_fault(tables, body, field, i, parties, terms),
-        Field::SignedQuote => field_fault(tables, body, field, i, parties, terms),
+        Field::RoleField => check_field(tables, body, field, i, parties, terms),
+        Field::IdentifierField => check_field(tables, body, field, i, parties, terms),
+        Field::AttributesField => check_field(tables, body, field, i, parties, terms),
+        Field::SubjectField => check_field(tables, body, field, i, parties, terms),
+        Field::PartyField => check_byte(body, i, parties),
+        Field::AnyTerm => check_field(tables, body, field, i, parties, terms),
+        Field::TermOf(kind) => check_kind(tables, body, i, kind, terms),
+        Field::SignedAttest => check_field(tables, body, field, i, parties, terms),
+        Field::IakPairField => check_field(tables, body, field, i, parties, terms),
+        Field::RegisterField => check_field(tables, body, field, i, parties, terms),
+        Field::HashedPair => check_field(tables, body, field, i, parties, terms),
+        Field::SignedQuote => check_field(tables, body, field, i, parties, terms),
     }
 }
 
 // 7, 8 at the term that a command from 30 to 37 makes, by its field: 0, or the refusal; 7 where it is no such field.
-fn made_fault(tables: &[u16; tables::WORDS], body: &[u8], field: Field, terms: usize) -> u8
+fn check_made(tables: &Tables, body: &[u8], field: Field, terms: usize) -> u8
     requires { TermsNoted (tables_in tables.now).terms terms × (2 < length body.now) }
     ensures { result ≡ 0 → (parties : ℕ) → field_fault_noted (tables_in tables.now).terms parties terms field 1 body.now ≡ 0 }
 {
     if let Field::TermOf(kind) = field {
-        return kind_fault(tables, body, 1, kind, terms);
+        return check_kind(tables, body, 1, kind, terms);
     }
     if let Field::SignedAttest = field {
-        return inner_fault(tables, body, 1, 0x13, 0x14, terms);
+        return check_inner(tables, body, 1, 0x13, 0x14, terms);
     }
     7
 }
@@ -233,7 +229,7 @@ fn made_fault(tables: &[u16; tables::WORDS], body: &[u8], field: Field, terms: u
 fn made_right(
     table: &[u64; rules::KIND_COUNT],
     file: &[u8],
-    tables: &[u16; tables::WORDS],
+    tables: &Tables,
     at: usize,
     end: usize,
     kind: u8,
@@ -248,12 +244,12 @@ fn made_right(
         return false;
     }
     let body = &file[start..end];
-    if byte_fault(body, 0, parties) != 0 {
+    if check_byte(body, 0, parties) != 0 {
         return false;
     }
     let fields = records::fields_in(table, kind);
     let field = records::low_field(fields / 256);
-    if made_fault(tables, body, field, terms) != 0 {
+    if check_made(tables, body, field, terms) != 0 {
         return false;
     }
     true
@@ -269,13 +265,13 @@ fn sent_right(file: &[u8], at: usize, end: usize, parties: usize, terms: usize) 
         return false;
     }
     let body = &file[start..end];
-    if byte_fault(body, 0, parties) != 0 {
+    if check_byte(body, 0, parties) != 0 {
         return false;
     }
-    if byte_fault(body, 1, parties) != 0 {
+    if check_byte(body, 1, parties) != 0 {
         return false;
     }
-    if declared_fault(body, 2, terms) != 0 {
+    if check_declared(body, 2, terms) != 0 {
         return false;
     }
     true
@@ -284,7 +280,7 @@ fn sent_right(file: &[u8], at: usize, end: usize, parties: usize, terms: usize) 
 // The same of a command from 40 to 42.
 fn issue_right(
     file: &[u8],
-    tables: &[u16; tables::WORDS],
+    tables: &Tables,
     at: usize,
     end: usize,
     kind: u8,
@@ -299,13 +295,13 @@ fn issue_right(
         return false;
     }
     let body = &file[start..end];
-    if byte_fault(body, 0, parties) != 0 {
+    if check_byte(body, 0, parties) != 0 {
         return false;
     }
-    if declared_fault(body, 1, terms) != 0 {
+    if check_declared(body, 1, terms) != 0 {
         return false;
     }
-    if kind_fault(tables, body, 3, 0x19, terms) != 0 {
+    if check_kind(tables, body, 3, 0x19, terms) != 0 {
         return false;
     }
     true
@@ -314,7 +310,7 @@ fn issue_right(
 // The same of a 43.
 fn pairs_right(
     file: &[u8],
-    tables: &[u16; tables::WORDS],
+    tables: &Tables,
     at: usize,
     end: usize,
     parties: usize,
@@ -328,22 +324,22 @@ fn pairs_right(
         return false;
     }
     let body = &file[start..end];
-    if byte_fault(body, 0, parties) != 0 {
+    if check_byte(body, 0, parties) != 0 {
         return false;
     }
-    if byte_fault(body, 1, parties) != 0 {
+    if check_byte(body, 1, parties) != 0 {
         return false;
     }
-    if pair_fault(tables, body, 2, terms) != 0 {
+    if check_pair(tables, body, 2, terms) != 0 {
         return false;
     }
-    if pair_fault(tables, body, 6, terms) != 0 {
+    if check_pair(tables, body, 6, terms) != 0 {
         return false;
     }
-    if pair_fault(tables, body, 10, terms) != 0 {
+    if check_pair(tables, body, 10, terms) != 0 {
         return false;
     }
-    if pair_fault(tables, body, 14, terms) != 0 {
+    if check_pair(tables, body, 14, terms) != 0 {
         return false;
     }
     true
@@ -353,7 +349,7 @@ fn pairs_right(
 pub fn is_plain(
     table: &[u64; rules::KIND_COUNT],
     file: &[u8],
-    tables: &[u16; tables::WORDS],
+    tables: &Tables,
     at: usize,
     end: usize,
     parties: usize,
@@ -385,31 +381,31 @@ pub fn is_plain(
 }
 
 // Whether the fields of a 13 are right.
-fn signature_right(tables: &[u16; tables::WORDS], body: &[u8], terms: usize) -> bool
+fn signature_right(tables: &Tables, body: &[u8], terms: usize) -> bool
     requires { TermsNoted (tables_in tables.now).terms terms × (3 < length body.now) }
     ensures { result ≡ true → Right (tables_in tables.now).terms terms 0x13 body.now }
 {
-    if declared_fault(body, 0, terms) != 0 {
+    if check_declared(body, 0, terms) != 0 {
         return false;
     }
-    if kind_fault(tables, body, 2, 0x11, terms) != 0 {
+    if check_kind(tables, body, 2, 0x11, terms) != 0 {
         return false;
     }
     true
 }
 
 // The same of a 19.
-fn certificate_right(tables: &[u16; tables::WORDS], body: &[u8], terms: usize) -> bool
+fn certificate_right(tables: &Tables, body: &[u8], terms: usize) -> bool
     requires { TermsNoted (tables_in tables.now).terms terms × (6 < length body.now) }
     ensures { result ≡ true → Right (tables_in tables.now).terms terms 0x19 body.now }
 {
-    if kind_fault(tables, body, 0, 0x10, terms) != 0 {
+    if check_kind(tables, body, 0, 0x10, terms) != 0 {
         return false;
     }
-    if byte_fault(body, 2, 2) != 0 {
+    if check_byte(body, 2, 2) != 0 {
         return false;
     }
-    if kind_fault(tables, body, 5, 0x11, terms) != 0 {
+    if check_kind(tables, body, 5, 0x11, terms) != 0 {
         return false;
     }
     true
@@ -417,7 +413,7 @@ fn certificate_right(tables: &[u16; tables::WORDS], body: &[u8], terms: usize) -
 
 // How many fields of a body need no look: all where it is a term's of a frequent kind and they are seen to be right
 // at once, else 0, which says nothing.
-pub fn seen_right(tables: &[u16; tables::WORDS], body: &[u8], kind: u8, terms: usize) -> usize
+pub fn seen_right(tables: &Tables, body: &[u8], kind: u8, terms: usize) -> usize
     requires { TermsNoted (tables_in tables.now).terms terms × (body_length kind ≤ length body.now) }
     ensures { (result ≡ 0) ⊎ ((result ≡ field_limit) × Right (tables_in tables.now).terms terms kind body.now) }
 {
@@ -425,13 +421,13 @@ pub fn seen_right(tables: &[u16; tables::WORDS], body: &[u8], kind: u8, terms: u
         return 0;
     }
     if kind <= 0x11 {
-        if byte_fault(body, 2, Attributes::LIMIT) != 0 {
+        if check_byte(body, 2, Attributes::LIMIT) != 0 {
             return 0;
         }
         return records::FIELD_LIMIT;
     }
     if kind == 0x12 {
-        if declared_fault(body, 0, terms) != 0 {
+        if check_declared(body, 0, terms) != 0 {
             return 0;
         }
         return records::FIELD_LIMIT;
@@ -452,10 +448,10 @@ pub fn seen_right(tables: &[u16; tables::WORDS], body: &[u8], kind: u8, terms: u
         return 0;
     }
     if kind == 0x1A {
-        if declared_fault(body, 0, terms) != 0 {
+        if check_declared(body, 0, terms) != 0 {
             return 0;
         }
-        if declared_fault(body, 2, terms) != 0 {
+        if check_declared(body, 2, terms) != 0 {
             return 0;
         }
         return records::FIELD_LIMIT;

@@ -4,6 +4,7 @@
 --     number-zero, keeps-ready, keeps-fits, keeps-less, keeps-next      at a turn
 --     keeps-ends             after the loop
 -- Assumes nothing.
+use Rattle.tables.specs.declared.columns.Tables.{Tables}
 use mathlib.Core.Path.{◌≡◌, refl, ap, subst⁻¹, ◌∙◌}
 use mathlib.Core.Bool.{Bool, true, false, cond}
 use mathlib.Core.List.{List}
@@ -28,7 +29,7 @@ use Rattle.command_loop.proofs.Tests.{gained_onto}
 pub record Values : Type 0 where
   pub state : List ℕ
   pub registers : List ℕ
-  pub tables : List ℕ
+  pub tables : Tables
   pub outcomes : List ℕ
   pub ledger : List Entry
   pub progress : Progress
@@ -47,7 +48,7 @@ none_left : (b : Bool) → ◌≡◌ {A = ℕ} (cond b 0 0) 0
 none_left true = refl
 none_left false = refl
 
-module _ (bs s out g tables : List ℕ) (old : List Entry) (b : Begun) (n : ℕ) (w : RecordReady bs s old out g tables b) where
+module _ (bs s out g : List ℕ) (tables : Tables) (old : List Entry) (b : Begun) (n : ℕ) (w : RecordReady bs s old out g tables b) where
   abbrev from : Progress → Values
   from p = record { state = s; registers = g; tables = tables; outcomes = out; ledger = old; progress = p }
 
@@ -59,7 +60,7 @@ module _ (bs s out g tables : List ℕ) (old : List Entry) (b : Begun) (n : ℕ)
     idles = λ z. (ap (λ (t : Bool). cond (ltb b.first (length bs)) (cond t n 0) 0) (ne_eqb b.number 0 z) ∙ none_left (ltb b.first (length bs)), (refl, (refl, (refl, refl))));
   })
 
-module _ {bs s₀ : List ℕ} {old : List Entry} {out₀ g₀ tables₀ : List ℕ} {b : Begun} {n : ℕ} (w₀ : RecordReady bs s₀ old out₀ g₀ tables₀ b) {v : Values} (w : Keeps bs s₀ old out₀ g₀ b n v) where
+module _ {bs s₀ : List ℕ} {old : List Entry} {out₀ g₀ : List ℕ} {tables₀ : Tables} {b : Begun} {n : ℕ} (w₀ : RecordReady bs s₀ old out₀ g₀ tables₀ b) {v : Values} (w : Keeps bs s₀ old out₀ g₀ b n v) where
   pub keeps_ends : v.progress.left ≡ 0 → Recorded bs s₀ old out₀ g₀ b n v.state v.ledger v.outcomes v.registers v.tables v.progress
   keeps_ends z = record { runs = λ e. going_ends (w.runs e) z; beyond = w.beyond; beyond_registers = w.beyond_registers; idles = λ e. (w.idles e).1 }
 
@@ -88,7 +89,7 @@ module _ {bs s₀ : List ℕ} {old : List Entry} {out₀ g₀ tables₀ : List �
         → (state_bytes ≤ length v.state) × (register_bytes ≤ length v.registers) × TurnReady bs (within v.state v.registers) v.tables v.outcomes b.parties v.progress
     keeps_ready len room = (omega (arith, len, ready.room), omega (arith, room, ready.registers), going_ready going ready.ready.short b.parties ready.ready.parties_are ready.ready.places)
 
-    module _ (s g : List ℕ) {tables out : List ℕ} {r : Turned}
+    module _ (s g : List ℕ) {tables : Tables} {out : List ℕ} {r : Turned}
         (told : Turns bs (within v.state v.registers) v.tables v.outcomes v.progress (within s g) tables out r × (drop state_bytes s ≡ drop state_bytes v.state) × (drop register_bytes g ≡ drop register_bytes v.registers)) where
       pub keeps_fits : (v.progress.issued + r.gained.count ≤ length v.ledger) × (r.gained.count ≤ pair_count)
       keeps_fits = going_fits going told.0 ready.long

@@ -6,6 +6,7 @@ ghost use Rattle.command_loop.specs.Recorded.{RecordReady, Recorded};
 
 use rules::Entry;
 use turns::{Begun, Progress};
+use tables::Tables;
 
 // Executes at most n commands after what was found before the first, none where that is a refusal.
 pub fn run_commands(
@@ -14,7 +15,7 @@ pub fn run_commands(
     ledger: &mut [Entry],
     outcomes: &mut [u8],
     registers: &mut [u8],
-    tables: &mut [u16; tables::WORDS],
+    tables: &mut Tables,
     b: Begun,
     n: usize,
 ) -> Progress

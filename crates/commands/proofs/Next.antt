@@ -4,6 +4,7 @@
 --     open-requested, ledgered, some-ledger, desk-decided, desk-ready    what a desk command asks for and decides
 --     refused-does, device-done, plain_done, desk-does    what is left, and that it stands
 -- Assumes nothing.
+use Rattle.tables.specs.declared.columns.Tables.{Tables}
 use mathlib.Core.Path.{◌≡◌, refl, sym, ap, subst, subst⁻¹, ◌∙◌}
 use mathlib.Core.Bool.{Bool, true, false, false≢true}
 use mathlib.Core.List.{List, ◌++◌}
@@ -30,7 +31,7 @@ use Rattle.theorems.proofs.Running.{after_accepted, after_refused}
 use Rattle.theorems.proofs.Requests.{parent_listed}
 use Rattle.state.specs.View.{view}
 use Rattle.state.proofs.Exact.{state_of}
-use Rattle.tables.specs.Regions.{tables_in}
+use Rattle.tables.specs.Columns.{tables_in}
 use Rattle.gained.specs.declared.Gained.{Gained}
 use Rattle.gained.specs.Took.{took, Whole}
 use Rattle.gained.proofs.Took.{took_length}
@@ -82,7 +83,7 @@ plain_registerless bs at w h =
     let b = take (body_length (kind_there bs at)) (drop (at + 1) bs) in
     each (λ k. Registerless (command_at k b)) 14 0x30 (tt, (tt, (tt, (tt, (tt, (tt, (tt, (tt, (tt, (tt, (tt, (tt, (tt, (tt, tt)))))))))))))) (kind_there bs at) (command_range _ w.is_command).0 h
 
-module _ {bs : List ℕ} {m : Memory} {tables : List ℕ} {n : ℕ} {ledger : List Entry} (st : Stands bs m tables n ledger) where
+module _ {bs : List ℕ} {m : Memory} {tables : Tables} {n : ℕ} {ledger : List Entry} (st : Stands bs m tables n ledger) where
   abbrev s : List ℕ
   s = m.state
 
@@ -110,7 +111,7 @@ module _ {bs : List ℕ} {m : Memory} {tables : List ℕ} {n : ℕ} {ledger : Li
     After = after (file_in bs) Before (command_there bs at)
 
     -- what stands after the command
-    next : {m' : Memory} {tables' : List ℕ} {k : ℕ} {l : List Entry} → length m'.state ≡ length s → length m'.registers ≡ length m.registers → (view m'.state).place ≡ (view s).place → Finds bs tables' → Enters tables' k l → Boarded (file_in bs) (tables_in tables').boards l → state_in m' l ≡ After → Stands bs m' tables' k l
+    next : {m' : Memory} {tables' : Tables} {k : ℕ} {l : List Entry} → length m'.state ≡ length s → length m'.registers ≡ length m.registers → (view m'.state).place ≡ (view s).place → Finds bs tables' → Enters tables' k l → Boarded (file_in bs) (tables_in tables').boards l → state_in m' l ≡ After → Stands bs m' tables' k l
     next l g p d e b left = record {
       holds = holds_kept st.holds l p;
       finds = d;
@@ -188,7 +189,7 @@ module _ {bs : List ℕ} {m : Memory} {tables : List ℕ} {n : ℕ} {ledger : Li
         ledgered = ledgered;
       }
 
-      pub desk_does : {s' tables' : List ℕ} {g : Gained} → Whole g → DeskLeaves bs s tables n (command_there bs at) s' tables' (took g) → length s' ≡ length s
+      pub desk_does : {s' : List ℕ} {tables' : Tables} {g : Gained} → Whole g → DeskLeaves bs s tables n (command_there bs at) s' tables' (took g) → length s' ≡ length s
           → Does bs m at ledger (memory s' m.registers) tables' 0 (n + g.count) (ledger ++ took g)
       desk_does {s'} {tables'} {g} whole v l =
           let on = v.on ledger (record { ledgered = ledgered; accepted = accepted_plain }) in

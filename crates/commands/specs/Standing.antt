@@ -1,4 +1,5 @@
 -- What stands while a file's commands run: the rules' state in the lent bytes, and what every command keeps.
+use Rattle.tables.specs.declared.columns.Tables.{Tables}
 use Rattle.std.specs.Prelude.{◌≡◌, Bool, true, false, ◌&&◌, List, ◌++◌, ℕ, ◌+◌, ◌≤◌, ltb, length}
 use Rattle.rules.specs.declared.Entry.{Entry}
 use Rattle.rules.specs.Limits.{register_bytes}
@@ -10,7 +11,7 @@ use Rattle.theorems.proofs.Beside.{beside}
 use Rattle.theorems.proofs.Invariant.{Invariant}
 use Rattle.state.specs.View.{view}
 use Rattle.state.proofs.Exact.{state_of}
-use Rattle.tables.specs.Regions.{tables_in}
+use Rattle.tables.specs.Columns.{tables_in}
 use Rattle.loaded.specs.Loaded.{file_in, Holds, Finds}
 use Rattle.loaded.specs.Entries.{Enters, Boarded}
 use Rattle.registers.specs.View.{registers_in}
@@ -53,7 +54,7 @@ pub record Kept (f : File) (x : State) : Type 0 where
   pub blank : (t : ℕ) → length f.terms ≤ t → Blank x t
 
 -- bytes and tables between commands, of a ledger of n entries
-pub record Stands (bs : List ℕ) (m : Memory) (tables : List ℕ) (n : ℕ) (ledger : List Entry) : Type 0 where
+pub record Stands (bs : List ℕ) (m : Memory) (tables : Tables) (n : ℕ) (ledger : List Entry) : Type 0 where
   pub holds : Holds bs m.state
   pub finds : Finds bs tables
   pub enters : Enters tables n ledger
@@ -70,7 +71,7 @@ abbrev pub AnyStands : List ℕ → Memory → List ℕ → Type 0
 AnyStands bs m tables = (n : ℕ) × SomeStands bs m tables n
 
 -- what a command does: its outcome, what is left, with a ledger of k entries then, and that it stands
-pub record Does (bs : List ℕ) (m : Memory) (at : ℕ) (ledger : List Entry) (m' : Memory) (tables' : List ℕ) (x k : ℕ) (ledger' : List Entry) : Type 0 where
+pub record Does (bs : List ℕ) (m : Memory) (at : ℕ) (ledger : List Entry) (m' : Memory) (tables' : Tables) (x k : ℕ) (ledger' : List Entry) : Type 0 where
   pub decided : x ≡ outcome (file_in bs) (state_in m ledger) (command_there bs at)
   pub left : state_in m' ledger' ≡ after (file_in bs) (state_in m ledger) (command_there bs at)
   pub stands : Stands bs m' tables' k ledger'
@@ -78,20 +79,20 @@ pub record Does (bs : List ℕ) (m : Memory) (at : ℕ) (ledger : List Entry) (m
 
 -- what is decided, whatever the ledger: the rules' outcome; a device command, or a refused one, is done, and the ledger
 -- gains nothing; a desk command has changed nothing
-pub record Decided (bs : List ℕ) (m : Memory) (tables : List ℕ) (at : ℕ) (m' : Memory) (x : ℕ) : Type 0 where
+pub record Decided (bs : List ℕ) (m : Memory) (tables : Tables) (at : ℕ) (m' : Memory) (x : ℕ) : Type 0 where
   pub decided : (n : ℕ) (ledger : List Entry) → Stands bs m tables n ledger → x ≡ outcome (file_in bs) (state_in m ledger) (command_there bs at)
   pub done : (x ≡ 0 → desk_kind (kind_there bs at) ≡ false) → (n : ℕ) (ledger : List Entry) → Stands bs m tables n ledger → Does bs m at ledger m' tables x n ledger
   pub same : desk_kind (kind_there bs at) ≡ true → m' ≡ m
 
 -- a desk command that is accepted, whatever the ledger
-pub record DeskAccepted (bs : List ℕ) (m : Memory) (tables : List ℕ) (n at : ℕ) : Type 0 where
+pub record DeskAccepted (bs : List ℕ) (m : Memory) (tables : Tables) (n at : ℕ) : Type 0 where
   pub stands : SomeStands bs m tables n
   pub here : CommandAt (Wellformed (file_in bs)) bs at
   pub is_desk : desk_kind (kind_there bs at) ≡ true
   pub accepted : (ledger : List Entry) → Stands bs m tables n ledger → 0 ≡ outcome (file_in bs) (state_in m ledger) (command_there bs at)
 
 -- what it does: the ledger gains some entries; no register moves
-pub record DeskDoes (bs : List ℕ) (m : Memory) (tables : List ℕ) (n at : ℕ) (s' tables' : List ℕ) (g : Gained) : Type 0 where
+pub record DeskDoes (bs : List ℕ) (m : Memory) (tables : Tables) (n at : ℕ) (s' : List ℕ) (tables' : Tables) (g : Gained) : Type 0 where
   pub whole : Whole g
   pub does : (ledger : List Entry) → Stands bs m tables n ledger → Does bs m at ledger (memory s' m.registers) tables' 0 (n + g.count) (ledger ++ took g)
 

@@ -8,6 +8,7 @@ ghost use Rattle.loaded.specs.Loaded.{file_in};
 ghost use Rattle.commands.specs.Standing.{memory, desk_kind, AnyStands, Decided, AnyAccepted, AllDone};
 
 use gained::Gained;
+use tables::Tables;
 
 // Whether a kind is that of a desk command, 3E to 43.
 pub fn is_desk(kind: u8) -> bool
@@ -24,7 +25,7 @@ pub fn decide(
     file: &[u8],
     state: &mut [u8],
     registers: &mut [u8],
-    tables: &[u16; tables::WORDS],
+    tables: &Tables,
     parties: usize,
     at: usize,
 ) -> u8
@@ -46,7 +47,7 @@ pub fn decide(
 pub fn effect(
     file: &[u8],
     state: &mut [u8],
-    tables: &mut [u16; tables::WORDS],
+    tables: &mut Tables,
     entries: usize,
     at: usize,
 ) -> Gained

@@ -4,6 +4,7 @@
 --     issue-read                3F by numbers that were read
 --     decided-as, issues-as, challenge-as     what it decides and leaves, where its record reads as that command
 -- Assumes nothing.
+use Rattle.tables.specs.declared.columns.Tables.{Tables}
 use mathlib.Core.Path.{◌≡◌, refl, sym, ap, subst, subst⁻¹, ◌∙◌}
 use mathlib.Core.Bool.{Bool, true, false}
 use mathlib.Core.List.{List, [], ◌++◌, append-nil}
@@ -21,7 +22,7 @@ use Rattle.rules.specs.Run.{outcome}
 use Rattle.theorems.proofs.Loading.{Wellformed}
 use Rattle.rules.specs.declared.Entry.{Entry}
 use Rattle.state.specs.View.{view}
-use Rattle.tables.specs.Regions.{tables_in}
+use Rattle.tables.specs.Columns.{tables_in}
 use Rattle.state.proofs.Exact.{state_of}
 use Rattle.learning.specs.There.{kind_there}
 use Rattle.lookup.specs.There.{command_there}
@@ -65,14 +66,14 @@ module _ {bs : List ℕ} {at : ℕ} (w : CommandAt (Wellformed (file_in bs)) bs 
           omega (arith, issue_length (kind_there bs at) k.0 k.1, command_ends bs at (kind_there bs at) refl w.whole)
 
 module _ (bs : List ℕ) (at : ℕ) {c : Command} (e : command_there bs at ≡ c) where
-  pub decided_as : (s tables : List ℕ) (x : ℕ) → DecidesListed bs s tables c x → DecidesListed bs s tables (command_there bs at) x
+  pub decided_as : (s : List ℕ) (tables : Tables) (x : ℕ) → DecidesListed bs s tables c x → DecidesListed bs s tables (command_there bs at) x
   decided_as s tables x d = subst⁻¹ (λ (k : Command). DecidesListed bs s tables k x) e d
 
-  pub issues_as : {s tables : List ℕ} {n : ℕ} {s' tables' : List ℕ} {gs hs : List Entry} → gs ≡ hs → DeskLeaves bs s tables n c s' tables' hs → DeskLeaves bs s tables n (command_there bs at) s' tables' gs
+  pub issues_as : {s : List ℕ} {tables : Tables} {n : ℕ} {s' : List ℕ} {tables' : Tables} {gs hs : List Entry} → gs ≡ hs → DeskLeaves bs s tables n c s' tables' hs → DeskLeaves bs s tables n (command_there bs at) s' tables' gs
   issues_as {s} {tables} {n} {s'} {tables'} {gs} q d = subst⁻¹ (λ (k : Command). DeskLeaves bs s tables n k s' tables' gs) e (subst⁻¹ (DeskLeaves bs s tables n c s' tables') q d)
 
   -- 3E enters nothing
-  pub challenge_as : {s tables : List ℕ} {n : ℕ} {s' : List ℕ} {gs : List Entry} → gs ≡ [] → Leaves bs s s' c → DeskLeaves bs s tables n (command_there bs at) s' tables gs
+  pub challenge_as : {s : List ℕ} {tables : Tables} {n : ℕ} {s' : List ℕ} {gs : List Entry} → gs ≡ [] → Leaves bs s s' c → DeskLeaves bs s tables n (command_there bs at) s' tables gs
   challenge_as {s} {tables} {n} {s'} q d = issues_as q (record {
     on = λ old o. record {
       columns = ap (state_of (view s')) (append-nil old) ∙ d.columns old;
@@ -86,8 +87,8 @@ module _ (bs : List ℕ) (at : ℕ) {c : Command} (e : command_there bs at ≡ c
       none : (k : ℕ) → k + 0 ≡ k
       none k = omega arith
 
-  pub accepts_as : {s tables : List ℕ} {n : ℕ} → Accepts bs s tables n (command_there bs at) → Accepts bs s tables n c
+  pub accepts_as : {s : List ℕ} {tables : Tables} {n : ℕ} → Accepts bs s tables n (command_there bs at) → Accepts bs s tables n c
   accepts_as {s} {tables} {n} a = subst (λ (k : Command). Accepts bs s tables n k) e a
 
-  pub accepted_as : {s tables : List ℕ} {n : ℕ} (a : Accepts bs s tables n (command_there bs at)) → outcome (file_in bs) (state_of (view s) a.ledger) c ≡ 0
+  pub accepted_as : {s : List ℕ} {tables : Tables} {n : ℕ} (a : Accepts bs s tables n (command_there bs at)) → outcome (file_in bs) (state_of (view s) a.ledger) c ≡ 0
   accepted_as {s} a = subst (λ (k : Command). outcome (file_in bs) (state_of (view s) a.ledger) k ≡ 0) e a.accepted

@@ -1,4 +1,5 @@
 -- A desk command by its record's place: what it is decided and done by, and what an accepted one leaves.
+use Rattle.tables.specs.declared.columns.Tables.{Tables}
 use Rattle.std.specs.Prelude.{List, ℕ, ◌<◌}
 use Rattle.rules.specs.declared.Entry.{Entry}
 use Rattle.theorems.proofs.Loading.{Wellformed}
@@ -15,7 +16,7 @@ abbrev pub SomeLedger : List ℕ → List ℕ → List ℕ → Type 0
 SomeLedger bs s tables = (n : ℕ) × (ledger : List Entry) × Ledgered bs s tables n ledger
 
 -- what an accepted desk command is done by
-pub record DeskEffectReady (bs s tables : List ℕ) (n at : ℕ) : Type 0 where
+pub record DeskEffectReady (bs s : List ℕ) (tables : Tables) (n at : ℕ) : Type 0 where
   pub holds : Holds bs s
   pub finds : Finds bs tables
   pub command : CommandAt (Wellformed (file_in bs)) bs at

@@ -13,12 +13,13 @@ ghost use Rattle.requests.specs.Formed.{OpenRequested};
 ghost use Rattle.desk.specs.Dispatch.{SomeLedger, DeskEffectReady};
 
 use gained::Gained;
+use tables::Tables;
 
 // What the desk command at a place decides.
 pub fn decide(
     file: &[u8],
     state: &[u8],
-    tables: &[u16; tables::WORDS],
+    tables: &Tables,
     parties: usize,
     at: usize,
 ) -> u8
@@ -49,7 +50,7 @@ pub fn decide(
 pub fn effect(
     file: &[u8],
     state: &mut [u8],
-    tables: &mut [u16; tables::WORDS],
+    tables: &mut Tables,
     entries: usize,
     at: usize,
 ) -> Gained

@@ -14,11 +14,13 @@ ghost use Rattle.lookup.specs.Commands.{CommandAt};
 ghost use Rattle.theorems.specs.Chain.{chain};
 ghost use Rattle.loaded.specs.Loaded.{file_in, Holds, Finds, PartyHere, TermNoted, Decides, Leaves};
 
+use tables::Tables;
+
 // 30 Hash.
 pub fn decide_hash(
     file: &[u8],
     state: &[u8],
-    tables: &[u16; tables::WORDS],
+    tables: &Tables,
     party: usize,
     r: usize,
 ) -> u8
@@ -39,7 +41,7 @@ pub fn decide_hash(
 pub fn decide_make_credential(
     file: &[u8],
     state: &[u8],
-    tables: &[u16; tables::WORDS],
+    tables: &Tables,
     party: usize,
     r: usize,
 ) -> u8
@@ -85,7 +87,7 @@ fn both_known(file: &[u8], state: &[u8], party: usize, t: usize, u: usize) -> u8
 pub fn decide_idevid_request(
     file: &[u8],
     state: &[u8],
-    tables: &[u16; tables::WORDS],
+    tables: &Tables,
     party: usize,
     r: usize,
 ) -> u8
@@ -101,7 +103,7 @@ pub fn decide_idevid_request(
 pub fn decide_ldevid_request(
     file: &[u8],
     state: &[u8],
-    tables: &[u16; tables::WORDS],
+    tables: &Tables,
     party: usize,
     r: usize,
 ) -> u8
@@ -117,7 +119,7 @@ pub fn decide_ldevid_request(
 pub fn decide_pair(
     file: &[u8],
     state: &[u8],
-    tables: &[u16; tables::WORDS],
+    tables: &Tables,
     party: usize,
     r: usize,
 ) -> u8
@@ -141,7 +143,7 @@ fn is_desk(file: &[u8], party: usize) -> bool
 }
 
 // Whether a desk may send a term: a public key, a credential or a certificate.
-fn sent_by_desks(file: &[u8], tables: &[u16; tables::WORDS], t: usize) -> bool
+fn sent_by_desks(file: &[u8], tables: &Tables, t: usize) -> bool
     requires { TermNoted file.now tables.now t }
     ensures { result ≡ may_be_sent_by_desk (file_in file.now) t }
 {
@@ -155,7 +157,7 @@ fn sent_by_desks(file: &[u8], tables: &[u16; tables::WORDS], t: usize) -> bool
 }
 
 // Whether a party may send a term.
-fn may_send(file: &[u8], tables: &[u16; tables::WORDS], party: usize, t: usize) -> bool
+fn may_send(file: &[u8], tables: &Tables, party: usize, t: usize) -> bool
     requires { PartyHere file.now party × TermNoted file.now tables.now t }
     ensures { result ≡ may_send (file_in file.now) party t }
 {
@@ -172,7 +174,7 @@ fn may_send(file: &[u8], tables: &[u16; tables::WORDS], party: usize, t: usize) 
 pub fn decide_send(
     file: &[u8],
     state: &[u8],
-    tables: &[u16; tables::WORDS],
+    tables: &Tables,
     party: usize,
     other: usize,
     t: usize,
@@ -193,7 +195,7 @@ pub fn decide_send(
 pub fn decide_self_issue(
     file: &[u8],
     state: &[u8],
-    tables: &[u16; tables::WORDS],
+    tables: &Tables,
     party: usize,
     r: usize,
 ) -> u8
@@ -235,7 +237,7 @@ fn known_unless(state: &[u8], party: usize, t: usize, free: bool) -> bool
 pub fn decide_sign(
     file: &[u8],
     state: &[u8],
-    tables: &[u16; tables::WORDS],
+    tables: &Tables,
     party: usize,
     r: usize,
 ) -> u8
@@ -273,7 +275,7 @@ pub fn decide_sign(
 pub fn decide_certify(
     file: &[u8],
     state: &[u8],
-    tables: &[u16; tables::WORDS],
+    tables: &Tables,
     party: usize,
     r: usize,
 ) -> u8
@@ -302,7 +304,7 @@ pub fn decide_certify(
 pub fn decide_activate(
     file: &[u8],
     state: &[u8],
-    tables: &[u16; tables::WORDS],
+    tables: &Tables,
     party: usize,
     r: usize,
 ) -> u8
@@ -374,7 +376,7 @@ fn checked(file: &[u8], state: &[u8], party: usize, t: usize, u: usize, right: b
 pub fn decide_check_hash(
     file: &[u8],
     state: &[u8],
-    tables: &[u16; tables::WORDS],
+    tables: &Tables,
     party: usize,
     h: usize,
     t: usize,
@@ -390,7 +392,7 @@ pub fn decide_check_hash(
 pub fn decide_check_signature(
     file: &[u8],
     state: &[u8],
-    tables: &[u16; tables::WORDS],
+    tables: &Tables,
     party: usize,
     t: usize,
     k: usize,
@@ -407,7 +409,7 @@ pub fn decide_check_signature(
 pub fn decide_check_certificate(
     file: &[u8],
     state: &[u8],
-    tables: &[u16; tables::WORDS],
+    tables: &Tables,
     party: usize,
     t: usize,
     k: usize,
@@ -424,7 +426,7 @@ pub fn decide_check_certificate(
 pub fn decide_check_attributes(
     file: &[u8],
     state: &[u8],
-    tables: &[u16; tables::WORDS],
+    tables: &Tables,
     party: usize,
     k: usize,
     bits: u8,
@@ -437,7 +439,7 @@ pub fn decide_check_attributes(
 }
 
 // Whether a hash of a term gets no ticket: one of an attest or of a quote body.
-fn unticketed(file: &[u8], tables: &[u16; tables::WORDS], t: usize) -> bool
+fn unticketed(file: &[u8], tables: &Tables, t: usize) -> bool
     requires { TermNoted file.now tables.now t }
     ensures { result ≡ no_ticket (file_in file.now) t }
 {
@@ -451,7 +453,7 @@ fn unticketed(file: &[u8], tables: &[u16; tables::WORDS], t: usize) -> bool
 pub fn effect_hash(
     file: &[u8],
     state: &mut [u8],
-    tables: &[u16; tables::WORDS],
+    tables: &Tables,
     party: usize,
     r: usize,
 )
@@ -471,7 +473,7 @@ pub fn effect_hash(
 pub fn effect_activate(
     file: &[u8],
     state: &mut [u8],
-    tables: &[u16; tables::WORDS],
+    tables: &Tables,
     party: usize,
     r: usize,
 )
@@ -483,7 +485,7 @@ pub fn effect_activate(
 }
 
 // 30 to 37, by the record: a party and what it makes.
-fn decide_made(file: &[u8], state: &[u8], tables: &[u16; tables::WORDS], at: usize, kind: u8) -> u8
+fn decide_made(file: &[u8], state: &[u8], tables: &Tables, at: usize, kind: u8) -> u8
     requires { Holds file.now state.now × Finds file.now tables.now × CommandAt (Wellformed (file_in file.now)) file.now at × (kind_there file.now at ≡ kind) × (0x30 ≤ kind) × (kind ≤ 0x37) }
     ensures { Decides file.now state.now (command_there file.now at) result }
 {
@@ -505,7 +507,7 @@ fn decide_made(file: &[u8], state: &[u8], tables: &[u16; tables::WORDS], at: usi
 fn decide_checked(
     file: &[u8],
     state: &[u8],
-    tables: &[u16; tables::WORDS],
+    tables: &Tables,
     at: usize,
     kind: u8,
 ) -> u8
@@ -526,7 +528,7 @@ fn decide_checked(
 }
 
 // 3C, by the record.
-fn decide_sent(file: &[u8], state: &[u8], tables: &[u16; tables::WORDS], at: usize) -> u8
+fn decide_sent(file: &[u8], state: &[u8], tables: &Tables, at: usize) -> u8
     requires { Holds file.now state.now × CommandAt (Wellformed (file_in file.now)) file.now at × (kind_there file.now at ≡ 0x3C) × Finds file.now tables.now }
     ensures { Decides file.now state.now (command_there file.now at) result }
 {
@@ -537,7 +539,7 @@ fn decide_sent(file: &[u8], state: &[u8], tables: &[u16; tables::WORDS], at: usi
 }
 
 // 3D, by the record.
-fn decide_issued(file: &[u8], state: &[u8], tables: &[u16; tables::WORDS], at: usize) -> u8
+fn decide_issued(file: &[u8], state: &[u8], tables: &Tables, at: usize) -> u8
     requires { Holds file.now state.now × CommandAt (Wellformed (file_in file.now)) file.now at × (kind_there file.now at ≡ 0x3D) × Finds file.now tables.now }
     ensures { Decides file.now state.now (command_there file.now at) result }
 {
@@ -547,7 +549,7 @@ fn decide_issued(file: &[u8], state: &[u8], tables: &[u16; tables::WORDS], at: u
 }
 
 // What 30 to 37 leave, by the record: the party learns what it made.
-fn effect_made(file: &[u8], state: &mut [u8], tables: &[u16; tables::WORDS], at: usize, kind: u8)
+fn effect_made(file: &[u8], state: &mut [u8], tables: &Tables, at: usize, kind: u8)
     requires { Holds file.now state.old × CommandAt (Wellformed (file_in file.now)) file.now at × (kind_there file.now at ≡ kind) × (0x30 ≤ kind) × (kind ≤ 0x37) × Finds file.now tables.now }
     ensures { Leaves file.now state.old state.new (command_there file.now at) }
 {
@@ -561,7 +563,7 @@ fn effect_made(file: &[u8], state: &mut [u8], tables: &[u16; tables::WORDS], at:
 }
 
 // What 3C leaves, by the record: the other party learns the term.
-fn effect_sent(file: &[u8], state: &mut [u8], tables: &[u16; tables::WORDS], at: usize)
+fn effect_sent(file: &[u8], state: &mut [u8], tables: &Tables, at: usize)
     requires { Holds file.now state.old × CommandAt (Wellformed (file_in file.now)) file.now at × (kind_there file.now at ≡ 0x3C) × Finds file.now tables.now }
     ensures { Leaves file.now state.old state.new (command_there file.now at) }
 {
@@ -571,7 +573,7 @@ fn effect_sent(file: &[u8], state: &mut [u8], tables: &[u16; tables::WORDS], at:
 }
 
 // What 3D leaves, by the record: the party learns the certificate.
-fn effect_issued(file: &[u8], state: &mut [u8], tables: &[u16; tables::WORDS], at: usize)
+fn effect_issued(file: &[u8], state: &mut [u8], tables: &Tables, at: usize)
     requires { Holds file.now state.old × CommandAt (Wellformed (file_in file.now)) file.now at × (kind_there file.now at ≡ 0x3D) × Finds file.now tables.now }
     ensures { Leaves file.now state.old state.new (command_there file.now at) }
 {
@@ -581,7 +583,7 @@ fn effect_issued(file: &[u8], state: &mut [u8], tables: &[u16; tables::WORDS], a
 }
 
 // Executes the device command at a place: what it decides, and what it leaves where it is accepted. Checks leave nothing.
-pub fn execute(file: &[u8], state: &mut [u8], tables: &[u16; tables::WORDS], at: usize) -> u8
+pub fn execute(file: &[u8], state: &mut [u8], tables: &Tables, at: usize) -> u8
     requires { Holds file.now state.old × Finds file.now tables.now × CommandAt (Wellformed (file_in file.now)) file.now at × (kind_there file.now at < 0x3E) }
     ensures decided { Decides file.now state.old (command_there file.now at) result }
     ensures left { result ≡ 0 → Leaves file.now state.old state.new (command_there file.now at) }

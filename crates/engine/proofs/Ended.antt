@@ -1,6 +1,7 @@
 -- After the last command of a file that loads: what the loop over commands leaves is what the rules say of a run.
 --     loaded-left      totals, and the buffers
 -- Assumes nothing.
+use Rattle.tables.specs.declared.columns.Tables.{Tables}
 use mathlib.Core.Path.{◌≡◌, refl, sym, ap, ◌∙◌}
 use mathlib.Core.List.{List, [], ◌∷◌, ◌++◌, append_assoc}
 use Prim.Native.Nat.{ℕ, zero, suc, ◌+◌, ◌*◌, ◌-◌, ◌≤◌}
@@ -71,7 +72,7 @@ split_at zero xs = refl
 split_at (suc n) [] = refl
 split_at (suc n) (x ∷ xs) = ap (λ (l : List ℕ). x ∷ l) (split_at n xs)
 
-module _ (bs s out g s₁ g₁ s' g' : List ℕ) (l : List Entry) {out₁ tables₁ out' tables' : List ℕ} {l' : List Entry} {r : Scanned} {p : Progress} (w : Filled bs (take state_bytes s₁) tables₁ r)
+module _ (bs s out g s₁ g₁ s' g' : List ℕ) (l : List Entry) {out₁ : List ℕ} {tables₁ : Tables} {out' : List ℕ} {tables' : Tables} {l' : List Entry} {r : Scanned} {p : Progress} (w : Filled bs (take state_bytes s₁) tables₁ r)
     (started : registers_in (take register_bytes g₁) ≡ start_registers (file_in bs)) (n : ℕ)
     (x : Executes bs (within s₁ g₁) out₁ r.first n (cleared l term_limit) (within s' g') tables' out' l' p) (cleared-out : take command_limit out₁ ≡ replicate command_limit 0)
     (beyond : drop state_bytes s' ≡ drop state_bytes s) (out-beyond : drop command_limit out₁ ≡ drop command_limit out) (g-beyond : drop register_bytes g' ≡ drop register_bytes g)

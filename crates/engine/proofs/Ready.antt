@@ -2,6 +2,7 @@
 --     places-fit       the places to clear are there
 --     record-ready     the loop may start
 -- Assumes nothing.
+use Rattle.tables.specs.declared.columns.Tables.{Tables}
 use mathlib.Core.Path.{◌≡◌, refl, sym, ap, subst⁻¹, ◌∙◌}
 use mathlib.Core.Logic.{inl, inr}
 use mathlib.Core.Bool.{Bool, true, false}
@@ -18,7 +19,7 @@ use Rattle.rules.specs.State.{start_registers, start, depth_of}
 use Rattle.theorems.proofs.Loading.{Wellformed, checked}
 use Rattle.state.proofs.Exact.{Bytes}
 use Rattle.registers.specs.View.{registers_in}
-use Rattle.tables.specs.Regions.{Unlinked, tables_in}
+use Rattle.tables.specs.Columns.{Unlinked, tables_in}
 use Rattle.lookup.specs.Commands.{Commands}
 use Rattle.lookup.proofs.Left.{commands_wellformed}
 use Rattle.scan.specs.declared.Scanned.{Scanned}
@@ -44,7 +45,7 @@ unfolding depth_of
 none_deep c = refl
 
 -- no entries
-enters_none : (tables : List ℕ) → ((c : ℕ) → (tables_in tables).entry c ≡ 0) → ((c : ℕ) → (tables_in tables).depth c ≡ 0) → Unlinked (tables_in tables).boards → Enters tables 0 []
+enters_none : (tables : Tables) → ((c : ℕ) → (tables_in tables).entry c ≡ 0) → ((c : ℕ) → (tables_in tables).depth c ≡ 0) → Unlinked (tables_in tables).boards → Enters tables 0 []
 enters_none tables e d u = record {
   few = omega arith;
   count = refl;
@@ -53,7 +54,7 @@ enters_none tables e d u = record {
   falls = record { newest = λ i. omega (arith, u.newest i); earlier = λ i. omega (arith, u.earlier i) };
 }
 
-module _ {bs s tables : List ℕ} {r : Scanned} (w : Filled bs s tables r) where
+module _ {bs s : List ℕ} {tables : Tables} {r : Scanned} (w : Filled bs s tables r) where
   module _ (g : List ℕ) (started : registers_in g ≡ start_registers (file_in bs)) where
     pub state_start : state_in (memory s g) [] ≡ start (file_in bs)
     unfolding start
@@ -86,12 +87,12 @@ module _ {bs s tables : List ℕ} {r : Scanned} (w : Filled bs s tables r) where
       commands = subst⁻¹ (Commands (Wellformed (file_in bs)) bs) w.first_is (commands_wellformed bs (file_in bs) (filled_holds w room).loads);
     }
 
-filled_ready : {bs s tables : List ℕ} {r : Scanned} → FillResult bs s tables r → r.number ≡ 0 → (g : List ℕ) → Registered bs r.number g → length bs ≤ file_limit → length s ≡ state_bytes → Bytes s → length g ≡ register_bytes → Bytes g → (out : List ℕ) → command_limit ≤ length out
+filled_ready : {bs s : List ℕ} {tables : Tables} {r : Scanned} → FillResult bs s tables r → r.number ≡ 0 → (g : List ℕ) → Registered bs r.number g → length bs ≤ file_limit → length s ≡ state_bytes → Bytes s → length g ≡ register_bytes → Bytes g → (out : List ℕ) → command_limit ≤ length out
     → RunReady bs (memory s g) tables out r.tally.parties r.first
 filled_ready (inl (z, w)) h g shows short room bytes shown registers out long = ready w g (shows.started h) short room bytes shown registers out long
 filled_ready (inr (m, z, l, k)) h g shows short room bytes shown registers out long = absurd (omega arith)
 
-module _ (bs : List ℕ) (room : ℕ) (l : List Entry) (fits : room ≤ length l) (s out g : List ℕ) {s' out' g' tables : List ℕ} {b : Begun} (w : Begins bs room s out g s' out' g' tables b) where
+module _ (bs : List ℕ) (room : ℕ) (l : List Entry) (fits : room ≤ length l) (s out g : List ℕ) {s' out' g' : List ℕ} {tables : Tables} {b : Begun} (w : Begins bs room s out g s' out' g' tables b) where
   pub places_fit : b.places ≤ length l
   places_fit = go (roomy (length s) room (length out) (length g)) refl (dec_lt file_limit (length bs))
     where

@@ -3,6 +3,7 @@
 --     run-stood      what calls above it start from
 --     near-place     the place of a refusal is small
 -- Assumes nothing.
+use Rattle.tables.specs.declared.columns.Tables.{Tables}
 use mathlib.Core.Path.{◌≡◌, refl, sym, ap, subst, ◌∙◌}
 use mathlib.Core.Logic.{inl, inr}
 use mathlib.Core.Bool.{Bool, true, false, cond}
@@ -104,7 +105,7 @@ part_none m xs = let e : m ≡ m - 0 = omega arith in ap (λ (k : ℕ). replicat
 part_cleared : (m : ℕ) {xs : List ℕ} (old : List ℕ) → take m xs ≡ replicate m 0 → drop m xs ≡ drop m old → xs ≡ first_part m 0 [] old
 part_cleared m {xs} old t d = sym (split_at m xs) ∙ (λ j. t j ++ d j) ∙ part_none m old
 
-module _ (bs : List ℕ) (n : ℕ) (s : List ℕ) (l : List Entry) (out g s' : List ℕ) {l' : List Entry} {out' g' tables : List ℕ} {r : Finished} (w : Runs bs n (length l) s l out g s' l' out' g' tables r) where
+module _ (bs : List ℕ) (n : ℕ) (s : List ℕ) (l : List Entry) (out g s' : List ℕ) {l' : List Entry} {out' g' : List ℕ} {tables : Tables} {r : Finished} (w : Runs bs n (length l) s l out g s' l' out' g' tables r) where
   abbrev lent : Lent
   lent = lent_with s l out g
 
@@ -231,7 +232,7 @@ module _ (bs : List ℕ) (n : ℕ) (s : List ℕ) (l : List Entry) (out g s' : L
           let p = b.0 in
           stood p.scanned p.begun e (omega (arith, h)) p.outcomes p.registers b.1.0 b.1.1.0 b.1.1.1 z p.filled ls
 
-module _ (bs : List ℕ) (n room : ℕ) (s : List ℕ) (l : List Entry) (out g s' : List ℕ) {l' : List Entry} {out' g' tables : List ℕ} {r : Finished} (w : Runs bs n room s l out g s' l' out' g' tables r) where
+module _ (bs : List ℕ) (n room : ℕ) (s : List ℕ) (l : List Entry) (out g s' : List ℕ) {l' : List Entry} {out' g' : List ℕ} {tables : Tables} {r : Finished} (w : Runs bs n room s l out g s' l' out' g' tables r) where
   pub near_place : (r.begun.number ≡ 0 → ⊥) → r.begun.place < 2 ^ 32
   near_place z = go (roomy (length s) room (length out) (length g)) refl (dec_lt file_limit (length bs))
     where

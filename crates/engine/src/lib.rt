@@ -2,11 +2,12 @@
 #![tactic(auto)]
 
 ghost use Rattle.std.specs.Prelude.{◌≡◌, ◌≤◌, length};
-ghost use Rattle.tables.specs.Regions.{EmptyTables};
+ghost use Rattle.tables.specs.Columns.{EmptyTables};
 ghost use Rattle.engine.specs.Raw.{Runs};
 
 use rules::Entry;
 use turns::{Begun, Progress};
+use tables::Tables;
 
 // What a run found before its first command, and how far it went.
 #[derive(Clone, Copy)]
@@ -34,7 +35,7 @@ pub fn run(
     ledger: &mut [Entry],
     outcomes: &mut [u8],
     registers: &mut [u8],
-    tables: &mut [u16; tables::WORDS],
+    tables: &mut Tables,
 ) -> Finished
     requires { (room ≤ length ledger.old) × EmptyTables tables.old }
     ensures { Runs file.now n room state.old ledger.old outcomes.old registers.old state.new ledger.new outcomes.new registers.new tables.new result }

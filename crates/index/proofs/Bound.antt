@@ -1,4 +1,5 @@
 -- No file makes the index slow: the way of a key passes at most a number for each of its bits, and then one for each kind of term.
+use Rattle.tables.specs.declared.columns.Tables.{Tables}
 use mathlib.Core.Path.{◌≡◌, refl, sym, ap, subst⁻¹, ◌∙◌}
 use mathlib.Core.Bool.{Bool, true, false, cond}
 use mathlib.Core.List.{List, [], ◌∷◌}
@@ -92,7 +93,7 @@ small : (bs : List ℕ) → ((i : ℕ) → get_or bs i 0 < 256) → (at : ℕ) �
 unfolding term_there
 small bs bytes at = fields_small (kind_there bs at) _ (take_bytes (body_length (kind_there bs at)) (drop (at + 1) bs) (λ i. rw get_or-drop (bytes (at + 1 + i))))
 
-module _ {bs : List ℕ} {place : ℕ → ℕ} {links tables : List ℕ} {n key at rest m : ℕ}
+module _ {bs : List ℕ} {place : ℕ → ℕ} {links : List ℕ} {tables : Tables} {n key at rest m : ℕ}
     (bytes : (i : ℕ) → get_or bs i 0 < 256) (whole : (t : ℕ) → t < n → TermRecord bs (place t)) (ix : Indexed bs place links tables n)
     (short : key < 2 ^ key_bits) (w : Way links key at rest m) where
   kind_there_lem : (t : ℕ) → t < n → kind_of (term_there bs (place t)) ≡ kind_of_there bs place t

@@ -1,16 +1,17 @@
 -- The index of no term, and of terms at the same places.
+use Rattle.tables.specs.declared.columns.Tables.{Tables}
 use mathlib.Core.Path.{◌≡◌, refl, ◌∙◌, ap}
 use mathlib.Core.List.{List}
 use Prim.Native.Nat.{ℕ, ◌<◌}
 use native.Mathlib.Omega.{arith}
 use lib.ListN.{length, get_or, replicate, length-replicate}
-use Rattle.tables.specs.Regions.{table_words, EmptyTables}
-use Rattle.tables.proofs.Regions.{zeros_at, tables_none, unlinked_none}
+use Rattle.tables.specs.Columns.{table_words, EmptyTables}
+use Rattle.tables.proofs.Stores.{zeros_at, tables_none, unlinked_none}
 use Rattle.index.specs.Tree.{link_count}
 use Rattle.index.specs.Indexed.{key_there, Indexed}
 use Rattle.index.proofs.Found.{found_same}
 
-pub indexed_none : (bs : List ℕ) (place : ℕ → ℕ) (links tables : List ℕ) → links ≡ replicate link_count 0 → EmptyTables tables → Indexed bs place links tables 0
+pub indexed_none : (bs : List ℕ) (place : ℕ → ℕ) (links : List ℕ) (tables : Tables) → links ≡ replicate link_count 0 → EmptyTables tables → Indexed bs place links tables 0
 indexed_none bs place links tables el et =
     let none : (i : ℕ) → get_or links i 0 ≡ 0 = λ i. ap (λ (xs : List ℕ). get_or xs i 0) el ∙ zeros_at link_count i in
     record {
@@ -32,7 +33,7 @@ indexed_none bs place links tables el et =
     }
 
 module _ {bs : List ℕ} {place place' : ℕ → ℕ} {n : ℕ} (h : (t : ℕ) → t < n → place t ≡ place' t) where
-  pub indexed_same : {links tables : List ℕ} → Indexed bs place links tables n → Indexed bs place' links tables n
+  pub indexed_same : {links : List ℕ} {tables : Tables} → Indexed bs place links tables n → Indexed bs place' links tables n
   unfolding key_there
   indexed_same i = record {
     tree = i.tree;

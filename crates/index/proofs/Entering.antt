@@ -1,4 +1,5 @@
 -- A term record that enters: it is refused where a term of its kind and key was found, and else the index has it.
+use Rattle.tables.specs.declared.columns.Tables.{Tables}
 use mathlib.Core.Path.{◌≡◌, refl, sym, ◌∙◌, ap}
 use mathlib.Core.Bool.{true, false}
 use mathlib.Core.List.{List, [], ◌∷◌}
@@ -12,7 +13,7 @@ use Rattle.rules.specs.State.{put}
 use Rattle.state.specs.View.{Columns, view, with_place}
 use Rattle.records.specs.declared.Words.{Words}
 use Rattle.records.specs.Keys.{key_of, words_of}
-use Rattle.tables.specs.Regions.{Terms, Tables, tables_in, with_half, with_terms}
+use Rattle.tables.specs.Columns.{Terms, TableColumns, tables_in, with_half, with_terms}
 use Rattle.learning.specs.There.{term_there}
 use Rattle.learning.specs.Noted.{Noted}
 use Rattle.checks.specs.There.{kind_of_there, any_alike_there}
@@ -35,14 +36,14 @@ none_alike bs place x zero h = refl
 none_alike bs place x (suc n) h = rw (h n (omega arith), none_alike bs place x n (λ t l. h t (omega arith))) refl
 
 -- what is known of a term record after the walk of its key
-pub record Sought (bs s links tables body : List ℕ) (k at n key : ℕ) (words : Words) (found : Searched) : Type 0 where
+pub record Sought (bs s links : List ℕ) (tables : Tables) (body : List ℕ) (k at n key : ℕ) (words : Words) (found : Searched) : Type 0 where
   pub enters : EntersTerm bs s links tables body k at n
   pub bytes : Bytes bs
   pub own : words ≡ words_of (fields_in (term_at k body))
   pub key_is : key ≡ key_of (words.first ∷ words.second ∷ words.third ∷ words.fourth ∷ [])
   pub searched : SearchResult (tables_in tables).terms.kind (key_noted (tables_in tables).terms) links k (other_half k) key n found
 
-module _ {bs s links tables body : List ℕ} {k at n key : ℕ} {words : Words} {found : Searched} (w : Sought bs s links tables body k at n key words found) where
+module _ {bs s links : List ℕ} {tables : Tables} {body : List ℕ} {k at n key : ℕ} {words : Words} {found : Searched} (w : Sought bs s links tables body k at n key words found) where
   -- the places with the new term's
   abbrev places : ℕ → ℕ
   places = put (view s).place n at
@@ -104,7 +105,7 @@ module _ {bs s links tables body : List ℕ} {k at n key : ℕ} {words : Words} 
     terms_noted : Noted bs places terms_with (n + 1)
     terms_noted = noted_more index_there kind_new words_new
 
-    module _ {links' : List ℕ} (noted tables' : List ℕ) {v : Columns} (ev : v ≡ with_place (view s) places) (el : links' ≡ set links found.free (n + 1)) (en : tables_in noted ≡ with_terms (tables_in tables) terms_with) where
+    module _ {links' : List ℕ} (noted : List ℕ) (tables' : Tables) {v : Columns} (ev : v ≡ with_place (view s) places) (el : links' ≡ set links found.free (n + 1)) (en : tables_in noted ≡ with_terms (tables_in tables) terms_with) where
       entered : (half' : ℕ → ℕ) → tables_in tables' ≡ with_half (with_terms (tables_in tables) terms_with) half' → Halved bs places half' (n + 1) → Indexed bs v.place links' tables' (n + 1)
       entered half' et h =
           rw (ap (λ (c : Columns). c.place) ev)
@@ -115,7 +116,7 @@ module _ {bs s links tables body : List ℕ} {k at n key : ℕ} {words : Words} 
 
       -- a half is noted
       halved : (t x : ℕ) → tables_in tables' ≡ with_half (tables_in noted) (put (tables_in noted).half t x) → tables_in tables' ≡ with_half (with_terms (tables_in tables) terms_with) (put (tables_in tables).half t x)
-      halved t x et = et ∙ ap (λ (y : Tables). with_half y (put y.half t x)) en
+      halved t x et = et ∙ ap (λ (y : TableColumns). with_half y (put y.half t x)) en
 
       pub entered_public : (found.other ≡ 0 → ⊥) → k ≡ public_key_kind → tables_in tables' ≡ with_half (tables_in noted) (put (tables_in noted).half n found.other) → Indexed bs v.place links' tables' (n + 1)
       entered_public o p et = entered _ (halved _ _ et) (halved_public w.bytes index_there w.enters.room records search_there z o (sym kind_new ∙ p))

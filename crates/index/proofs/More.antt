@@ -1,4 +1,5 @@
 -- The index with one term more, of which no term of the same kind and key was found.
+use Rattle.tables.specs.declared.columns.Tables.{Tables}
 use mathlib.Core.Path.{◌≡◌, refl, sym, ◌∙◌, ap, subst, subst⁻¹}
 use mathlib.Core.Bool.{Bool, true, false, false≢true}
 use mathlib.Core.List.{List}
@@ -11,7 +12,7 @@ use Rattle.rules.specs.Limits.{term_limit}
 use Rattle.rules.specs.Term.{public_key_kind, private_key_kind, alike}
 use Rattle.rules.specs.State.{put}
 use Rattle.records.proofs.Lengths.{term_kinds_lem}
-use Rattle.tables.specs.Regions.{Unlinked, Terms, Tables, tables_in, with_half, with_terms}
+use Rattle.tables.specs.Columns.{Unlinked, Terms, TableColumns, tables_in, with_half, with_terms}
 use Rattle.learning.specs.There.{term_there}
 use Rattle.learning.specs.Noted.{Noted}
 use Rattle.checks.specs.There.{kind_of_there}
@@ -41,7 +42,7 @@ pub record Halved (bs : List ℕ) (place : ℕ → ℕ) (half : ℕ → ℕ) (n 
   pub halves : Halves bs place half n
   pub unpaired : (t : ℕ) → n ≤ t → half t ≡ 0
 
-module _ {bs : List ℕ} (bytes : Bytes bs) {place : ℕ → ℕ} {links tables : List ℕ} {n : ℕ} (i : Indexed bs place links tables n) (few : n < term_limit) (records : Records bs place (n + 1)) where
+module _ {bs : List ℕ} (bytes : Bytes bs) {place : ℕ → ℕ} {links : List ℕ} {tables : Tables} {n : ℕ} (i : Indexed bs place links tables n) (few : n < term_limit) (records : Records bs place (n + 1)) where
   abbrev kind : ℕ → ℕ
   kind = kind_of_there bs place
 
@@ -169,21 +170,21 @@ module _ {bs : List ℕ} (bytes : Bytes bs) {place : ℕ → ℕ} {links tables 
 
     -- its kind, its words and its halves are noted, and it stands at the free entry
     pub indexed_more :
-        {links' tables' : List ℕ} (half' : ℕ → ℕ) (terms' : Terms) → links' ≡ set links found.free (n + 1) → tables_in tables' ≡ with_half (with_terms (tables_in tables) terms') half'
+        {links' : List ℕ} {tables' : Tables} (half' : ℕ → ℕ) (terms' : Terms) → links' ≡ set links found.free (n + 1) → tables_in tables' ≡ with_half (with_terms (tables_in tables) terms') half'
         → Noted bs place terms' (n + 1) → Halved bs place half' (n + 1) → Indexed bs place links' tables' (n + 1)
     indexed_more {links'} {tables'} half' terms' el et w h =
         let g = f.free none in
-        let eh : (tables_in tables').half ≡ half' = ap (λ (v : Tables). v.half) et in
-        let ew : (tables_in tables').terms ≡ terms' = ap (λ (v : Tables). v.terms) et in
+        let eh : (tables_in tables').half ≡ half' = ap (λ (v : TableColumns). v.half) et in
+        let ew : (tables_in tables').terms ≡ terms' = ap (λ (v : TableColumns). v.terms) et in
         rw el (record {
           tree = grown_tree i.tree few g;
-          words = ap (λ (v : Tables). v.words) et ∙ i.words;
+          words = ap (λ (v : TableColumns). v.words) et ∙ i.words;
           noted = subst⁻¹ (λ (v : Terms). Noted bs place v (n + 1)) ew w;
           met = at_most n (grown_met i.tree few g) (λ t l. still_met i.tree few g (key t) (i.met t l));
           unlike = unlike_more;
           halves = rw eh h.halves;
           unpaired = rw eh h.unpaired;
-          unlisted = λ t. ap (λ (v : Tables). v.entry t) et ∙ i.unlisted t;
-          shallow = λ t. ap (λ (v : Tables). v.depth t) et ∙ i.shallow t;
-          unlinked = subst⁻¹ Unlinked (ap (λ (v : Tables). v.boards) et) i.unlinked;
+          unlisted = λ t. ap (λ (v : TableColumns). v.entry t) et ∙ i.unlisted t;
+          shallow = λ t. ap (λ (v : TableColumns). v.depth t) et ∙ i.shallow t;
+          unlinked = subst⁻¹ Unlinked (ap (λ (v : TableColumns). v.boards) et) i.unlinked;
         })

@@ -1,4 +1,5 @@
 -- What is noted of the terms: the key of each, and the kinds and the fields with one term more.
+use Rattle.tables.specs.declared.columns.Tables.{Tables}
 use mathlib.Core.Path.{◌≡◌, ◌∙◌, ap}
 use mathlib.Core.List.{List}
 use Prim.Native.Nat.{ℕ, zero, suc, ◌+◌, ◌*◌, ◌<◌, ◌≤◌}
@@ -9,19 +10,19 @@ use Rattle.rules.specs.State.{put}
 use Rattle.rules.specs.Term.{fields_in}
 use Rattle.records.specs.declared.Words.{Words}
 use Rattle.records.specs.Keys.{key_of, words_of}
-use Rattle.tables.specs.Regions.{field_words, Terms, field_of, tables_in}
+use Rattle.tables.specs.Columns.{field_words, Terms, field_of, tables_in}
 use Rattle.learning.specs.There.{term_there}
 use Rattle.learning.specs.Noted.{Noted}
 use Rattle.checks.specs.There.{kind_of_there}
 use Rattle.index.specs.Indexed.{key_there, key_noted, term_noted, Indexed, Reached}
 use Rattle.index.proofs.Found.{at_most, put_same, put_other}
 
-pub key_noted_lem : {bs : List ℕ} {place : ℕ → ℕ} {links tables : List ℕ} {n : ℕ} → Indexed bs place links tables n → (t : ℕ) → t < n → key_noted (tables_in tables).terms t ≡ key_there bs place t
+pub key_noted_lem : {bs : List ℕ} {place : ℕ → ℕ} {links : List ℕ} {tables : Tables} {n : ℕ} → Indexed bs place links tables n → (t : ℕ) → t < n → key_noted (tables_in tables).terms t ≡ key_there bs place t
 unfolding key_noted key_there key_of
 key_noted_lem i t l = rw (i.noted.fields t 0 l (omega arith), i.noted.fields t 1 l (omega arith), i.noted.fields t 2 l (omega arith), i.noted.fields t 3 l (omega arith))
 
 -- so each of the terms is met by what is noted of it
-pub reached : {bs : List ℕ} {place : ℕ → ℕ} {links tables : List ℕ} {n : ℕ} → Indexed bs place links tables n → n ≤ term_limit → Reached (key_noted (tables_in tables).terms) links n
+pub reached : {bs : List ℕ} {place : ℕ → ℕ} {links : List ℕ} {tables : Tables} {n : ℕ} → Indexed bs place links tables n → n ≤ term_limit → Reached (key_noted (tables_in tables).terms) links n
 reached i h = record { tree = i.tree; few = h; met = λ t l. rw (key_noted_lem i t l) (i.met t l) }
 
 -- the words of a term, noted one after the other
@@ -73,7 +74,7 @@ module _ (v : Terms) (n k : ℕ) (w : Words) where
 
 -- one term more
 pub noted_more :
-    {bs : List ℕ} {place : ℕ → ℕ} {links tables : List ℕ} {n k : ℕ} {w : Words} → Indexed bs place links tables n → k ≡ kind_of_there bs place n → w ≡ words_of (fields_in (term_there bs (place n)))
+    {bs : List ℕ} {place : ℕ → ℕ} {links : List ℕ} {tables : Tables} {n k : ℕ} {w : Words} → Indexed bs place links tables n → k ≡ kind_of_there bs place n → w ≡ words_of (fields_in (term_there bs (place n)))
     → Noted bs place (term_noted (tables_in tables).terms n k w) (n + 1)
 noted_more {bs} {place} {links} {tables} {n} {k} {w} i is e =
     let v = (tables_in tables).terms in

@@ -1,4 +1,5 @@
 -- The terms so far by their keys, and the private half of each public key among them.
+use Rattle.tables.specs.declared.columns.Tables.{Tables}
 use Rattle.std.specs.Prelude.{◌≡◌, Bool, true, false, cond, ◌&&◌, List, [], ◌∷◌, ℕ, zero, suc, ◌<◌, ◌≤◌, eqb, length, get_or}
 use Rattle.rules.specs.Limits.{term_limit}
 use Rattle.rules.specs.Term.{public_key_kind, private_key_kind, fields_in, alike, key_pair}
@@ -10,7 +11,7 @@ use Rattle.records.specs.Keys.{key_of}
 use Rattle.learning.specs.There.{term_there}
 use Rattle.learning.specs.Noted.{Noted}
 use Rattle.checks.specs.There.{TermsThere}
-use Rattle.tables.specs.Regions.{table_words, Unlinked, Terms, field_of, tables_in, with_kind, with_field}
+use Rattle.tables.specs.Columns.{table_words, Unlinked, Terms, field_of, tables_in, with_kind, with_field}
 use Rattle.index.specs.declared.Searched.{Searched}
 use Rattle.index.specs.Tree.{bucket_of, Met, Tree, Free, Found}
 
@@ -52,7 +53,7 @@ Unlike bs place n = (t u : ℕ) → t < n → u < n → alike (term_there bs (pl
 
 -- the kind and the fields of each of the first n terms, which is met by its key; the halves among them; no certificate has
 -- an entry in the ledger, and none is linked
-pub record Indexed (bs : List ℕ) (place : ℕ → ℕ) (links tables : List ℕ) (n : ℕ) : Type 0 where
+pub record Indexed (bs : List ℕ) (place : ℕ → ℕ) (links : List ℕ) (tables : Tables) (n : ℕ) : Type 0 where
   pub tree : Tree links n
   pub words : length tables ≡ table_words
   pub noted : Noted bs place (tables_in tables).terms n
@@ -77,7 +78,7 @@ pub record SearchResult (kinds keys : ℕ → ℕ) (links : List ℕ) (kind seco
   pub free : r.same ≡ 0 → Free links key r.free
 
 -- what entering a term record needs: the index of the terms so far, room, and the body that stands at its place
-pub record EntersTerm (bs s links tables body : List ℕ) (k at n : ℕ) : Type 0 where
+pub record EntersTerm (bs s links : List ℕ) (tables : Tables) (body : List ℕ) (k at n : ℕ) : Type 0 where
   pub there : TermsThere bs s n
   pub indexed : Indexed bs (view s).place links tables n
   pub room : n < term_limit

@@ -6,11 +6,12 @@ ghost use Rattle.rules.specs.Limits.{term_limit};
 ghost use Rattle.rules.specs.Load.{refuse_unless, term_at};
 ghost use Rattle.rules.specs.State.{put};
 ghost use Rattle.state.specs.View.{view, with_place};
-ghost use Rattle.tables.specs.Regions.{table_words, tables_in, with_terms};
+ghost use Rattle.tables.specs.Columns.{table_words, tables_in, with_terms};
 ghost use Rattle.checks.specs.There.{any_alike_there};
 ghost use Rattle.index.specs.Indexed.{words_noted, key_noted, term_noted, other_half, Indexed, Reached, SearchResult, EntersTerm};
 
 use records::Words;
+use tables::Tables;
 
 pub const BUCKETS: usize = 1024;
 
@@ -39,14 +40,14 @@ fn other_half(kind: u8) -> u8
 }
 
 // The words that are noted of a term.
-pub fn words_of(tables: &[u16; tables::WORDS], t: usize) -> Words
+pub fn words_of(tables: &Tables, t: usize) -> Words
     requires { t < term_limit }
     ensures { result ≡ words_noted (tables_in tables.now).terms t }
 {
-    let first = tables::field_of(tables, t, 0);
-    let second = tables::field_of(tables, t, 1);
-    let third = tables::field_of(tables, t, 2);
-    let fourth = tables::field_of(tables, t, 3);
+    let first = tables.field_of(t, 0);
+    let second = tables.field_of(t, 1);
+    let third = tables.field_of(t, 2);
+    let fourth = tables.field_of(t, 3);
     Words {
         first: first,
         second: second,
@@ -56,7 +57,7 @@ pub fn words_of(tables: &[u16; tables::WORDS], t: usize) -> Words
 }
 
 // The key of a term, by its words.
-fn key_of(tables: &[u16; tables::WORDS], t: usize) -> u64
+fn key_of(tables: &Tables, t: usize) -> u64
     requires { t < term_limit }
     ensures { result ≡ key_noted (tables_in tables.now).terms t }
 {
@@ -65,21 +66,21 @@ fn key_of(tables: &[u16; tables::WORDS], t: usize) -> u64
 }
 
 // The kind of a term and its words.
-fn note_term(tables: &mut [u16; tables::WORDS], t: usize, kind: u8, words: Words)
+fn note_term(tables: &mut Tables, t: usize, kind: u8, words: Words)
     requires { (length tables.old ≡ table_words) × (t < term_limit) }
     ensures { tables_in tables.new ≡ with_terms (tables_in tables.old) (term_noted (tables_in tables.old).terms t kind words) }
 {
-    tables::note_kind(tables, t, kind as u16);
-    tables::note_field(tables, t, 0, words.first);
-    tables::note_field(tables, t, 1, words.second);
-    tables::note_field(tables, t, 2, words.third);
-    tables::note_field(tables, t, 3, words.fourth);
+    tables.note_kind(t, kind as u16);
+    tables.note_field(t, 0, words.first);
+    tables.note_field(t, 1, words.second);
+    tables.note_field(t, 2, words.third);
+    tables.note_field(t, 3, words.fourth);
 }
 
 // The way of a key down its bucket.
 fn search(
     links: &[u16; LINKS],
-    tables: &[u16; tables::WORDS],
+    tables: &Tables,
     kind: u8,
     other: u8,
     key: u64,
@@ -95,7 +96,7 @@ fn search(
     while e != 0 {
         let t = e - 1;
         if key_of(tables, t) == key {
-            let there = tables::kind_of(tables, t);
+            let there = tables.kind_of(t);
             if there == kind as u16 {
                 return Searched {
                     same: e,
@@ -123,7 +124,7 @@ pub fn enter_term(
     file: &[u8],
     state: &mut [u8],
     links: &mut [u16; LINKS],
-    tables: &mut [u16; tables::WORDS],
+    tables: &mut Tables,
     body: &[u8],
     kind: u8,
     at: usize,
@@ -148,9 +149,9 @@ pub fn enter_term(
     links[free] = (terms + 1) as u16;
     if other != 0 {
         if kind == 0x10 {
-            tables::note_half(tables, terms, other as u16);
+            tables.note_half(terms, other as u16);
         } else {
-            tables::note_half(tables, other - 1, (terms + 1) as u16);
+            tables.note_half(other - 1, (terms + 1) as u16);
         }
     }
     0

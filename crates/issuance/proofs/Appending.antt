@@ -4,6 +4,7 @@
 --     appended                    what writing its place, its depth and its EK leaves
 --     linked-known, linked-new, enters-linked, keys-linked  what linking it leaves
 -- Assumes nothing.
+use Rattle.tables.specs.declared.columns.Tables.{Tables}
 use mathlib.Core.Path.{◌≡◌, refl, sym, ap, subst⁻¹, ◌∙◌}
 use mathlib.Core.Bool.{Bool, true, false, cond, ◌||◌, false≢true}
 use mathlib.Core.List.{List, [], ◌∷◌, ◌++◌}
@@ -16,7 +17,7 @@ use Rattle.rules.specs.declared.Entry.{Entry}
 use Rattle.rules.specs.declared.Subject.{Subject}
 use Rattle.rules.specs.declared.Subject.TheVariants.{Tpm, Device}
 use Rattle.rules.specs.State.{put, listed, depth_of}
-use Rattle.tables.specs.Regions.{Boards, Tables, tables_in, with_entry, with_depth, with_boards, with_ek, linked}
+use Rattle.tables.specs.Columns.{Boards, TableColumns, tables_in, with_entry, with_depth, with_boards, with_ek, linked}
 use Rattle.boards.specs.Linked.{Falls, entry_of}
 use Rattle.boards.proofs.Walk.{falls_linked, falls_more}
 use Rattle.loaded.specs.Entries.{entry_from, Enters, SameKeys}
@@ -72,12 +73,12 @@ depth_appended es e c h = go (eqb c e.certificate) refl
     go false q = depth_other es c e (λ m. eqb-false c e.certificate q (sym m))
 
 -- what the entry's place, its depth and its EK leave, where they are written
-module _ (tables tables₁ tables₂ tables' : List ℕ) (n certificate depth ek : ℕ)
+module _ (tables tables₁ tables₂ tables' : Tables) (n certificate depth ek : ℕ)
     (t : tables_in tables₁ ≡ with_entry (tables_in tables) (put (tables_in tables).entry certificate (n + 1)))
     (d : tables_in tables₂ ≡ with_depth (tables_in tables₁) (put (tables_in tables₁).depth certificate depth))
     (k : tables_in tables' ≡ with_boards (tables_in tables₂) (with_ek (tables_in tables₂).boards (put (tables_in tables₂).boards.ek n ek))) where
   written : tables_in tables' ≡ with_boards (with_depth (with_entry (tables_in tables) (put (tables_in tables).entry certificate (n + 1))) (put (tables_in tables).depth certificate depth)) (with_ek (tables_in tables).boards (put (tables_in tables).boards.ek n ek))
-  written = k ∙ ap (λ (v : Tables). with_boards v (with_ek v.boards (put v.boards.ek n ek))) (d ∙ ap (λ (v : Tables). with_depth v (put v.depth certificate depth)) t)
+  written = k ∙ ap (λ (v : TableColumns). with_boards v (with_ek v.boards (put v.boards.ek n ek))) (d ∙ ap (λ (v : TableColumns). with_depth v (put v.depth certificate depth)) t)
 
   module _ {ledger : List Entry} (e : Entry) (q : e.certificate ≡ certificate) (m : e.depth ≡ depth) (h : Enters tables n ledger) (new : listed ledger certificate ≡ false) where
     new_one : listed ledger e.certificate ≡ false
@@ -86,7 +87,7 @@ module _ (tables tables₁ tables₂ tables' : List ℕ) (n certificate depth ek
     places_next : (c : ℕ) → (tables_in tables').entry c ≡ entry_from 0 (ledger ++ (e ∷ [])) c
     unfolding put
     places_next c =
-        ap (λ (v : Tables). v.entry c) written
+        ap (λ (v : TableColumns). v.entry c) written
         ∙ ap (cond (eqb c certificate) (n + 1)) (h.place c)
         ∙ ap (λ (x : ℕ). put (entry_from 0 ledger) x (n + 1) c) (sym q)
         ∙ ap (λ (x : ℕ). put (entry_from 0 ledger) e.certificate (x + 1) c) (sym h.count)
@@ -95,7 +96,7 @@ module _ (tables tables₁ tables₂ tables' : List ℕ) (n certificate depth ek
     depths_next : (c : ℕ) → (tables_in tables').depth c ≡ depth_of (ledger ++ (e ∷ [])) c
     unfolding put
     depths_next c =
-        ap (λ (v : Tables). v.depth c) written
+        ap (λ (v : TableColumns). v.depth c) written
         ∙ ap (cond (eqb c certificate) depth) (h.depth c)
         ∙ ap (λ (x : ℕ). put (depth_of ledger) x depth c) (sym q)
         ∙ ap (λ (x : ℕ). put (depth_of ledger) e.certificate x c) (sym m)
@@ -108,30 +109,30 @@ module _ (tables tables₁ tables₂ tables' : List ℕ) (n certificate depth ek
       count = length-append ledger (e ∷ []) ∙ ap (λ (x : ℕ). x + 1) h.count;
       place = places_next e q m h new;
       depth = depths_next e q m h new;
-      falls = subst⁻¹ (λ (b : Boards). Falls b (n + 1)) (ap (λ (v : Tables). v.boards) written) (falls_ek _ _ (n + 1) (falls_more _ n h.falls));
+      falls = subst⁻¹ (λ (b : Boards). Falls b (n + 1)) (ap (λ (v : TableColumns). v.boards) written) (falls_ek _ _ (n + 1) (falls_more _ n h.falls));
     };
-    keys = record { words = ap (λ (v : Tables). v.words) written; signer = ap (λ (v : Tables). v.signer) written; half = ap (λ (v : Tables). v.half) written; terms = ap (λ (v : Tables). v.terms) written };
-    boards = ap (λ (v : Tables). v.boards) written;
+    keys = record { words = ap (λ (v : TableColumns). v.words) written; signer = ap (λ (v : TableColumns). v.signer) written; half = ap (λ (v : TableColumns). v.half) written; terms = ap (λ (v : TableColumns). v.terms) written };
+    boards = ap (λ (v : TableColumns). v.boards) written;
   }
 
 -- linked by its Subject, by what that finds
-module _ (v : Tables) (n : ℕ) {x : Subject} {m e : ℕ} (q : x ≡ Device m) (k : e ≡ entry_of v.boards m) where
+module _ (v : TableColumns) (n : ℕ) {x : Subject} {m e : ℕ} (q : x ≡ Device m) (k : e ≡ entry_of v.boards m) where
   pub linked_known : (e ≡ 0 → ⊥) → v ≡ linked_by v n x
   linked_known z = sym (ap (linked_by v n) q ∙ ap (λ (b : Bool). cond b (with_boards v (linked v.boards n m)) v) (ne_eqb (entry_of v.boards m) 0 (λ w. z (k ∙ w))))
 
   pub linked_new : e ≡ 0 → with_boards v (linked v.boards n m) ≡ linked_by v n x
   linked_new z = sym (ap (linked_by v n) q ∙ ap (λ (b : Bool). cond b (with_boards v (linked v.boards n m)) v) (eq-eqb (entry_of v.boards m) 0 (sym k ∙ z)))
 
-module _ (tables tables' : List ℕ) (n : ℕ) where
+module _ (tables tables' : Tables) (n : ℕ) where
   pub enters_linked :
       {ledger : List Entry} (x : Subject) → tables_in tables' ≡ linked_by (tables_in tables) n x → Falls (tables_in tables).boards n → Enters tables (n + 1) ledger
       → Enters tables' (n + 1) ledger
   enters_linked x k f h = record {
     few = h.few;
     count = h.count;
-    place = λ c. ap (λ (v : Tables). v.entry c) k ∙ place x c ∙ h.place c;
-    depth = λ c. ap (λ (v : Tables). v.depth c) k ∙ depth x c ∙ h.depth c;
-    falls = subst⁻¹ (λ (b : Boards). Falls b (n + 1)) (ap (λ (v : Tables). v.boards) k) (falls x);
+    place = λ c. ap (λ (v : TableColumns). v.entry c) k ∙ place x c ∙ h.place c;
+    depth = λ c. ap (λ (v : TableColumns). v.depth c) k ∙ depth x c ∙ h.depth c;
+    falls = subst⁻¹ (λ (b : Boards). Falls b (n + 1)) (ap (λ (v : TableColumns). v.boards) k) (falls x);
   }
     where
       place : (x : Subject) (c : ℕ) → (linked_by (tables_in tables) n x).entry c ≡ (tables_in tables).entry c
@@ -158,7 +159,7 @@ module _ (tables tables' : List ℕ) (n : ℕ) where
           go true = falls_linked _ n m f
           go false = falls_more _ n f
 
-  pub keys_linked : {v : Tables} (x : Subject) → tables_in tables' ≡ linked_by (tables_in tables) n x → SameKeys v (tables_in tables) → SameKeys v (tables_in tables')
+  pub keys_linked : {v : TableColumns} (x : Subject) → tables_in tables' ≡ linked_by (tables_in tables) n x → SameKeys v (tables_in tables) → SameKeys v (tables_in tables')
   keys_linked {v} x k h = subst⁻¹ (SameKeys v) k (keys x)
     where
       keys : (x : Subject) → SameKeys v (linked_by (tables_in tables) n x)

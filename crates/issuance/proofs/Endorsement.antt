@@ -2,6 +2,7 @@
 --     endorsement-noted    the tables have it
 --     ek-few               the number of its key
 -- Assumes nothing.
+use Rattle.tables.specs.declared.columns.Tables.{Tables}
 use mathlib.Core.Path.{◌≡◌}
 use mathlib.Core.List.{List}
 use Prim.Native.Nat.{ℕ, ◌<◌}
@@ -23,7 +24,7 @@ module _ {bs s : List ℕ} {q : ℕ} (h : Holds bs s) (r : Requested (file_in bs
   is_certificate : kind (file_in bs) (idevid_certificate (file_in bs) (left_of (file_in bs) q)) ≡ certificate_kind
   is_certificate = (checked_here h).idevid_certificate_kind (left_of (file_in bs) q) r.body
 
-  pub endorsement_noted : {tables : List ℕ} → Finds bs tables → TermNoted bs tables (idevid_certificate (file_in bs) (left_of (file_in bs) q))
+  pub endorsement_noted : {tables : Tables} → Finds bs tables → TermNoted bs tables (idevid_certificate (file_in bs) (left_of (file_in bs) q))
   endorsement_noted d = term_noted_lem d inside
 
   pub ek_few : certified_key (file_in bs) (idevid_certificate (file_in bs) (left_of (file_in bs) q)) < term_limit

@@ -7,6 +7,7 @@
 --     attest-read to called-read             parts by what was read are parts by the request
 --     issue-chain                        the outcome as a chain of its tests, part by part
 -- Assumes nothing.
+use Rattle.tables.specs.declared.columns.Tables.{Tables}
 use mathlib.Core.Path.{◌≡◌, refl, ap, ◌∙◌}
 use mathlib.Core.List.{List, ◌∷◌, ◌++◌}
 use Prim.Native.Nat.{ℕ, ◌<◌}
@@ -23,7 +24,7 @@ use Rattle.rules.specs.Desk.{request_body, request_signature, form_tests, proof_
 use Rattle.rules.specs.Run.{tests_of, outcome}
 use Rattle.theorems.proofs.Requests.{DeskParent}
 use Rattle.state.specs.View.{view}
-use Rattle.tables.specs.Regions.{tables_in}
+use Rattle.tables.specs.Columns.{tables_in}
 use Rattle.theorems.specs.Chain.{chain}
 use Rattle.loaded.specs.Loaded.{file_in, Holds, Finds, TermNoted}
 use Rattle.theorems.proofs.Chain.{in_order_lem, chain_rest, passed}
@@ -71,10 +72,10 @@ asked f q e w =
     record { formed = m.0; body = m.1; signature = is_kind_kind_lem f _ a.0; attest = is_kind_kind_lem f _ b.0 }
 
 -- a term of another kind than 12
-pub noted : {bs tables : List ℕ} {t k : ℕ} → Finds bs tables → kind (file_in bs) t ≡ k → (k ≡ hash_kind → ⊥) → TermNoted bs tables t
+pub noted : {bs : List ℕ} {tables : Tables} {t k : ℕ} → Finds bs tables → kind (file_in bs) t ≡ k → (k ≡ hash_kind → ⊥) → TermNoted bs tables t
 noted {bs} d e n = term_noted_lem d (kind_declared bs e n)
 
-pub parent_noted : (bs s tables : List ℕ) (p q : ℕ) → ParentsEntered bs s tables → DeskParent (file_in bs) (view s).knows p q → 0 < (tables_in tables).entry (parent_at (file_in bs) q)
+pub parent_noted : (bs s : List ℕ) (tables : Tables) (p q : ℕ) → ParentsEntered bs s tables → DeskParent (file_in bs) (view s).knows p q → 0 < (tables_in tables).entry (parent_at (file_in bs) q)
 unfolding parent_certificate_of request_body
 parent_noted bs s tables p q entered w = entered p q w
 

@@ -3,6 +3,7 @@
 --     parent_place                the place of the parent of a 40, 41 or 42
 --     iak-issued, request-issued  3F; 40, 41, 42
 -- Assumes nothing.
+use Rattle.tables.specs.declared.columns.Tables.{Tables}
 use mathlib.Core.Path.{◌≡◌, refl, sym, ap, subst⁻¹, ◌∙◌}
 use mathlib.Core.Bool.{Bool, true, false, false≢true, cond}
 use mathlib.Core.List.{List, [], ◌∷◌, ◌++◌, Memᴰ}
@@ -27,7 +28,7 @@ use Rattle.theorems.proofs.Invariant.{descends}
 use Rattle.theorems.proofs.Requests.{DeskParent}
 use Rattle.state.specs.View.{Columns, view, with_mark}
 use Rattle.state.proofs.Exact.{state_of}
-use Rattle.tables.specs.Regions.{Boards, Tables, tables_in, with_boards, with_ek, linked}
+use Rattle.tables.specs.Columns.{Boards, TableColumns, tables_in, with_boards, with_ek, linked}
 use Rattle.boards.specs.Linked.{Falls, entry_of}
 use Rattle.loaded.specs.Loaded.{file_in, Learns}
 use Rattle.loaded.specs.Entries.{Boarded, DeskLeaves}
@@ -81,18 +82,18 @@ request_new f s family p q r e =
     let signed = tests.1.1.1.1.1.1.1.1.1.1.1 in
     record { named = same_subject_lem _ _ signed.1.1.1.1.0; new = not-true _ signed.1.1.1.1.1.1.0 }
 
-pub request_accepted : {bs s tables : List ℕ} {n p q r : ℕ} (i : IssuesOnRequest bs s tables n p q r) → RequestPassed (file_in bs) (state_of (view s) i.accepts.ledger) p q r
+pub request_accepted : {bs s : List ℕ} {tables : Tables} {n p q r : ℕ} (i : IssuesOnRequest bs s tables n p q r) → RequestPassed (file_in bs) (state_of (view s) i.accepts.ledger) p q r
 request_accepted {bs} {s} {p = p} {q} {r} i = request_passed (file_in bs) (state_of (view s) i.accepts.ledger) i.family p q r i.wellformed.3 i.accepts.accepted
 
 -- the place of its parent's entry
 pub parent_place :
-    {bs s tables : List ℕ} {n p q r : ℕ} → IssuesOnRequest bs s tables n p q r
+    {bs s : List ℕ} {tables : Tables} {n p q r : ℕ} → IssuesOnRequest bs s tables n p q r
     → (0 < (tables_in tables).entry (parent_at (file_in bs) q)) × ((tables_in tables).entry (parent_at (file_in bs) q) ≤ term_limit)
 parent_place {bs} {s} {tables} {p = p} {q} i = (parent_noted bs s tables p q i.parents (request_accepted i).parent, entry_most (parent_at (file_in bs) q) i.accepts.enters)
 
 -- an IAK certificate's entry, linked where its Subject finds none
 iak_boarded :
-    (f : File) (tables tables₁ tables' : List ℕ) {l : List Entry} {ek : ℕ} (e : Entry) (n m : ℕ) → ek ≡ certified_key f e.parent
+    (f : File) (tables tables₁ tables' : Tables) {l : List Entry} {ek : ℕ} (e : Entry) (n m : ℕ) → ek ≡ certified_key f e.parent
     → (tables_in tables₁).boards ≡ with_ek (tables_in tables).boards (put (tables_in tables).boards.ek n ek) → tables_in tables' ≡ linked_by (tables_in tables₁) n (Device m)
     → Boarded f (tables_in tables).boards l
     → Boarded f (linked (with_ek (tables_in tables).boards (put (tables_in tables).boards.ek n (certified_key f e.parent))) n m) (l ++ (e ∷ []))
@@ -108,14 +109,14 @@ iak_boarded f tables tables₁ tables' {l} {ek} e n m x a k v new known = go (eq
 
     go : (b : Bool) → eqb (entry_of (tables_in tables₁).boards m) 0 ≡ b → tables_in tables' ≡ cond b (with_boards (tables_in tables₁) (linked (tables_in tables₁).boards n m)) (tables_in tables₁)
         → Boarded f (tables_in tables').boards (l ++ (e ∷ []))
-    go true q k = subst⁻¹ (λ (y : Boards). Boarded f y (l ++ (e ∷ []))) (ap (λ (y : Tables). y.boards) k ∙ ap (λ (y : Boards). linked y n m) noted) new
+    go true q k = subst⁻¹ (λ (y : Boards). Boarded f y (l ++ (e ∷ []))) (ap (λ (y : TableColumns). y.boards) k ∙ ap (λ (y : Boards). linked y n m) noted) new
     go false q k =
         let z = eqb-false (entry_of (tables_in tables₁).boards m) 0 q in
         let t : entry_of (tables_in tables₁).boards m ≡ entry_of (tables_in tables).boards m = ap (λ (y : Boards). entry_of y m) noted ∙ found_ek (tables_in tables).boards _ m in
-        subst⁻¹ (λ (y : Boards). Boarded f y (l ++ (e ∷ []))) (ap (λ (y : Tables). y.boards) k ∙ noted) (known (omega (arith, t)))
+        subst⁻¹ (λ (y : Boards). Boarded f y (l ++ (e ∷ []))) (ap (λ (y : TableColumns). y.boards) k ∙ noted) (known (omega (arith, t)))
 
 pub iak_issued_lem :
-    {bs s s₁ s₂ tables tables₁ tables' : List ℕ} {n p c r request body parent ek : ℕ} {named : Subject}
+    {bs s s₁ s₂ : List ℕ} {tables tables₁ tables' : Tables} {n p c r request body parent ek : ℕ} {named : Subject}
     → IssuesIak bs s tables n p c r → request ≡ (view s).request c → body ≡ left_of (file_in bs) request → parent ≡ idevid_certificate (file_in bs) body → named ≡ subject (file_in bs) body → ek ≡ certified_key (file_in bs) parent
     → Learns bs s s₁ p r → view s₂ ≡ with_mark (view s₁) (put (view s₁).mark c credential_closed) → Appends tables n r 1 ek tables₁
     → tables_in tables' ≡ linked_by (tables_in tables₁) n named
@@ -152,7 +153,7 @@ iak_issued_lem {bs} {s} {s₁} {s₂} {tables} {tables₁} {tables'} {n = n} {p}
     }
 
 pub request_issued :
-    {bs s s₁ tables tables' : List ℕ} {n p q r body parent depth ek : ℕ} → IssuesOnRequest bs s tables n p q r → body ≡ left_of (file_in bs) q → parent ≡ ldevid_certificate (file_in bs) body
+    {bs s s₁ : List ℕ} {tables tables' : Tables} {n p q r body parent depth ek : ℕ} → IssuesOnRequest bs s tables n p q r → body ≡ left_of (file_in bs) q → parent ≡ ldevid_certificate (file_in bs) body
     → depth ≡ (tables_in tables).depth parent
     → ek ≡ (tables_in tables).boards.ek ((tables_in tables).entry parent - 1)
     → Learns bs s s₁ p r → Appends tables n r (depth + 1) ek tables'

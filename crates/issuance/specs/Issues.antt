@@ -1,4 +1,5 @@
 -- Accepted commands that issue a certificate.
+use Rattle.tables.specs.declared.columns.Tables.{Tables}
 use Rattle.std.specs.Prelude.{List, ℕ, ◌<◌}
 use Rattle.rules.specs.declared.Family.{Family}
 use Rattle.rules.specs.File.{issue_iak, issue}
@@ -6,13 +7,13 @@ use Rattle.rules.specs.Desk.{parent_certificate_of}
 use Rattle.theorems.proofs.Loading.{Wellformed}
 use Rattle.theorems.proofs.Requests.{DeskParent}
 use Rattle.state.specs.View.{view}
-use Rattle.tables.specs.Regions.{tables_in}
+use Rattle.tables.specs.Columns.{tables_in}
 use Rattle.loaded.specs.Loaded.{file_in, Finds}
 use Rattle.loaded.specs.Entries.{Accepts}
 use Rattle.requests.specs.Formed.{Requested}
 
 -- 3F, with the returning party that it was accepted for
-pub record IssuesIak (bs s tables : List ℕ) (n party c r : ℕ) : Type 0 where
+pub record IssuesIak (bs s : List ℕ) (tables : Tables) (n party c r : ℕ) : Type 0 where
   pub other : ℕ
   pub wellformed : Wellformed (file_in bs) (issue_iak party other c r)
   pub requested : Requested (file_in bs) ((view s).request c)
@@ -24,7 +25,7 @@ abbrev pub ParentsEntered : List ℕ → List ℕ → List ℕ → Type 0
 ParentsEntered bs s tables = (p q : ℕ) → DeskParent (file_in bs) (view s).knows p q → 0 < (tables_in tables).entry (parent_certificate_of (file_in bs) q)
 
 -- 40, 41 or 42, with the family that it was accepted for
-pub record IssuesOnRequest (bs s tables : List ℕ) (n party q r : ℕ) : Type 0 where
+pub record IssuesOnRequest (bs s : List ℕ) (tables : Tables) (n party q r : ℕ) : Type 0 where
   pub family : Family
   pub wellformed : Wellformed (file_in bs) (issue family party q r)
   pub accepts : Accepts bs s tables n (issue family party q r)

@@ -12,7 +12,7 @@ ghost use Rattle.rules.specs.Desk.{all_end_at};
 ghost use Rattle.theorems.proofs.Ends.{OneEk};
 ghost use Rattle.theorems.proofs.Loading.{Wellformed};
 ghost use Rattle.state.specs.View.{view};
-ghost use Rattle.tables.specs.Regions.{table_words, tables_in};
+ghost use Rattle.tables.specs.Columns.{table_words, tables_in};
 ghost use Rattle.boards.specs.Linked.{Falls};
 ghost use Rattle.theorems.specs.Chain.{chain};
 ghost use Rattle.loaded.specs.Loaded.{file_in, Holds, Finds};
@@ -23,26 +23,27 @@ ghost use Rattle.issuance.specs.Appends.{Appends, linked_by};
 ghost use Rattle.issuance.specs.Issues.{IssuesIak, IssuesOnRequest};
 
 use rules::{Entry, Family, Subject};
+use tables::Tables;
 
 // Whether the ledger lists a certificate, by the tables' column of places.
-fn is_listed(tables: &[u16; tables::WORDS], t: usize) -> bool
+fn is_listed(tables: &Tables, t: usize) -> bool
     requires { t < term_limit }
     ensures { (n : ℕ) (ledger : List Entry) → Enters tables.now n ledger → result ≡ listed ledger t }
 {
-    tables::entry_of(tables, t) != 0
+    tables.entry_of(t) != 0
 }
 
 // The EK at the end of a listed certificate's path, by the tables' column of places.
-fn ek_of(tables: &[u16; tables::WORDS], t: usize) -> u16
+fn ek_of(tables: &Tables, t: usize) -> u16
     requires { (t < term_limit) × (0 < (tables_in tables.now).entry t) × ((tables_in tables.now).entry t ≤ term_limit) }
     ensures { result ≡ (tables_in tables.now).boards.ek ((tables_in tables.now).entry t - 1) }
 {
-    let entry = tables::entry_of(tables, t) as usize;
-    tables::ek_of(tables, entry - 1)
+    let entry = tables.entry_of(t) as usize;
+    tables.ek_of(entry - 1)
 }
 
 // Whether every entry with a Subject has a path that ends at an EK: the one that its serial number finds tells, and no entry has a TPM's.
-fn ends_at(tables: &[u16; tables::WORDS], wanted: Subject, ek: usize) -> bool
+fn ends_at(tables: &Tables, wanted: Subject, ek: usize) -> bool
     requires { Falls (tables_in tables.now).boards term_limit }
     ensures { (f : File) (ledger : List Entry) → Boarded f (tables_in tables.now).boards ledger → OneEk f ledger → result ≡ all_end_at f ledger wanted ek ledger }
 {
@@ -53,12 +54,12 @@ fn ends_at(tables: &[u16; tables::WORDS], wanted: Subject, ek: usize) -> bool
     if entry == 0 {
         return true;
     }
-    let kept = tables::ek_of(tables, entry - 1) as usize;
+    let kept = tables.ek_of(entry - 1) as usize;
     kept == ek
 }
 
 // The entry of an IAK certificate: none so far, and no other EK with its Subject.
-fn iak_allowed(tables: &[u16; tables::WORDS], r: usize, wanted: Subject, ek: usize) -> u8
+fn iak_allowed(tables: &Tables, r: usize, wanted: Subject, ek: usize) -> u8
     requires { (r < term_limit) × Falls (tables_in tables.now).boards term_limit }
     ensures { (f : File) (n : ℕ) (ledger : List Entry) → Enters tables.now n ledger → Boarded f (tables_in tables.now).boards ledger → OneEk f ledger → result ≡ chain (iak_entry_tests f ledger r wanted ek) }
 {
@@ -75,7 +76,7 @@ fn iak_allowed(tables: &[u16; tables::WORDS], r: usize, wanted: Subject, ek: usi
 pub fn decide_issue_iak(
     file: &[u8],
     state: &[u8],
-    tables: &[u16; tables::WORDS],
+    tables: &Tables,
     party: usize,
     other: usize,
     c: usize,
@@ -114,14 +115,14 @@ pub fn decide_issue_iak(
 }
 
 // The entry of a certificate below its parent's: none so far, and not too deep.
-fn entry_allowed(tables: &[u16; tables::WORDS], r: usize, parent: usize) -> u8
+fn entry_allowed(tables: &Tables, r: usize, parent: usize) -> u8
     requires { (r < term_limit) × (parent < term_limit) }
     ensures { (n : ℕ) (ledger : List Entry) → Enters tables.now n ledger → result ≡ chain (entry_tests ledger r parent) }
 {
     if is_listed(tables, r) {
         return 28;
     }
-    let depth = tables::depth_of(tables, parent);
+    let depth = tables.depth_of(parent);
     if depth >= rules::DEPTH_LIMIT {
         return 29;
     }
@@ -132,7 +133,7 @@ fn entry_allowed(tables: &[u16; tables::WORDS], r: usize, parent: usize) -> u8
 fn below(
     file: &[u8],
     state: &[u8],
-    tables: &[u16; tables::WORDS],
+    tables: &Tables,
     parties: usize,
     family: Family,
     party: usize,
@@ -161,7 +162,7 @@ fn below(
 pub fn decide_issue(
     file: &[u8],
     state: &[u8],
-    tables: &[u16; tables::WORDS],
+    tables: &Tables,
     parties: usize,
     family: Family,
     party: usize,
@@ -207,18 +208,18 @@ pub fn decide_issue(
 }
 
 // The place and the depth of an entry after the others are noted, and the EK at the end of its path.
-fn append(tables: &mut [u16; tables::WORDS], n: usize, certificate: usize, depth: u16, ek: u16)
+fn append(tables: &mut Tables, n: usize, certificate: usize, depth: u16, ek: u16)
     requires { (length tables.old ≡ table_words) × (n < term_limit) × (certificate < term_limit) }
     ensures { Appends tables.old n certificate depth ek tables.new }
 {
     let place = (n + 1) as u16;
-    tables::note_entry(tables, certificate, place);
-    tables::note_depth(tables, certificate, depth);
-    tables::note_ek(tables, n, ek);
+    tables.note_entry(certificate, place);
+    tables.note_depth(certificate, depth);
+    tables.note_ek(n, ek);
 }
 
 // The entry at a place is linked by its Subject, where that finds none.
-fn link(tables: &mut [u16; tables::WORDS], n: usize, subject: Subject)
+fn link(tables: &mut Tables, n: usize, subject: Subject)
     requires { (length tables.old ≡ table_words) × (n < term_limit) × Falls (tables_in tables.old).boards term_limit }
     ensures { tables_in tables.new ≡ linked_by (tables_in tables.old) n subject }
 {
@@ -229,7 +230,7 @@ fn link(tables: &mut [u16; tables::WORDS], n: usize, subject: Subject)
     if entry != 0 {
         return;
     }
-    tables::link(tables, n, serial);
+    tables.link(n, serial);
 }
 
 // What 3F leaves: the desk learns the certificate, and the credential is closed. Answers the entry that the ledger gains: the certificate under that
@@ -237,7 +238,7 @@ fn link(tables: &mut [u16; tables::WORDS], n: usize, subject: Subject)
 pub fn effect_issue_iak(
     file: &[u8],
     state: &mut [u8],
-    tables: &mut [u16; tables::WORDS],
+    tables: &mut Tables,
     n: usize,
     party: usize,
     c: usize,
@@ -266,7 +267,7 @@ pub fn effect_issue_iak(
 pub fn effect_issue(
     file: &[u8],
     state: &mut [u8],
-    tables: &mut [u16; tables::WORDS],
+    tables: &mut Tables,
     n: usize,
     party: usize,
     q: usize,
@@ -278,7 +279,7 @@ pub fn effect_issue(
     let request = requests::pair_of(file, tables, q);
     let asked = requests::ldevid_request_of(file, tables, request.left);
     let parent = asked.certificate;
-    let depth = tables::depth_of(tables, parent);
+    let depth = tables.depth_of(parent);
     let ek = ek_of(tables, parent);
     loaded::learn(file, state, tables, party, r);
     append(tables, n, r, depth + 1, ek);

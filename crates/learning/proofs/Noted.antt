@@ -17,7 +17,7 @@ use Rattle.rules.specs.Limits.{row_width, party_limit, term_limit}
 use Rattle.rules.specs.Term.{hash_kind, kind_of, subject_fields, fields_in, parts_of}
 use Rattle.rules.specs.Learning.{Knowledge}
 use Rattle.records.proofs.Keys.{term_kind}
-use Rattle.tables.specs.Regions.{Terms, field_words, field_of}
+use Rattle.tables.specs.Columns.{Terms, field_words, field_of}
 use Rattle.learning.specs.There.{kind_there, term_there, TermRecord, parts_there, learn_there}
 use Rattle.learning.specs.Noted.{parts_by, parts_noted, learn_noted, Ready, TermsNoted, Noted}
 use Rattle.learning.proofs.Opening.{opened_same}

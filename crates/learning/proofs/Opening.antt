@@ -14,7 +14,7 @@ use native.Mathlib.Nat.{le_refl}
 use lib.ListN.{length}
 use Rattle.rules.specs.Learning.{Knowledge, grant, each, opened}
 use Rattle.state.specs.View.{Columns, with_knows}
-use Rattle.tables.specs.Regions.{Terms}
+use Rattle.tables.specs.Columns.{Terms}
 use Rattle.learning.specs.Noted.{parts_noted, learn_noted, learn_parts_noted, Ready}
 
 -- the columns once party p knows t itself, and once it has learned t, or its parts

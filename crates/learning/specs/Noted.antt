@@ -4,7 +4,7 @@ use mathlib.Core.List.{List, [], ◌∷◌, Memᴰ}
 use Rattle.rules.specs.Limits.{row_width, party_limit, term_limit}
 use Rattle.rules.specs.Term.{signature_kind, attest_kind, idevid_request_kind, ldevid_request_kind, certificate_kind, pair_kind, quote_kind, hash_kind, fields_in}
 use Rattle.rules.specs.Learning.{Knowledge, opened, each}
-use Rattle.tables.specs.Regions.{Terms, field_words, field_of}
+use Rattle.tables.specs.Columns.{Terms, field_words, field_of}
 use Rattle.learning.specs.There.{kind_there, term_there}
 
 -- the kinds with one part, the first field; a 17, whose parts stand behind its Subject; those with two, the first

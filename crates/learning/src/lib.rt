@@ -6,12 +6,13 @@ ghost use Rattle.rules.specs.Limits.{term_limit};
 ghost use Rattle.rules.specs.Term.{attributes_of};
 ghost use Rattle.records.specs.Parts.{listed};
 ghost use Rattle.state.specs.View.{view, with_knows};
-ghost use Rattle.tables.specs.Regions.{field_words, field_of, tables_in};
+ghost use Rattle.tables.specs.Columns.{field_words, field_of, tables_in};
 ghost use Rattle.learning.specs.There.{term_there, TermRecord};
 ghost use Rattle.learning.specs.Noted.{parts_noted, learn_noted, learn_parts_noted, Ready};
 
 use records::Parts;
 use rules::Attributes;
+use tables::Tables;
 
 // The attributes of the key of the record at a place, read where they stand; none of another term.
 pub fn attributes_at(file: &[u8], at: usize) -> Attributes
@@ -26,29 +27,29 @@ pub fn attributes_at(file: &[u8], at: usize) -> Attributes
 }
 
 // One part: the first field.
-fn one(tables: &[u16; tables::WORDS], t: usize) -> Parts
+fn one(tables: &Tables, t: usize) -> Parts
     requires { t < term_limit }
     ensures { listed result ≡ field_of (tables_in tables.now).terms t 0 ∷ [] }
 {
-    Parts::One(tables::field_of(tables, t, 0))
+    Parts::One(tables.field_of(t, 0))
 }
 
 // Two parts: the fields with two numbers.
-fn two(tables: &[u16; tables::WORDS], t: usize, i: usize, j: usize) -> Parts
+fn two(tables: &Tables, t: usize, i: usize, j: usize) -> Parts
     requires { (t < term_limit) × (i < field_words) × (j < field_words) }
     ensures { listed result ≡ field_of (tables_in tables.now).terms t i ∷ field_of (tables_in tables.now).terms t j ∷ [] }
 {
-    let first = tables::field_of(tables, t, i);
-    let second = tables::field_of(tables, t, j);
+    let first = tables.field_of(t, i);
+    let second = tables.field_of(t, j);
     Parts::Two(first, second)
 }
 
 // The parts of a term, by its kind and its fields.
-fn parts_of(tables: &[u16; tables::WORDS], t: usize) -> Parts
+fn parts_of(tables: &Tables, t: usize) -> Parts
     requires { t < term_limit }
     ensures { listed result ≡ parts_noted (tables_in tables.now).terms t }
 {
-    match tables::kind_of(tables, t) {
+    match tables.kind_of(t) {
         0x13 => one(tables, t),
         0x14 => one(tables, t),
         0x17 => two(tables, t, 2, 3),
@@ -62,7 +63,7 @@ fn parts_of(tables: &[u16; tables::WORDS], t: usize) -> Parts
 
 // The party learns term t and everything in it. A term already known needs no second opening.
 #[cycle(learn_parts_learn_term)]
-pub fn learn_term(tables: &[u16; tables::WORDS], state: &mut [u8], party: usize, t: usize)
+pub fn learn_term(tables: &Tables, state: &mut [u8], party: usize, t: usize)
     requires { Ready (tables_in tables.now).terms state.old party t }
     ensures { view state.new ≡ with_knows (view state.old) (learn_noted (tables_in tables.now).terms party t (view state.old).knows) }
 {
@@ -75,7 +76,7 @@ pub fn learn_term(tables: &[u16; tables::WORDS], state: &mut [u8], party: usize,
 
 // The party learns each part of term t that it does not know.
 #[cycle(learn_parts_learn_term)]
-pub fn learn_parts(tables: &[u16; tables::WORDS], state: &mut [u8], party: usize, t: usize)
+pub fn learn_parts(tables: &Tables, state: &mut [u8], party: usize, t: usize)
     requires { Ready (tables_in tables.now).terms state.old party t }
     ensures { view state.new ≡ with_knows (view state.old) (learn_parts_noted (tables_in tables.now).terms party t (view state.old).knows) }
 {

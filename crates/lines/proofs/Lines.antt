@@ -3,6 +3,7 @@
 --     head_ready, last_ready     what a run leaves can be listed
 --     listed_whole     what a run of all commands leaves is listed as the rules say
 -- Assumes nothing.
+use Rattle.tables.specs.declared.columns.Tables.{Tables}
 use mathlib.Core.Path.{◌≡◌, refl, sym, ap, subst, ◌∙◌}
 use mathlib.Core.Bool.{Bool, true, false, cond}
 use mathlib.Core.List.{List, [], ◌∷◌, ◌++◌, append-nil}
@@ -98,7 +99,7 @@ entries_front : (es old : List Entry) {l : List Entry} → l ≡ first_part term
 unfolding first_part
 entries_front es old e {k} h = ap (take k) e ∙ take_at es _ k h
 
-module _ (bs : List ℕ) (s : List ℕ) (l : List Entry) (out g : List ℕ) (text s' : List ℕ) {l' : List Entry} {out' g' before tables : List ℕ} {r : Finished} (el : length l ≡ term_limit) (ready : ListReady s out g before text) (w : Runs bs (length bs) term_limit s l out g s' l' out' g' tables r) (ls : length s' ≡ length s) where
+module _ (bs : List ℕ) (s : List ℕ) (l : List Entry) (out g : List ℕ) (text s' : List ℕ) {l' : List Entry} {out' g' before : List ℕ} {tables : Tables} {r : Finished} (el : length l ≡ term_limit) (ready : ListReady s out g before text) (w : Runs bs (length bs) term_limit s l out g s' l' out' g' tables r) (ls : length s' ≡ length s) where
   abbrev lent : Lent
   lent = lent_with s l out g
 

@@ -1,8 +1,9 @@
 -- What listing a run needs and writes: the lines of a run where there is one, else the line of its refusal.
+use Rattle.tables.specs.declared.columns.Tables.{Tables}
 use Rattle.std.specs.Prelude.{◌≡◌, cond, List, [], ◌∷◌, ℕ, ◌+◌, ◌*◌, ◌^◌, ◌<◌, ◌≤◌, eqb, length, take}
 use Rattle.rules.specs.Limits.{term_limit, command_limit, state_bytes, register_bytes}
 use Rattle.rules.specs.Listing.{line, refusal_lines}
-use Rattle.tables.specs.Regions.{EmptyTables}
+use Rattle.tables.specs.Columns.{EmptyTables}
 use Rattle.decimal.specs.Text.{Written}
 use Rattle.lister.specs.Text.{refusal_bytes, total_bytes, listing_bytes}
 use Rattle.engine.specs.declared.Finished.{Finished}
@@ -33,7 +34,7 @@ pub record LastReady (r : Finished) (out : List ℕ) (at : ℕ) : Type 0 where
 abbrev pub Ended : Finished → List ℕ → ℕ → List ℕ → ℕ → Type 0
 Ended r out at out' n = Written out at (last_line r) out' n × (n ≤ at + total_bytes)
 
-pub record ListReady (s os g tables out : List ℕ) : Type 0 where
+pub record ListReady (s os g : List ℕ) (tables : Tables) (out : List ℕ) : Type 0 where
   pub state : state_bytes ≤ length s
   pub outcomes : command_limit ≤ length os
   pub registers : register_bytes ≤ length g

@@ -12,6 +12,7 @@ use engine::Finished;
 use rules::Entry;
 use std::io;
 use std::io::{Read, Write};
+use tables::Tables;
 
 // The lines before the entries: those of the refused commands, or that of the file's refusal.
 fn head(done: Finished, outcomes: &[u8], out: &mut [u8]) -> usize
@@ -68,7 +69,7 @@ fn list_with(
     state: &mut [u8],
     outcomes: &mut [u8],
     registers: &mut [u8],
-    tables: &mut [u16; tables::WORDS],
+    tables: &mut Tables,
     out: &mut [u8],
 ) -> usize
     requires { ListReady state.old outcomes.old registers.old tables.old out.old }
@@ -101,7 +102,7 @@ pub fn list_into(file: &[u8], out: &mut [u8]) -> usize
     let mut state = [0u8; rules::STATE_BYTES];
     let mut outcomes = [0u8; rules::COMMAND_LIMIT];
     let mut registers = [0u8; rules::REGISTER_BYTES];
-    let mut tables = [0u16; tables::WORDS];
+    let mut tables = Tables::new();
     list_with(
         file,
         &mut state,

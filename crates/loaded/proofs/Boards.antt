@@ -6,6 +6,7 @@
 --     boarded-known                one whose Subject finds an entry already
 --     boarded-below                one below another
 -- Assumes nothing.
+use Rattle.tables.specs.declared.columns.Tables.{Tables}
 use mathlib.Core.Path.{◌≡◌, refl, sym, ap, subst, subst⁻¹, ◌∙◌}
 use mathlib.Core.Logic.{⊎_elim}
 use mathlib.Core.Bool.{Bool, true, false, false≢true, cond}
@@ -28,7 +29,7 @@ use Rattle.theorems.proofs.Terms.{subject_same}
 use Rattle.theorems.proofs.Ledgers.{at_kept, at_appended, at_below, at_last}
 use Rattle.theorems.proofs.Ends.{Descends, OneEk, Once, end_kept, new_one, new_below, by_entry, by_none}
 use Rattle.theorems.proofs.DeskSteps.{put_same, put_other}
-use Rattle.tables.specs.Regions.{Boards, Unlinked, tables_in, with_ek, linked}
+use Rattle.tables.specs.Columns.{Boards, Unlinked, tables_in, with_ek, linked}
 use Rattle.boards.specs.Linked.{Falls, entry_of}
 use Rattle.boards.proofs.Walk.{found_linked, found_none}
 use Rattle.loaded.specs.Entries.{Entered, Boarded}
@@ -76,7 +77,7 @@ module _ (f : File) (l : List Entry) (b : Boards) (w : Boarded f b l) (ek : ℕ)
       ∙ allowed_one one m (omega arith)
       ∙ ap (λ (t : ℕ). eqb t ek) (ap (λ (t : ℕ). b.ek (t - 1)) (sym k) ∙ sym h))
 
-pub entered_falls : {tables : List ℕ} → Entered tables → Falls (tables_in tables).boards term_limit
+pub entered_falls : {tables : Tables} → Entered tables → Falls (tables_in tables).boards term_limit
 entered_falls (n, l, e) = record { newest = λ i. omega (arith, e.falls.newest i, e.few); earlier = e.falls.earlier }
 
 pub boarded_none : (f : File) (b : Boards) → Unlinked b → Boarded f b []

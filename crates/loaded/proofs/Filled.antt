@@ -1,5 +1,6 @@
 -- What filling leaves of a file that loads is what commands start from.
 -- Assumes nothing.
+use Rattle.tables.specs.declared.columns.Tables.{Tables}
 use mathlib.Core.Path.{◌≡◌, refl, sym, ap, subst⁻¹, ◌∙◌}
 use mathlib.Core.Bool.{Bool}
 use mathlib.Core.List.{List}
@@ -11,7 +12,7 @@ use Rattle.rules.specs.Limits.{party_limit, term_limit, state_bytes}
 use Rattle.rules.specs.File.{File, term, kind, field, role_of, half_in, signs_for}
 use Rattle.rules.specs.Load.{loaded}
 use Rattle.state.specs.View.{view}
-use Rattle.tables.specs.Regions.{field_words, tables_in, field_of}
+use Rattle.tables.specs.Columns.{field_words, tables_in, field_of}
 use Rattle.learning.specs.There.{term_there}
 use Rattle.checks.specs.There.{role_there, TermsThere}
 use Rattle.setup.specs.Allowed.{no_key}
@@ -21,7 +22,7 @@ use Rattle.loader.specs.Tabled.{Filled}
 use Rattle.loader.proofs.Signing.{signs_for_table}
 use Rattle.loaded.specs.Loaded.{file_of, file_in, Holds, Finds}
 
-module _ {bs s tables : List ℕ} {r : Scanned} (w : Filled bs s tables r) where
+module _ {bs s : List ℕ} {tables : Tables} {r : Scanned} (w : Filled bs s tables r) where
   -- the file is the one that the bytes declare
   pub file_is : file_in bs ≡ w.file
   unfolding file_in file_of

@@ -1,5 +1,6 @@
 -- Private halves by the table: what a look-up asks, and what it answers of the rules' search.
 -- Assumes nothing.
+use Rattle.tables.specs.declared.columns.Tables.{Tables}
 use mathlib.Core.Path.{◌≡◌, refl, sym, ap, subst, ◌∙◌}
 use mathlib.Core.Bool.{Bool, true, false, false≢true}
 use mathlib.Core.List.{List}
@@ -11,13 +12,13 @@ use borrow.Author.Tests.{eqb-true, eqb-false, eq-eqb, ne_eqb}
 use Rattle.rules.specs.Limits.{party_limit, term_limit, state_bytes}
 use Rattle.rules.specs.File.{File, paired, half_in}
 use Rattle.theorems.proofs.Terms.{half_found}
-use Rattle.tables.specs.Regions.{tables_in}
+use Rattle.tables.specs.Columns.{tables_in}
 use Rattle.index.specs.Indexed.{passes}
 use Rattle.index.proofs.Halves.{half_finds}
 use Rattle.loaded.specs.Loaded.{file_in, Holds, Finds}
 use Rattle.loaded.proofs.Standing.{checked_here}
 
-module _ {bs s tables : List ℕ} {k : ℕ} (h : Holds bs s) (d : Finds bs tables) (l : k < length (file_in bs).terms) where
+module _ {bs s : List ℕ} {tables : Tables} {k : ℕ} (h : Holds bs s) (d : Finds bs tables) (l : k < length (file_in bs).terms) where
   pub half_asked : {p : ℕ} → p < length (file_in bs).roles → (state_bytes ≤ length s) × (p < party_limit) × (k < term_limit) × ((tables_in tables).half k ≤ term_limit)
   half_asked {p} m =
       let few = (checked_here h).few_terms in
@@ -50,11 +51,11 @@ number_passes (suc t) j = go (eqb t j) refl
     go false e = let n = eqb-false t j e in sym (ne_eqb (suc t) (j + 1) (λ q. n (omega arith)))
 
 -- a pair, by the table
-pub paired_half : {bs tables : List ℕ} {k j : ℕ} → Finds bs tables → k < length (file_in bs).terms → j < length (file_in bs).terms → paired (file_in bs) k j ≡ eqb ((tables_in tables).half k) (j + 1)
+pub paired_half : {bs : List ℕ} {tables : Tables} {k j : ℕ} → Finds bs tables → k < length (file_in bs).terms → j < length (file_in bs).terms → paired (file_in bs) k j ≡ eqb ((tables_in tables).half k) (j + 1)
 paired_half {bs} {tables} {k} {j} d l m = pair_found (file_in bs) k j m ∙ d.half (λ (i : ℕ). eqb i j) k l ∙ number_passes ((tables_in tables).half k) j
 
 -- of a private key whose number was read
 pub pair_read :
-    {bs tables : List ℕ} {k j i : ℕ} {x b : Bool} → Finds bs tables → k < length (file_in bs).terms → j < length (file_in bs).terms → i ≡ j → x ≡ eqb ((tables_in tables).half k) (i + 1) → x ≡ b
+    {bs : List ℕ} {tables : Tables} {k j i : ℕ} {x b : Bool} → Finds bs tables → k < length (file_in bs).terms → j < length (file_in bs).terms → i ≡ j → x ≡ eqb ((tables_in tables).half k) (i + 1) → x ≡ b
     → paired (file_in bs) k j ≡ b
 pair_read {bs} {tables} {k} d l m e q w = paired_half d l m ∙ ap (λ (n : ℕ). eqb ((tables_in tables).half k) (n + 1)) (sym e) ∙ sym q ∙ w

@@ -1,5 +1,6 @@
 -- Learning by the tables is learning by the rules.
 -- Assumes nothing.
+use Rattle.tables.specs.declared.columns.Tables.{Tables}
 use mathlib.Core.Path.{◌≡◌, refl, ap, sym, subst, ◌∙◌}
 use mathlib.Core.Bool.{true}
 use mathlib.Core.List.{List, Memᴰ}
@@ -12,14 +13,14 @@ use Rattle.rules.specs.Learning.{Knowledge, opened, learn}
 use Rattle.rules.specs.State.{learnt}
 use Rattle.state.specs.View.{Columns, view, with_knows}
 use Rattle.state.proofs.Exact.{state_of}
-use Rattle.tables.specs.Regions.{tables_in, field_of}
+use Rattle.tables.specs.Columns.{tables_in, field_of}
 use Rattle.learning.specs.There.{parts_there}
 use Rattle.learning.specs.Noted.{parts_noted, learn_noted, Ready}
 use Rattle.learning.proofs.Opening.{learned, opened_same}
 use Rattle.learning.proofs.Noted.{parts_by_lem}
 use Rattle.loaded.specs.Loaded.{file_in, Holds, Finds, Learns}
 
-module _ {bs s tables : List ℕ} (h : Holds bs s) (finds : Finds bs tables) where
+module _ {bs s : List ℕ} {tables : Tables} (h : Holds bs s) (finds : Finds bs tables) where
   parts_same : (u : ℕ) → u < length (file_in bs).terms → parts_noted (tables_in tables).terms u ≡ parts (file_in bs) u
   unfolding parts_noted parts kind field
   parts_same u m = parts_by_lem ((tables_in tables).terms.kind u) (field_of (tables_in tables).terms u) (term (file_in bs) u) (finds.kind_is u m) (λ i. finds.field_is u i m)

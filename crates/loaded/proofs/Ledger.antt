@@ -5,6 +5,7 @@
 --     entry_listed                     its entry
 --     parent-read, parent-none         its parent
 -- Assumes nothing.
+use Rattle.tables.specs.declared.columns.Tables.{Tables}
 use mathlib.Core.Path.{◌≡◌, refl, sym, ap, ◌∙◌}
 use mathlib.Core.Bool.{Bool, true, false, cond, not, ◌||◌}
 use mathlib.Core.Logic.{◌⊎◌, inl, inr, ⊎_elim}
@@ -19,7 +20,7 @@ use Rattle.rules.specs.declared.Entry.{Entry}
 use Rattle.rules.specs.Limits.{term_limit}
 use Rattle.rules.specs.State.{listed, depth_of, parent_of}
 use Rattle.rules.specs.Lent.{no_entry}
-use Rattle.tables.specs.Regions.{tables_in}
+use Rattle.tables.specs.Columns.{tables_in}
 use Rattle.loaded.specs.Entries.{entry_from, Enters}
 
 -- the first entry of a certificate; zeros where there is none
@@ -88,7 +89,7 @@ entry_there (y ∷ es) i c x e l = go (eqb y.certificate c) refl e (λ q. entry_
         (omega arith, w.1, ap (get_elem? (y ∷ es)) (let z : x - suc i ≡ suc (x - suc (suc i)) = omega arith in z) ∙ w.2, w.3, w.4)
 
 -- by the tables' column
-module _ {tables : List ℕ} {n : ℕ} {ledger : List Entry} (t : ℕ) (e : Enters tables n ledger) where
+module _ {tables : Tables} {n : ℕ} {ledger : List Entry} (t : ℕ) (e : Enters tables n ledger) where
   pub ledger_length : length ledger ≡ n
   ledger_length = e.count
 

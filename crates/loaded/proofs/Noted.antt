@@ -4,6 +4,7 @@
 --     key-attributes, no-attributes    the attributes of a key are its second field; another term has none
 --     request-term, certificate-term   an IDevID request and a certificate, by their four fields
 -- Assumes nothing.
+use Rattle.tables.specs.declared.columns.Tables.{Tables}
 use mathlib.Core.Path.{◌≡◌, refl, sym, ap, subst⁻¹, ◌∙◌}
 use mathlib.Core.List.{List}
 use Prim.Native.Nat.{ℕ, ◌<◌, ◌≤◌}
@@ -16,16 +17,16 @@ use Rattle.rules.specs.declared.Term.{Term}
 use Rattle.rules.specs.declared.Term.TheVariants.{PublicKey, PrivateKey, Hash, Signature, Attest, Credential, Number, IdevidRequest, LdevidRequest, Certificate, Pair, Register, Quote}
 use Rattle.rules.specs.Term.{idevid_request_kind, certificate_kind, kind_of, fields_in, subject_fields, attributes_of}
 use Rattle.rules.specs.File.{File, term, kind, field, attributes}
-use Rattle.tables.specs.Regions.{Terms, tables_in, field_of}
+use Rattle.tables.specs.Columns.{Terms, tables_in, field_of}
 use Rattle.records.specs.declared.Words.{Words}
 use Rattle.index.specs.Indexed.{passes, words_noted}
 use Rattle.loaded.specs.Loaded.{file_in, Finds, TermNoted, subject_by}
 use Rattle.loaded.specs.Entries.{SameKeys}
 
-pub term_noted_lem : {bs tables : List ℕ} {t : ℕ} → Finds bs tables → t < length (file_in bs).terms → TermNoted bs tables t
+pub term_noted_lem : {bs : List ℕ} {tables : Tables} {t : ℕ} → Finds bs tables → t < length (file_in bs).terms → TermNoted bs tables t
 term_noted_lem {t = t} d l = record { few = omega (arith, d.few); kind_is = d.kind_is t l; field_is = λ i m. d.field_is t i l m }
 
-pub finds_kept : {bs tables tables' : List ℕ} → Finds bs tables → SameKeys (tables_in tables) (tables_in tables') → Finds bs tables'
+pub finds_kept : {bs : List ℕ} {tables tables' : Tables} → Finds bs tables → SameKeys (tables_in tables) (tables_in tables') → Finds bs tables'
 finds_kept {bs} d k = record {
   signer = λ p j l m. d.signer p j l m ∙ ap (λ (c : ℕ → ℕ). eqb (c p) j) (sym k.signer);
   half = λ test j l. d.half test j l ∙ ap (λ (c : ℕ → ℕ). passes test (c j)) (sym k.half);
@@ -115,7 +116,7 @@ certificate_fields (Register i) e = absurd (omega arith)
 certificate_fields (Quote i t n) e = absurd (omega arith)
 
 -- what was read of its words, for both
-module _ {bs tables : List ℕ} {t : ℕ} (noted : TermNoted bs tables t) {s : Subject} {w : Words} (read : w ≡ words_noted (tables_in tables).terms t) where
+module _ {bs : List ℕ} {tables : Tables} {t : ℕ} (noted : TermNoted bs tables t) {s : Subject} {w : Words} (read : w ≡ words_noted (tables_in tables).terms t) where
   pub request_term : kind (file_in bs) t ≡ idevid_request_kind → s ≡ subject_by w.first w.second → IdevidRequest s w.third w.fourth ≡ term (file_in bs) t
   unfolding kind field
   request_term k e = rw (e, read, noted.field_is 0 (omega arith), noted.field_is 1 (omega arith), noted.field_is 2 (omega arith), noted.field_is 3 (omega arith)) (request_fields (term (file_in bs) t) k)

@@ -1,5 +1,6 @@
 -- What the scan found, with the signing keys in the tables or the state cleared, is what filling leaves.
 -- Assumes nothing.
+use Rattle.tables.specs.declared.columns.Tables.{Tables}
 use mathlib.Core.Path.{◌≡◌, refl, ap, sym, subst⁻¹, ◌∙◌}
 use mathlib.Core.Logic.{inl, inr}
 use mathlib.Core.Bool.{Bool, true, false}
@@ -13,7 +14,7 @@ use Rattle.rules.specs.Limits.{party_limit, state_bytes}
 use Rattle.rules.specs.File.{File}
 use Rattle.setup.specs.Allowed.{no_key}
 use Rattle.state.specs.View.{view}
-use Rattle.tables.specs.Regions.{Unlinked, Terms, field_of, tables_in}
+use Rattle.tables.specs.Columns.{Unlinked, Terms, field_of, tables_in}
 use Rattle.index.specs.Indexed.{Indexed, passes}
 use Rattle.index.proofs.Fields.{kind_follows, field_follows}
 use Rattle.index.proofs.Halves.{half_follows}
@@ -23,7 +24,7 @@ use Rattle.scan.specs.Describes.{Describes, ScanReady, ScanResult}
 use Rattle.loader.specs.Tabled.{Tabled, FillReady, FillResult, Signed}
 
 -- what the scan starts from
-pub scan_ready : {bytes old x tables : List ℕ} → FillReady bytes old tables → x ≡ replicate (length old) 0 → length x ≡ length old → ScanReady bytes x (replicate party_limit no_key)
+pub scan_ready : {bytes old x : List ℕ} {tables : Tables} → FillReady bytes old tables → x ≡ replicate (length old) 0 → length x ≡ length old → ScanReady bytes x (replicate party_limit no_key)
 scan_ready r e l = record {
   short = r.short;
   room = l ∙ r.room;
@@ -33,14 +34,14 @@ scan_ready r e l = record {
 }
 
 module _ (bytes s signers : List ℕ) (r : Scanned) (found : ScanResult bytes s signers r) where
-  pub fill_refused : (old x tables : List ℕ) → (r.number ≡ 0 → ⊥) → x ≡ replicate (length s) 0 → length s ≡ length old → length old ≡ state_bytes → FillResult bytes x tables r
+  pub fill_refused : (old x : List ℕ) (tables : Tables) → (r.number ≡ 0 → ⊥) → x ≡ replicate (length s) 0 → length s ≡ length old → length old ≡ state_bytes → FillResult bytes x tables r
   fill_refused old x tables h e l room = go found
     where
       go : ScanResult bytes s signers r → FillResult bytes x tables r
       go (inl (z, w)) = absurd (h z)
       go (inr (m, z, q)) = inr (m, z, q, e ∙ ap (λ (n : ℕ). replicate n 0) (l ∙ room))
 
-  module _ (links before tables : List ℕ) (indexed : Indexed bytes (view s).place links before r.tally.terms) (signed : Signed signers (tables_in before) (tables_in tables) party_limit) where
+  module _ (links before : List ℕ) (tables : Tables) (indexed : Indexed bytes (view s).place links before r.tally.terms) (signed : Signed signers (tables_in before) (tables_in tables) party_limit) where
     -- a half is a declared term
     half_most : (k : ℕ) → (tables_in before).half k ≤ r.tally.terms
     half_most k = go (ltb k r.tally.terms) refl

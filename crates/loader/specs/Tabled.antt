@@ -1,9 +1,10 @@
 -- What loading leaves beside the state: the tables by which a file's commands look things up.
+use Rattle.tables.specs.declared.columns.Tables.{Tables}
 use Rattle.std.specs.Prelude.{◌≡◌, ◌⊎◌, Bool, List, ℕ, suc, ◌<◌, ◌≤◌, length, get_or, replicate}
 use Rattle.rules.specs.Limits.{file_limit, party_limit, term_limit, state_bytes}
 use Rattle.rules.specs.File.{File, kind, field, half_in}
 use Rattle.rules.specs.Load.{load, loaded, refused}
-use Rattle.tables.specs.Regions.{field_words, table_words, EmptyTables, Unlinked, field_of, Tables, tables_in}
+use Rattle.tables.specs.Columns.{field_words, table_words, EmptyTables, Unlinked, field_of, TableColumns, tables_in}
 use Rattle.index.specs.Indexed.{passes}
 use Rattle.lookup.specs.Commands.{commands_from}
 use Rattle.scan.specs.declared.Scanned.{Scanned}
@@ -11,7 +12,7 @@ use Rattle.scan.specs.Describes.{signer_of, Describes}
 
 -- the tables of a file: the parties' signing keys, the private half of each public key, the kind and the fields of each
 -- term, and no certificate in the ledger or linked
-pub record Tabled (f : File) (v : Tables) : Type 0 where
+pub record Tabled (f : File) (v : TableColumns) : Type 0 where
   pub signer : (p : ℕ) → p < party_limit → v.signer p ≡ signer_of f.setup p
   pub half : (test : ℕ → Bool) (k : ℕ) → k < length f.terms → half_in f test k ≡ passes test (v.half k)
   pub declared : (k : ℕ) → v.half k ≤ length f.terms
@@ -24,13 +25,13 @@ pub record Tabled (f : File) (v : Tables) : Type 0 where
   pub words : v.words ≡ table_words
 
 -- what filling needs: a file that is not too long, room for the state, and tables with nothing in them
-pub record FillReady (bs s tables : List ℕ) : Type 0 where
+pub record FillReady (bs s : List ℕ) (tables : Tables) : Type 0 where
   pub short : length bs ≤ file_limit
   pub room : length s ≡ state_bytes
   pub empty : EmptyTables tables
 
 -- a file that loads: the state and the tables describe it, and the first command's place is known
-pub record Filled (bs s tables : List ℕ) (r : Scanned) : Type 0 where
+pub record Filled (bs s : List ℕ) (tables : Tables) (r : Scanned) : Type 0 where
   pub file : File
   pub loads : load bs ≡ loaded file
   pub signers : List ℕ
@@ -45,7 +46,7 @@ FillResult bs s tables r =
     ⊎ ((m : ℕ) × (r.number ≡ suc m) × (load bs ≡ refused (suc m) r.place) × (s ≡ replicate state_bytes 0))
 
 -- the first n signing keys are written into the tables
-pub record Signed (signers : List ℕ) (v w : Tables) (n : ℕ) : Type 0 where
+pub record Signed (signers : List ℕ) (v w : TableColumns) (n : ℕ) : Type 0 where
   pub signer : (p : ℕ) → p < n → w.signer p ≡ get_or signers p 0
   pub half : w.half ≡ v.half
   pub entry : w.entry ≡ v.entry

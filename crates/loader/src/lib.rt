@@ -4,26 +4,27 @@
 ghost use Rattle.std.specs.Prelude.{◌≡◌, length};
 ghost use Rattle.rules.specs.Limits.{party_limit};
 ghost use Rattle.rules.specs.Lent.{load_in_numbers, load_answer, load_leaves};
-ghost use Rattle.tables.specs.Regions.{table_words, tables_in};
+ghost use Rattle.tables.specs.Columns.{table_words, tables_in};
 ghost use Rattle.loader.specs.Tabled.{FillReady, FillResult, Signed};
 
 use rules::LoadAnswer;
 use scan::Scanned;
+use tables::Tables;
 
 // The signing keys go into the tables.
-fn note_signers(tables: &mut [u16; tables::WORDS], signers: &[u16; 8])
+fn note_signers(tables: &mut Tables, signers: &[u16; 8])
     requires { length tables.old ≡ table_words }
     ensures { Signed signers.now (tables_in tables.old) (tables_in tables.new) party_limit }
 {
     let mut p = 0;
     while p < rules::PARTY_LIMIT {
-        tables::note_signer(tables, p, signers[p]);
+        tables.note_signer(p, signers[p]);
         p += 1;
     }
 }
 
 // Fills the state and the empty tables of a file; where it is refused the state is cleared.
-pub fn fill(file: &[u8], state: &mut [u8], tables: &mut [u16; tables::WORDS]) -> Scanned
+pub fn fill(file: &[u8], state: &mut [u8], tables: &mut Tables) -> Scanned
     requires { FillReady file.now state.old tables.old }
     ensures { FillResult file.now state.new tables.new result }
 {
@@ -51,7 +52,7 @@ pub fn load(file: &[u8], state: &mut [u8]) -> LoadAnswer
     if rules::FILE_LIMIT < file.len() {
         return LoadAnswer::Refused(2, 0);
     }
-    let mut tables = [0u16; tables::WORDS];
+    let mut tables = Tables::new();
     let found = fill(file, &mut state[..rules::STATE_BYTES], &mut tables);
     let number = found.number;
     let place = found.place;

@@ -2,6 +2,7 @@
 --     room_fits, first-ready, climb-ready, answer-ready     what a run leaves is what Path needs
 --     path-ran       what a run and the path by its ledger leave is what the rules say
 -- Assumes nothing.
+use Rattle.tables.specs.declared.columns.Tables.{Tables}
 use mathlib.Core.Path.{◌≡◌, refl, sym, ap, subst, ◌∙◌}
 use mathlib.Core.Bool.{Bool, true, false, cond, ◌&&◌, ◌||◌}
 use mathlib.Core.List.{List, [], ◌∷◌, ◌++◌}
@@ -20,7 +21,7 @@ use Rattle.rules.specs.State.{listed, depth_of, parent_of}
 use Rattle.rules.specs.Run.{reached}
 use Rattle.rules.specs.Lent.{Answer, success, refusal, path_in_numbers, Lent, Called, long_enough, answered, run_answer, run_leaves, asked, steps, steps_from, path_answer, path_buffers, path_written, path_listed, path_leaves}
 use Rattle.theorems.proofs.Ledgers.{listed_found}
-use Rattle.tables.specs.Regions.{tables_in}
+use Rattle.tables.specs.Columns.{tables_in}
 use Rattle.loaded.specs.Loaded.{file_in}
 use Rattle.loaded.proofs.Ledger.{column_none, column_listed}
 use Rattle.turns.specs.declared.Begun.{Begun}
@@ -132,7 +133,7 @@ module _ (bs : List ℕ) (n : ℕ) (lent : Lent) (t : ℕ) (list : List ℕ) whe
     ran_path e l = (answer_by true e ∙ ap (asked (steps_from t) n) l, list_by true e ∙ ap (path_listed n t list) l)
 
 -- what the rules say of a run that stood
-module _ {bs : List ℕ} {n : ℕ} {lent after : Lent} {tables : List ℕ} {r : Finished} (w : Stood bs n lent after tables r) (t : ℕ) where
+module _ {bs : List ℕ} {n : ℕ} {lent after : Lent} {tables : Tables} {r : Finished} (w : Stood bs n lent after tables r) (t : ℕ) where
   abbrev ledger : List Entry
   ledger = (reached (file_in bs) n).ledger
 
@@ -158,7 +159,7 @@ module _ {bs : List ℕ} {n : ℕ} {lent after : Lent} {tables : List ℕ} {r : 
       go true q = omega (arith, deep, shallow q)
       go false q = omega (arith, deep, none_deep ledger q)
 
-module _ (bs : List ℕ) (n room : ℕ) (s : List ℕ) (l : List Entry) (out g s' : List ℕ) {l' : List Entry} {out' g' tables : List ℕ} {r : Finished} (list : List ℕ) (t : ℕ) (asked-for : room ≡ cond (leb path_places (length list)) (length l) 0)
+module _ (bs : List ℕ) (n room : ℕ) (s : List ℕ) (l : List Entry) (out g s' : List ℕ) {l' : List Entry} {out' g' : List ℕ} {tables : Tables} {r : Finished} (list : List ℕ) (t : ℕ) (asked-for : room ≡ cond (leb path_places (length list)) (length l) 0)
     (w : Runs bs n room s l out g s' l' out' g' tables r) (ls : length s' ≡ length s) where
   abbrev lent : Lent
   lent = lent_with s l out g

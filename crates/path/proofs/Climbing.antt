@@ -3,6 +3,7 @@
 --     Left, left-starts, left-next, left-ends, some_left, none_left     what is left to write is what was to write
 --     climbed-steps     what is written is the rules' path
 -- Assumes nothing.
+use Rattle.tables.specs.declared.columns.Tables.{Tables}
 use mathlib.Core.Path.{◌≡◌, refl, sym, ◌∙◌, ap, subst}
 use mathlib.Core.List.{List, ◌∷◌}
 use mathlib.Core.Bool.{Bool, true, false, not, cond}
@@ -17,7 +18,7 @@ use Rattle.rules.specs.declared.Entry.{Entry}
 use Rattle.rules.specs.Limits.{term_limit}
 use Rattle.rules.specs.State.{parent_of}
 use Rattle.rules.specs.Lent.{no_entry, first_part, steps, path_in_numbers}
-use Rattle.tables.specs.Regions.{region, tables_in}
+use Rattle.tables.specs.Columns.{region, tables_in}
 use Rattle.loaded.specs.Entries.{Enters}
 use Rattle.loaded.proofs.Ledger.{entry_inside, parent_read, parent_none}
 use Rattle.path.specs.declared.Stage.{Stage}
@@ -26,22 +27,22 @@ use Rattle.engine.specs.declared.Finished.{Finished}
 use Rattle.path.specs.Climbing.{place_at, parent_in, climbed, first_length, first_stage, parent_by, next_stage, ClimbReady, Answers}
 
 -- terms beyond the limit have no entry
-pub column_beyond : (tables : List ℕ) (t : ℕ) → term_limit ≤ t → (tables_in tables).entry t ≡ 0
+pub column_beyond : (tables : Tables) (t : ℕ) → term_limit ≤ t → (tables_in tables).entry t ≡ 0
 unfolding region
 column_beyond tables t l = rw (le-ltb t term_limit l) refl
 
 -- what is left to write is what was to write
-pub record Left (tables : List ℕ) (l : List Entry) (list₀ : List ℕ) (s₀ : Stage) (list : List ℕ) (s : Stage) : Type 0 where
+pub record Left (tables : Tables) (l : List Entry) (list₀ : List ℕ) (s₀ : Stage) (list : List ℕ) (s : Stage) : Type 0 where
   pub ready : ClimbReady tables l list s
   pub same : sets list s.at (climbed tables l s.left s.certificate) ≡ sets list₀ s₀.at (climbed tables l s₀.left s₀.certificate)
 
-pub left_starts : {tables : List ℕ} {l : List Entry} {list : List ℕ} {s : Stage} → ClimbReady tables l list s → Left tables l list s list s
+pub left_starts : {tables : Tables} {l : List Entry} {list : List ℕ} {s : Stage} → ClimbReady tables l list s → Left tables l list s list s
 left_starts w = record { ready = w; same = refl }
 
 one_on : (i : ℕ) → suc i ≡ i + 1
 one_on i = omega arith
 
-module _ {tables : List ℕ} {l : List Entry} {list₀ : List ℕ} {s₀ : Stage} {list : List ℕ} {s : Stage} (w : Left tables l list₀ s₀ list s) where
+module _ {tables : Tables} {l : List Entry} {list₀ : List ℕ} {s₀ : Stage} {list : List ℕ} {s : Stage} (w : Left tables l list₀ s₀ list s) where
   pub left_ends : s.left ≡ 0 → list ≡ sets list₀ s₀.at (climbed tables l s₀.left s₀.certificate)
   unfolding climbed
   left_ends e = subst (λ (k : ℕ). sets list s.at (climbed tables l k s.certificate) ≡ sets list₀ s₀.at (climbed tables l s₀.left s₀.certificate)) e w.same
@@ -83,12 +84,12 @@ some_left (suc n) h = omega arith
 pub none_left : (n : ℕ) → T (not (not (eqb n 0))) → n ≡ 0
 none_left n h = eqb→eq n 0 (not_not (eqb n 0) h)
 
-pub climbed_none : (tables : List ℕ) (l : List Entry) (list : List ℕ) (c : ℕ) → sets list 0 (climbed tables l 0 c) ≡ list
+pub climbed_none : (tables : Tables) (l : List Entry) (list : List ℕ) (c : ℕ) → sets list 0 (climbed tables l 0 c) ≡ list
 unfolding climbed
 climbed_none tables l list c = refl
 
 -- by a ledger that the tables hold, whose entries stand in front
-module _ {tables : List ℕ} {n : ℕ} {ledger l : List Entry} (old : List Entry) (e : Enters tables n ledger) (front : l ≡ first_part term_limit no_entry ledger old) where
+module _ {tables : Tables} {n : ℕ} {ledger l : List Entry} (old : List Entry) (e : Enters tables n ledger) (front : l ≡ first_part term_limit no_entry ledger old) where
   front_read : (i : ℕ) → i < length ledger → get_or l i no_entry ≡ get_or ledger i no_entry
   unfolding first_part
   front_read i h = ap (λ (k : List Entry). get_or k i no_entry) front ∙ get_or-append ledger _ no_entry i h
@@ -110,7 +111,7 @@ module _ {tables : List ℕ} {n : ℕ} {ledger l : List Entry} (old : List Entry
   climbed_steps (suc d) c = ap (λ (xs : List ℕ). c ∷ xs) (climbed_steps d (parent_in tables l c) ∙ ap (steps ledger d) (parent_is c))
 
 -- the parts of a path's code
-module _ (number : ℕ) (tables : List ℕ) (t : ℕ) where
+module _ (number : ℕ) (tables : Tables) (t : ℕ) where
   pub first_refused_lem : (number ≡ 0 → ⊥) → 0 ≡ first_length number tables t
   first_refused_lem z = rw (ne_eqb number 0 z) refl
 
@@ -123,7 +124,7 @@ module _ (number : ℕ) (tables : List ℕ) (t : ℕ) where
   pub first_is_lem : {entry left place : ℕ} → entry ≡ (tables_in tables).entry t → left ≡ first_length number tables t → place ≡ place_at entry → ◌≡◌ {A = Stage} (record { left = left; at = 0; certificate = t; place = place }) (first_stage number tables t)
   first_is_lem e q p = let p' = p ∙ ap place_at e in λ i. record { left = q i; at = 0; certificate = t; place = p' i }
 
-module _ (tables : List ℕ) (s : Stage) (e : Entry) where
+module _ (tables : Tables) (s : Stage) (e : Entry) where
   pub next_is : {entry parent entry' place : ℕ} → entry ≡ (tables_in tables).entry s.certificate → parent ≡ cond (eqb entry 0) 0 e.parent → entry' ≡ (tables_in tables).entry parent → place ≡ place_at entry'
       → ◌≡◌ {A = Stage} (record { left = s.left - 1; at = s.at + 1; certificate = parent; place = place }) (next_stage tables s e)
   next_is x p y q =

@@ -1,10 +1,11 @@
 -- A path by the tables' column of places and the entries of a lent ledger.
+use Rattle.tables.specs.declared.columns.Tables.{Tables}
 use Rattle.std.specs.Prelude.{◌≡◌, cond, List, [], ◌∷◌, ℕ, zero, suc, ◌+◌, ◌-◌, ◌%◌, ◌^◌, ◌<◌, ◌≤◌, eqb, length, get_or}
 use Rattle.rules.specs.declared.Entry.{Entry}
 use Rattle.rules.specs.declared.PathAnswer.{PathAnswer}
 use Rattle.rules.specs.Limits.{term_limit, depth_limit}
 use Rattle.rules.specs.Lent.{success, refusal, no_entry, path_in_numbers}
-use Rattle.tables.specs.Regions.{tables_in}
+use Rattle.tables.specs.Columns.{tables_in}
 use Rattle.engine.specs.declared.Finished.{Finished}
 use Rattle.path.specs.declared.Stage.{Stage}
 
@@ -38,7 +39,7 @@ abbrev pub next_stage : List ℕ → Stage → Entry → Stage
 next_stage tables s e = record { left = s.left - 1; at = s.at + 1; certificate = parent_by tables s e; place = place_at ((tables_in tables).entry (parent_by tables s e)) }
 
 -- what the climb needs, and what is answered by where it starts
-pub record ClimbReady (tables : List ℕ) (l : List Entry) (list : List ℕ) (s : Stage) : Type 0 where
+pub record ClimbReady (tables : Tables) (l : List Entry) (list : List ℕ) (s : Stage) : Type 0 where
   pub long : 0 < s.left → term_limit ≤ length l
   pub room : s.at + s.left ≤ length list
   pub place : s.place ≡ place_at ((tables_in tables).entry s.certificate)

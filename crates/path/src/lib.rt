@@ -3,11 +3,12 @@
 
 ghost use Rattle.std.specs.Prelude.{◌≡◌, cond, ◌+◌, ◌<◌, ◌≤◌, eqb, leb, length, set};
 ghost use Rattle.rules.specs.Limits.{path_places};
-ghost use Rattle.tables.specs.Regions.{tables_in};
+ghost use Rattle.tables.specs.Columns.{tables_in};
 ghost use Rattle.path.specs.Climbing.{place_at, FirstReady, first_length, first_stage, next_stage, AnswerReady, Answers};
 
 use engine::Finished;
 use rules::{Entry, PathAnswer};
+use tables::Tables;
 
 // How far a path is: how many places of the list are left to write, the next of them, the certificate that goes there, and the place of its entry.
 #[derive(Clone, Copy)]
@@ -29,14 +30,14 @@ pub fn room_for(list: usize, room: usize) -> usize
 }
 
 // One more than the place of a certificate's entry; 0 of another term.
-fn entry_of(tables: &[u16; tables::WORDS], t: u16) -> usize
+fn entry_of(tables: &Tables, t: u16) -> usize
     ensures { result ≡ (tables_in tables.now).entry t }
 {
     let term = t as usize;
     if rules::TERM_LIMIT <= term {
         return 0;
     }
-    tables::entry_of(tables, term) as usize
+    tables.entry_of(term) as usize
 }
 
 // A place of the ledger, whatever the number.
@@ -50,7 +51,7 @@ fn place_at(entry: usize) -> usize
 }
 
 // How many places are to be written: none where there was no run, or the term has no entry.
-fn length_of(number: u32, entry: usize, tables: &[u16; tables::WORDS], t: u16) -> usize
+fn length_of(number: u32, entry: usize, tables: &Tables, t: u16) -> usize
     requires { FirstReady number tables.now t × (entry ≡ (tables_in tables.now).entry t) }
     ensures { result ≡ first_length number tables.now t }
 {
@@ -64,12 +65,12 @@ fn length_of(number: u32, entry: usize, tables: &[u16; tables::WORDS], t: u16) -
     if rules::TERM_LIMIT <= term {
         return 0;
     }
-    let depth = tables::depth_of(tables, term) as usize;
+    let depth = tables.depth_of(term) as usize;
     depth + 1
 }
 
 // Before the first step.
-pub fn first(done: Finished, tables: &[u16; tables::WORDS], t: u16) -> Stage
+pub fn first(done: Finished, tables: &Tables, t: u16) -> Stage
     requires { FirstReady done.begun.number tables.now t }
     ensures { result ≡ first_stage done.begun.number tables.now t }
 {
@@ -96,7 +97,7 @@ fn parent_by(entry: usize, e: Entry) -> u16
 }
 
 // A step: the certificate goes to the list, and its parent is next.
-pub fn step(tables: &[u16; tables::WORDS], list: &mut [u16], s: Stage, e: Entry) -> Stage
+pub fn step(tables: &Tables, list: &mut [u16], s: Stage, e: Entry) -> Stage
     requires { (0 < s.left) × (s.at + s.left ≤ length list.old) }
     ensures { (result ≡ next_stage tables.now s e) × (list.new ≡ set list.old s.at s.certificate) }
 {

@@ -11,12 +11,14 @@ ghost use Rattle.lookup.specs.Commands.{CommandAt};
 ghost use Rattle.registers.specs.View.{registers_in};
 ghost use Rattle.loaded.specs.Loaded.{file_in, Holds, Finds, DecidesBeside, LeavesBeside};
 
+use tables::Tables;
+
 // 44 Extend: the pair's second term known, its first what the register shows.
 pub fn decide_extend(
     file: &[u8],
     state: &[u8],
     registers: &[u8],
-    tables: &[u16; tables::WORDS],
+    tables: &Tables,
     party: usize,
     i: usize,
     r: usize,
@@ -47,7 +49,7 @@ pub fn decide_quote(
     file: &[u8],
     state: &[u8],
     registers: &[u8],
-    tables: &[u16; tables::WORDS],
+    tables: &Tables,
     party: usize,
     r: usize,
 ) -> u8
@@ -88,7 +90,7 @@ fn decide_extended(
     file: &[u8],
     state: &[u8],
     registers: &[u8],
-    tables: &[u16; tables::WORDS],
+    tables: &Tables,
     at: usize,
 ) -> u8
     requires { Holds file.now state.now
@@ -109,7 +111,7 @@ fn decide_quoted(
     file: &[u8],
     state: &[u8],
     registers: &[u8],
-    tables: &[u16; tables::WORDS],
+    tables: &Tables,
     at: usize,
 ) -> u8
     requires { Holds file.now state.now
@@ -139,7 +141,7 @@ fn effect_extended(file: &[u8], state: &[u8], registers: &mut [u8], at: usize)
 }
 
 // What 45 leaves, by the record: the party learns the signature.
-fn effect_quoted(file: &[u8], state: &mut [u8], tables: &[u16; tables::WORDS], at: usize)
+fn effect_quoted(file: &[u8], state: &mut [u8], tables: &Tables, at: usize)
     requires { Holds file.now state.old
         × CommandAt (Wellformed (file_in file.now)) file.now at
         × (kind_there file.now at ≡ 0x45)
@@ -157,7 +159,7 @@ pub fn execute(
     file: &[u8],
     state: &mut [u8],
     registers: &mut [u8],
-    tables: &[u16; tables::WORDS],
+    tables: &Tables,
     at: usize,
 ) -> u8
     requires { Holds file.now state.old

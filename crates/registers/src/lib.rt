@@ -9,6 +9,8 @@ ghost use Rattle.loaded.specs.Loaded.{file_in, Finds};
 ghost use Rattle.registers.specs.View.{register_at, registers_in, shown_at};
 ghost use Rattle.registers.specs.Starting.{Loads, shown_by_devices, start_from};
 
+use tables::Tables;
+
 // Where a register of a party stands.
 fn place_of(party: usize, i: usize) -> usize
     requires { (party < party_limit) × (i < register_count) }
@@ -83,7 +85,7 @@ fn show_all(file: &[u8], registers: &mut [u8], parties: usize, i: usize, r: usiz
 fn start_at(
     file: &[u8],
     registers: &mut [u8],
-    tables: &[u16; tables::WORDS],
+    tables: &Tables,
     parties: usize,
     t: usize,
 )
@@ -94,7 +96,7 @@ fn start_at(
         × (t < length (file_in file.now).terms) }
     ensures { registers_in registers.old ≡ start_from (file_in file.now) (t + 1) → registers_in registers.new ≡ start_from (file_in file.now) t }
 {
-    if tables::kind_of(tables, t) != 0x1B {
+    if tables.kind_of(t) != 0x1B {
         return;
     }
     let i = loaded::register_of(file, tables, t);
@@ -105,7 +107,7 @@ fn start_at(
 pub fn fill(
     file: &[u8],
     registers: &mut [u8],
-    tables: &[u16; tables::WORDS],
+    tables: &Tables,
     parties: usize,
     terms: usize,
 )

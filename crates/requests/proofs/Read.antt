@@ -5,6 +5,7 @@
 --     left_known, right_known, message_known     what they name is declared
 --     searched               what a search for a signing key asks
 -- Assumes nothing.
+use Rattle.tables.specs.declared.columns.Tables.{Tables}
 use mathlib.Core.Path.{◌≡◌, refl, ap, subst⁻¹, ◌∙◌}
 use mathlib.Core.Bool.{true}
 use mathlib.Core.List.{List, [], ◌∷◌}
@@ -110,5 +111,5 @@ module _ {f : File} {t a : ℕ} (w : Checked f) (l : t < length f.terms) where
   pub message_known : kind f t ≡ signature_kind → a ≡ message f t → a < length f.terms
   message_known e p = subst⁻¹ (λ (u : ℕ). u < length f.terms) p (message_declared w l e)
 
-pub searched : {bs s tables : List ℕ} {parties key : ℕ} → Holds bs s → Finds bs tables → parties ≡ length (file_in bs).roles → key < length (file_in bs).terms → Searched bs tables parties key
+pub searched : {bs s : List ℕ} {tables : Tables} {parties key : ℕ} → Holds bs s → Finds bs tables → parties ≡ length (file_in bs).roles → key < length (file_in bs).terms → Searched bs tables parties key
 searched h d e l = (checked_here h, d, e, (λ p m. party_here h (omega (arith, m, e))), omega (arith, l, (checked_here h).few_terms))

@@ -4,6 +4,7 @@
 --     signs-none     no party has
 --     none-some, some-found, some-none     the same of all who may sign
 -- Assumes nothing.
+use Rattle.tables.specs.declared.columns.Tables.{Tables}
 use mathlib.Core.Path.{◌≡◌, refl, sym, subst, ◌∙◌}
 use mathlib.Core.Logic.{⊎_elim}
 use mathlib.Core.Bool.{Bool, true, false, ◌&&◌, ◌||◌, false≢true}
@@ -19,7 +20,7 @@ use Rattle.rules.specs.File.{signs_with, is_role, role_of, signs_for, signs_for_
 use Rattle.theorems.proofs.Booleans.{and_true, or_true, or_left, or_right}
 use Rattle.theorems.proofs.Loading.{Checked}
 use Rattle.theorems.proofs.Terms.{setup_finds, signs_given, signs_role_given}
-use Rattle.tables.specs.Regions.{tables_in}
+use Rattle.tables.specs.Columns.{tables_in}
 use Rattle.setup.specs.Allowed.{no_key}
 use Rattle.loaded.specs.Loaded.{file_in, Finds}
 use Rattle.requests.specs.Search.{has_some}
@@ -32,7 +33,7 @@ signs_as bs tables role k p = eqb ((tables_in tables).signer p) k && is_role (fi
 abbrev pub NoneSigns : List ℕ → List ℕ → ℕ → ℕ → ℕ → Type 0
 NoneSigns bs tables role k n = (p : ℕ) → p < n → signs_as bs tables role k p ≡ false
 
-module _ (bs tables : List ℕ) (role k : ℕ) where
+module _ (bs : List ℕ) (tables : Tables) (role k : ℕ) where
   pub none_more : (n : ℕ) → NoneSigns bs tables role k n → signs_as bs tables role k n ≡ false → NoneSigns bs tables role k (n + 1)
   none_more n w e p l = go (eqb p n) refl
     where
@@ -91,7 +92,7 @@ none_last s false b q z = absurd (false≢true z)
 both : (a b : Bool) → a ≡ true → b ≡ true → (a && b) ≡ true
 both a b p q = rw (p, q) refl
 
-module _ (bs tables : List ℕ) (who : Signers) (k : ℕ) where
+module _ (bs : List ℕ) (tables : Tables) (who : Signers) (k : ℕ) where
   pub none_some : (n : ℕ) → NoneSome bs tables who k n → signs_among bs tables who k n ≡ false → NoneSome bs tables who k (n + 1)
   none_some n w e p l = go (eqb p n) refl
     where

@@ -7,7 +7,7 @@ ghost use Rattle.rules.specs.Attributes.{same_attributes};
 ghost use Rattle.rules.specs.Term.{idevid_request_kind, certificate_kind, is_tpm_subject, is_device_subject};
 ghost use Rattle.rules.specs.File.{is_role, kind, message, signing_key, attested_key, credential_term, credential_number, credential_key, idevid_certificate, idevid_key, ldevid_message, ldevid_certificate, certified_key, signer, left_of, right_of, subject, attributes, signs_for_role, signs_for_some};
 ghost use Rattle.rules.specs.Desk.{form_tests, proof_tests};
-ghost use Rattle.tables.specs.Regions.{tables_in};
+ghost use Rattle.tables.specs.Columns.{tables_in};
 ghost use Rattle.theorems.specs.Chain.{chain};
 ghost use Rattle.theorems.proofs.Loading.{Checked};
 ghost use Rattle.loaded.specs.Loaded.{file_in, Finds, PartyHere, TermNoted};
@@ -16,6 +16,7 @@ ghost use Rattle.requests.specs.Names.{Names};
 ghost use Rattle.requests.specs.Tests.{endorsement_tests, credential_tests, called_tests, attest_tests, parentage_tests};
 
 use rules::{Attributes, Family, Signers, Subject, Term};
+use tables::Tables;
 
 // Terms read back, each as what its fields name; those with a Subject by their constructors.
 #[derive(Clone, Copy)]
@@ -52,7 +53,7 @@ pub struct Certificate {
 }
 
 // The two terms of a pair.
-pub fn pair_of(file: &[u8], tables: &[u16; tables::WORDS], t: usize) -> Pair
+pub fn pair_of(file: &[u8], tables: &Tables, t: usize) -> Pair
     requires { TermNoted file.now tables.now t }
     ensures { (result.left ≡ left_of (file_in file.now) t) × (result.right ≡ right_of (file_in file.now) t) }
 {
@@ -62,7 +63,7 @@ pub fn pair_of(file: &[u8], tables: &[u16; tables::WORDS], t: usize) -> Pair
 }
 
 // The first term, the number and the public key of a credential.
-pub fn credential_of(file: &[u8], tables: &[u16; tables::WORDS], t: usize) -> Credential
+pub fn credential_of(file: &[u8], tables: &Tables, t: usize) -> Credential
     requires { TermNoted file.now tables.now t }
     ensures { (result.content ≡ credential_term (file_in file.now) t) × (result.number ≡ credential_number (file_in file.now) t) × (result.key ≡ credential_key (file_in file.now) t) }
 {
@@ -77,7 +78,7 @@ pub fn credential_of(file: &[u8], tables: &[u16; tables::WORDS], t: usize) -> Cr
 }
 
 // The Subject, the certificate and the public key of an IDevID request.
-pub fn idevid_request_of(file: &[u8], tables: &[u16; tables::WORDS], t: usize) -> IdevidRequest
+pub fn idevid_request_of(file: &[u8], tables: &Tables, t: usize) -> IdevidRequest
     requires { TermNoted file.now tables.now t × (kind (file_in file.now) t ≡ idevid_request_kind) }
     ensures { (result.subject ≡ subject (file_in file.now) t) × (result.certificate ≡ idevid_certificate (file_in file.now) t) × (result.key ≡ idevid_key (file_in file.now) t) }
 {
@@ -97,7 +98,7 @@ pub fn idevid_request_of(file: &[u8], tables: &[u16; tables::WORDS], t: usize) -
 }
 
 // The message and the certificate of an LDevID request.
-pub fn ldevid_request_of(file: &[u8], tables: &[u16; tables::WORDS], t: usize) -> LdevidRequest
+pub fn ldevid_request_of(file: &[u8], tables: &Tables, t: usize) -> LdevidRequest
     requires { TermNoted file.now tables.now t }
     ensures { (result.message ≡ ldevid_message (file_in file.now) t) × (result.certificate ≡ ldevid_certificate (file_in file.now) t) }
 {
@@ -110,7 +111,7 @@ pub fn ldevid_request_of(file: &[u8], tables: &[u16; tables::WORDS], t: usize) -
 }
 
 // The certified key, the Subject and the signer's private key of a certificate.
-pub fn certificate_of(file: &[u8], tables: &[u16; tables::WORDS], t: usize) -> Certificate
+pub fn certificate_of(file: &[u8], tables: &Tables, t: usize) -> Certificate
     requires { TermNoted file.now tables.now t × (kind (file_in file.now) t ≡ certificate_kind) }
     ensures { (result.key ≡ certified_key (file_in file.now) t) × (result.subject ≡ subject (file_in file.now) t) × (result.signer ≡ signer (file_in file.now) t) }
 {
@@ -138,7 +139,7 @@ pub struct Request {
     pub signer: usize,
 }
 
-pub fn form(file: &[u8], tables: &[u16; tables::WORDS], q: usize, kind: u16) -> Request
+pub fn form(file: &[u8], tables: &Tables, q: usize, kind: u16) -> Request
     requires { Checked (file_in file.now) × Finds file.now tables.now × (q < length (file_in file.now).terms) }
     ensures { (result.refusal ≡ chain (form_tests (file_in file.now) kind q)) × (result.refusal ≡ 0 → Names (file_in file.now) q result.body result.content result.signer) }
 {
@@ -188,7 +189,7 @@ pub fn form(file: &[u8], tables: &[u16; tables::WORDS], q: usize, kind: u16) -> 
 }
 
 // The proof of a key: the signature is over the body's hash, by the key's private half.
-pub fn proof_of_key(tables: &[u16; tables::WORDS], request: Request, key: usize) -> u8
+pub fn proof_of_key(tables: &Tables, request: Request, key: usize) -> u8
     requires { (key < term_limit) × (request.signer < term_limit) }
     ensures { (bs : List ℕ) (q : ℕ) → Finds bs tables.now → key < length (file_in bs).terms → Names (file_in bs) q request.body request.content request.signer → result ≡ chain (proof_tests (file_in bs) q key) }
 {
@@ -202,11 +203,11 @@ pub fn proof_of_key(tables: &[u16; tables::WORDS], request: Request, key: usize)
 }
 
 // Whether a party of a role signs with a key.
-fn signs_as(file: &[u8], tables: &[u16; tables::WORDS], role: u8, key: usize, p: usize) -> bool
+fn signs_as(file: &[u8], tables: &Tables, role: u8, key: usize, p: usize) -> bool
     requires { PartyHere file.now p × (p < party_limit) }
     ensures { result ≡ (eqb ((tables_in tables.now).signer p) key && is_role (file_in file.now) role p) }
 {
-    let signer = tables::signer_of(tables, p) as usize;
+    let signer = tables.signer_of(p) as usize;
     if signer != key {
         return false;
     }
@@ -216,7 +217,7 @@ fn signs_as(file: &[u8], tables: &[u16; tables::WORDS], role: u8, key: usize, p:
 // Whether a key is the signing key of a party of a role.
 pub fn signs_for_role(
     file: &[u8],
-    tables: &[u16; tables::WORDS],
+    tables: &Tables,
     role: u8,
     key: usize,
     parties: usize,
@@ -255,7 +256,7 @@ pub fn is_device(named: Subject) -> bool
 }
 
 // Whether a key has exactly these attributes.
-fn has_exactly(file: &[u8], tables: &[u16; tables::WORDS], t: usize, wanted: Attributes) -> bool
+fn has_exactly(file: &[u8], tables: &Tables, t: usize, wanted: Attributes) -> bool
     requires { TermNoted file.now tables.now t }
     ensures { result ≡ same_attributes (attributes (file_in file.now) t) wanted }
 {
@@ -266,7 +267,7 @@ fn has_exactly(file: &[u8], tables: &[u16; tables::WORDS], t: usize, wanted: Att
 // The endorsement of a challenge: a TPM's certificate by a TPM maker, and the attributes of both keys.
 pub fn endorsement(
     file: &[u8],
-    tables: &[u16; tables::WORDS],
+    tables: &Tables,
     parties: usize,
     certificate: Certificate,
     iak: usize,
@@ -293,7 +294,7 @@ pub fn endorsement(
 // The credential of a challenge: over the hash of the IAK, to the EK.
 pub fn credential_names(
     file: &[u8],
-    tables: &[u16; tables::WORDS],
+    tables: &Tables,
     credential: Credential,
     iak: usize,
     ek: usize,
@@ -318,7 +319,7 @@ pub fn credential_names(
 // Whether a certificate is the one called for: of the key, for the Subject, by the desk.
 pub fn called_for(
     file: &[u8],
-    tables: &[u16; tables::WORDS],
+    tables: &Tables,
     party: usize,
     r: usize,
     key: usize,
@@ -335,7 +336,7 @@ pub fn called_for(
     if !rules::same_subject(named, wanted) {
         return 27;
     }
-    let own = tables::signer_of(tables, party) as usize;
+    let own = tables.signer_of(party) as usize;
     if own != certificate.signer {
         return 27;
     }
@@ -350,7 +351,7 @@ pub struct Attested {
     pub signer: usize,
 }
 
-pub fn attested_by(file: &[u8], tables: &[u16; tables::WORDS], t: usize) -> Attested
+pub fn attested_by(file: &[u8], tables: &Tables, t: usize) -> Attested
     requires { Checked (file_in file.now) × Finds file.now tables.now × (t < length (file_in file.now).terms) }
     ensures { (result.refusal ≡ chain (attest_tests (file_in file.now) t)) × (result.refusal ≡ 0 → (result.key ≡ attested_key (file_in file.now) (message (file_in file.now) t)) × (result.signer ≡ signing_key (file_in file.now) t)) }
 {
@@ -406,7 +407,7 @@ fn has_some(file: &[u8], who: Signers, p: usize) -> bool
 // Whether a party that may sign signs with a key.
 fn signs_among(
     file: &[u8],
-    tables: &[u16; tables::WORDS],
+    tables: &Tables,
     who: Signers,
     key: usize,
     p: usize,
@@ -414,7 +415,7 @@ fn signs_among(
     requires { PartyHere file.now p × (p < party_limit) }
     ensures { result ≡ (eqb ((tables_in tables.now).signer p) key && has_some (file_in file.now) who p) }
 {
-    let signer = tables::signer_of(tables, p) as usize;
+    let signer = tables.signer_of(p) as usize;
     if signer != key {
         return false;
     }
@@ -424,7 +425,7 @@ fn signs_among(
 // Whether a key is the signing key of one who may sign.
 fn signs_for_some(
     file: &[u8],
-    tables: &[u16; tables::WORDS],
+    tables: &Tables,
     who: Signers,
     key: usize,
     parties: usize,
@@ -446,7 +447,7 @@ fn signs_for_some(
 // family asks.
 pub fn parentage(
     file: &[u8],
-    tables: &[u16; tables::WORDS],
+    tables: &Tables,
     parties: usize,
     family: Family,
     half: usize,

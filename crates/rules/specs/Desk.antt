@@ -5,6 +5,7 @@ use Rattle.rules.specs.declared.Family.{Family}
 use Rattle.rules.specs.declared.Subject.{Subject}
 use Rattle.rules.specs.Limits.{device, tpm_maker, oem_desk, party_limit, depth_limit}
 use Rattle.rules.specs.Refusals.{Test, need, refusal_of}
+use Rattle.rules.specs.Families.{signing_role}
 use Rattle.rules.specs.Attributes.{same_attributes, iak_attributes, ek_attributes}
 use Rattle.rules.specs.Term.{hash_kind, signature_kind, attest_kind, idevid_request_kind, ldevid_request_kind, pair_kind, same_subject, is_device_subject, is_tpm_subject}
 use Rattle.rules.specs.File.{File, IakPair, is_role, is_kind, hashed_term, message, signing_key, attested_key, credential_term, credential_number, credential_key, idevid_certificate, idevid_key, ldevid_message, ldevid_certificate, certified_key, signer, left_of, right_of, subject, attributes, paired, signs_for, signs_for_role, signs_for_some}
@@ -123,7 +124,7 @@ parent_certificate_of f q = ldevid_certificate f (request_body f q)
 -- commands came before, it is wherever the tests up to 21 pass (request 5 of document 02).
 unfoldable pub issue_tests : File → State → Family → ℕ → ℕ → ℕ → List Test
 issue_tests f s family p q r =
-    (need 13 (is_role f family.desk p) ∷ need 14 (s.knows p q) ∷ [])
+    (need 13 (is_role f (signing_role family) p) ∷ need 14 (s.knows p q) ∷ [])
     ++ (form_tests f ldevid_request_kind q
     ++ ((need 19 (is_kind f signature_kind (attest_signature_of f q))
     ∷ need 19 (is_kind f attest_kind (message f (attest_signature_of f q)))

@@ -2,7 +2,8 @@
 use Rattle.std.specs.Prelude.{true, false, List, [], ◌∷◌, ℕ, ◌-◌, get_or}
 use Rattle.rules.specs.declared.Family.{Family}
 use Rattle.rules.specs.declared.Signers.{Signers}
-use Rattle.rules.specs.Limits.{oem_desk, owner_desk}
+use Rattle.rules.specs.declared.Role.TheVariants.{OemDesk, OwnerDesk}
+use Rattle.rules.specs.Codes.{role_number}
 use Rattle.rules.specs.Attributes.{iak_attributes, ek_attributes, devid_attributes}
 
 -- who may have signed a parent
@@ -15,21 +16,25 @@ oem_desks = record { maker = false; oem = true; owner = false }
 abbrev pub any_desks : Signers
 any_desks = record { maker = false; oem = true; owner = true }
 
+-- the role of the desk that signs, by its number
+abbrev pub signing_role : Family → ℕ
+signing_role family = role_number family.desk
+
 -- 3F
 abbrev pub iak_family : Family
-iak_family = record { key = iak_attributes; desk = oem_desk; parent = ek_attributes; signers = tpm_makers }
+iak_family = record { key = iak_attributes; desk = OemDesk; parent = ek_attributes; signers = tpm_makers }
 
 -- 40
 abbrev pub lak_family : Family
-lak_family = record { key = iak_attributes; desk = owner_desk; parent = iak_attributes; signers = any_desks }
+lak_family = record { key = iak_attributes; desk = OwnerDesk; parent = iak_attributes; signers = any_desks }
 
 -- 41
 abbrev pub idevid_family : Family
-idevid_family = record { key = devid_attributes; desk = oem_desk; parent = iak_attributes; signers = oem_desks }
+idevid_family = record { key = devid_attributes; desk = OemDesk; parent = iak_attributes; signers = oem_desks }
 
 -- 42
 abbrev pub ldevid_family : Family
-ldevid_family = record { key = devid_attributes; desk = owner_desk; parent = iak_attributes; signers = any_desks }
+ldevid_family = record { key = devid_attributes; desk = OwnerDesk; parent = iak_attributes; signers = any_desks }
 
 -- those issued on an 18 request, in the order of their commands' kinds, 40 on
 abbrev pub request_families : List Family

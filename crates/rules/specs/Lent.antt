@@ -1,12 +1,10 @@
 -- What Run and Path answer, and what they leave in every lent place (document 01, "Run and Path", "When the desk says no").
-use Rattle.std.specs.Prelude.{◌≡◌, Bool, cond, ◌&&◌, List, [], ◌∷◌, ◌++◌, ℕ, zero, suc, ◌+◌, ◌-◌, ◌/◌, ◌%◌, ◌^◌, leb, length, drop, replicate}
+use Rattle.std.specs.Prelude.{◌≡◌, Bool, cond, ◌&&◌, List, [], ◌∷◌, ◌++◌, ℕ, zero, suc, ◌+◌, ◌-◌, ◌/◌, ◌%◌, ◌^◌, leb, length, drop, replicate, Result, Ok, Err}
 use Rattle.rules.specs.declared.Entry.{Entry}
-use Rattle.rules.specs.declared.LoadAnswer.{LoadAnswer}
-use Rattle.rules.specs.declared.LoadAnswer.TheVariants as load
-use Rattle.rules.specs.declared.RunAnswer.{RunAnswer}
-use Rattle.rules.specs.declared.RunAnswer.TheVariants as ran
-use Rattle.rules.specs.declared.PathAnswer.{PathAnswer}
-use Rattle.rules.specs.declared.PathAnswer.TheVariants as path
+use Rattle.rules.specs.declared.Refused.{Refused}
+use Rattle.rules.specs.declared.Counts.{Counts}
+use Rattle.rules.specs.declared.Totals.{Totals}
+use Rattle.rules.specs.Codes.{number_of}
 use Rattle.rules.specs.Limits.{file_limit, party_limit, term_limit, command_limit, state_bytes, register_count, register_bytes, path_places}
 use Rattle.rules.specs.File.{File}
 use Rattle.rules.specs.Load.{Load, loaded, refused, load as load_file}
@@ -26,17 +24,18 @@ abbrev pub refusal : ℕ → ℕ → Answer
 refusal number place = record { number = number; place = place; values = [] }
 
 -- What each answer of the code is in numbers. Of loading: parties, terms, commands; of a run: accepted, refused, issued; of a path: its steps.
-unfoldable pub load_in_numbers : LoadAnswer → Answer
-load_in_numbers (load.Loaded p t c) = success (p ∷ t ∷ c ∷ [])
-load_in_numbers (load.Refused number place) = refusal number place
+unfoldable pub in_numbers : {A : Type 0} → (A → List ℕ) → Result A Refused → Answer
+in_numbers values (Ok x) = success (values x)
+in_numbers values (Err r) = refusal (number_of r.refusal) r.place
 
-unfoldable pub run_in_numbers : RunAnswer → Answer
-run_in_numbers (ran.Ran a r i) = success (a ∷ r ∷ i ∷ [])
-run_in_numbers (ran.Refused number place) = refusal number place
+abbrev pub load_in_numbers : Result Counts Refused → Answer
+load_in_numbers = in_numbers (λ x. x.parties ∷ x.terms ∷ x.commands ∷ [])
 
-unfoldable pub path_in_numbers : PathAnswer → Answer
-path_in_numbers (path.Steps n) = success (n ∷ [])
-path_in_numbers (path.Refused number place) = refusal number place
+abbrev pub run_in_numbers : Result Totals Refused → Answer
+run_in_numbers = in_numbers (λ x. x.accepted ∷ x.refused ∷ x.issued ∷ [])
+
+abbrev pub path_in_numbers : Result ℕ Refused → Answer
+path_in_numbers = in_numbers (λ n. n ∷ [])
 
 -- The buffers lent to a run.
 pub record Lent : Type 0 where

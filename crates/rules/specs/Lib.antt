@@ -1,5 +1,6 @@
 pub mod Limits
 pub mod Refusals
+pub mod Codes
 pub mod Attributes
 pub mod Families
 pub mod Term

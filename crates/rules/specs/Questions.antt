@@ -1,18 +1,21 @@
 -- The calls that are lent Run's buffers alone, as one: what is asked, after how many commands, and what is answered and left.
-use Rattle.std.specs.Prelude.{List, [], ◌∷◌, ℕ}
+use Rattle.std.specs.Prelude.{List, [], ◌∷◌, ℕ, Result}
 use Rattle.rules.specs.declared.Question.{Question}
 use Rattle.rules.specs.declared.Question.TheVariants.{Totals, Stock}
-use Rattle.rules.specs.declared.AskAnswer.{AskAnswer}
-use Rattle.rules.specs.declared.AskAnswer.TheVariants as told
+use Rattle.rules.specs.declared.Told.{Told}
+use Rattle.rules.specs.declared.Told.TheVariants as told
+use Rattle.rules.specs.declared.Refused.{Refused}
 use Rattle.rules.specs.Limits.{command_limit}
-use Rattle.rules.specs.Lent.{Answer, success, refusal, Lent, run_answer, run_leaves}
+use Rattle.rules.specs.Lent.{Answer, Lent, in_numbers, run_answer, run_leaves}
 use Rattle.rules.specs.Stock.{stock_answer, stock_leaves}
 
 -- what an answer of the code is in numbers
-unfoldable pub ask_in_numbers : AskAnswer → Answer
-ask_in_numbers (told.Totals a r i) = success (a ∷ r ∷ i ∷ [])
-ask_in_numbers (told.Boards boards rest) = success (boards ∷ rest ∷ [])
-ask_in_numbers (told.Refused number place) = refusal number place
+abbrev pub values_of : Told → List ℕ
+values_of (told.Totals x) = x.accepted ∷ x.refused ∷ x.issued ∷ []
+values_of (told.Boards x) = x.boards ∷ x.rest ∷ []
+
+abbrev pub ask_in_numbers : Result Told Refused → Answer
+ask_in_numbers = in_numbers values_of
 
 -- how many commands are run first: "all commands unless said"
 unfoldable pub count_of : Question → ℕ

@@ -2,9 +2,10 @@
 #![tactic(auto)]
 
 ghost use Rattle.std.specs.Prelude.{◌≡◌, true, false};
-ghost use Rattle.rules.specs.Term.{kind_of, same_subject};
+ghost use Rattle.rules.specs.Codes.{number_of, number_in, role_number, kind_number};
+ghost use Rattle.rules.specs.Term.{kind_of};
 ghost use Rattle.rules.specs.Families.{family_of};
-ghost use Rattle.rules.specs.Attributes.{has, iak_attributes, ek_attributes, devid_attributes, desk_key_attributes, same_attributes};
+ghost use Rattle.rules.specs.Attributes.{has, iak_attributes, ek_attributes, devid_attributes, desk_key_attributes};
 
 // The numbers of document 01.
 pub const FILE_LIMIT: usize = 32768;
@@ -50,18 +51,90 @@ pub const CREDENTIAL_OPEN: u8 = 2;
 pub const CREDENTIAL_CLOSED: u8 = 3;
 
 // Roles of parties.
-pub const DEVICE: u8 = 0;
-
-pub const TPM_MAKER: u8 = 1;
-
-pub const OEM_DESK: u8 = 2;
-
-pub const OWNER_DESK: u8 = 3;
+#[derive(Clone, Copy, PartialEq, Eq)]
+pub enum Role {
+    Device,
+    TpmMaker,
+    OemDesk,
+    OwnerDesk,
+}
 
 pub const ROLE_COUNT: usize = 4;
 
+impl Role {
+    // The byte of a party's record.
+    pub fn number(self) -> u8
+        ensures { result ≡ role_number self }
+    {
+        self as u8
+    }
+}
+
+// Why a file, a record, a command or a question is refused, each with its number.
+#[derive(Clone, Copy, PartialEq, Eq)]
+pub enum Refusal {
+    BufferShort = 1,
+    FileLong = 2,
+    KindUnknown = 3,
+    CutShort = 4,
+    SectionOrder = 5,
+    TooMany = 6,
+    FieldRange = 7,
+    TermKind = 8,
+    TermAlike = 9,
+    NotTaught = 10,
+    NotHeldAlone = 11,
+    NotASigner = 12,
+    RoleForbids = 13,
+    InputUnknown = 14,
+    HalfNotHeld = 15,
+    AttributesForbid = 16,
+    NoTicket = 17,
+    CheckFalse = 18,
+    RequestForm = 19,
+    NoProof = 20,
+    CertificateSigner = 21,
+    KeyAttributes = 23,
+    NumberTaken = 24,
+    CredentialNotOpen = 25,
+    PartyReturning = 26,
+    NotCalledFor = 27,
+    IssuedAlready = 28,
+    TooDeep = 29,
+    NotInLedger = 30,
+    SubjectOfAnotherEk = 31,
+    PairsEmptyOrAlike = 32,
+    RegisterShowsOther = 33,
+    NoBoards = 39,
+}
+
+impl Refusal {
+    pub fn number(self) -> u8
+        ensures { result ≡ number_of self }
+    {
+        self as u8
+    }
+}
+
+// The outcome byte of a command: 0 where it was accepted.
+pub fn outcome_byte(decided: Result<(), Refusal>) -> u8
+    ensures { result ≡ number_in decided }
+{
+    match decided {
+        Ok(()) => 0,
+        Err(refusal) => refusal.number(),
+    }
+}
+
+// A refusal and its place in the file.
+#[derive(Clone, Copy, PartialEq, Eq)]
+pub struct Refused {
+    pub refusal: Refusal,
+    pub place: u32,
+}
+
 // What a key may do: a sum of the four constants.
-#[derive(Clone, Copy)]
+#[derive(Clone, Copy, PartialEq, Eq)]
 pub struct Attributes {
     pub bits: u8,
 }
@@ -112,12 +185,6 @@ impl Attributes {
             bits: Attributes::SIGN + Attributes::FIXED_TPM,
         }
     }
-
-    pub fn same(self, other: Attributes) -> bool
-        ensures { result ≡ same_attributes self other }
-    {
-        self.bits == other.bits
-    }
 }
 
 // Who may have signed a certificate: a TPM maker, an OEM desk, an owner desk.
@@ -133,13 +200,13 @@ pub struct Signers {
 #[derive(Clone, Copy)]
 pub struct Family {
     pub key: Attributes,
-    pub desk: u8,
+    pub desk: Role,
     pub parent: Attributes,
     pub signers: Signers,
 }
 
 // A family whose parents certify attestation keys and are signed by OEM desks, or by owner desks too.
-fn below_attestation_key(key: Attributes, desk: u8, owner: bool) -> Family
+fn below_attestation_key(key: Attributes, desk: Role, owner: bool) -> Family
     ensures { result ≡ record { key = key; desk = desk; parent = iak_attributes; signers = record { maker = false; oem = true; owner = owner } } }
 {
     Family {
@@ -159,13 +226,13 @@ pub fn family_of(kind: u8) -> Family
     ensures { result ≡ family_of kind }
 {
     match kind {
-        0x41 => below_attestation_key(Attributes::devid(), OEM_DESK, false),
-        0x42 => below_attestation_key(Attributes::devid(), OWNER_DESK, true),
-        _ => below_attestation_key(Attributes::iak(), OWNER_DESK, true),
+        0x41 => below_attestation_key(Attributes::devid(), Role::OemDesk, false),
+        0x42 => below_attestation_key(Attributes::devid(), Role::OwnerDesk, true),
+        _ => below_attestation_key(Attributes::iak(), Role::OwnerDesk, true),
     }
 }
 
-#[derive(Clone, Copy)]
+#[derive(Clone, Copy, PartialEq, Eq)]
 pub enum Subject {
     Tpm(u16),
     Device(u16),
@@ -188,38 +255,52 @@ pub enum Term {
     Quote(u8, u16, u16),
 }
 
-pub fn kind_of(t: Term) -> u8
-    ensures { result ≡ kind_of t }
-{
-    match t {
-        Term::PublicKey(_, _) => 0x10,
-        Term::PrivateKey(_, _) => 0x11,
-        Term::Hash(_) => 0x12,
-        Term::Signature(_, _) => 0x13,
-        Term::Attest(_) => 0x14,
-        Term::Credential(_, _, _) => 0x15,
-        Term::Number(_) => 0x16,
-        Term::IdevidRequest(_, _, _) => 0x17,
-        Term::LdevidRequest(_, _) => 0x18,
-        Term::Certificate(_, _, _) => 0x19,
-        Term::Pair(_, _) => 0x1A,
-        Term::Register(_) => 0x1B,
-        Term::Quote(_, _, _) => 0x1C,
+// The kinds of terms, each with the byte of its record.
+#[derive(Clone, Copy, PartialEq, Eq)]
+pub enum TermKind {
+    PublicKey = 0x10,
+    PrivateKey = 0x11,
+    Hash = 0x12,
+    Signature = 0x13,
+    Attest = 0x14,
+    Credential = 0x15,
+    Number = 0x16,
+    IdevidRequest = 0x17,
+    LdevidRequest = 0x18,
+    Certificate = 0x19,
+    Pair = 0x1A,
+    Register = 0x1B,
+    Quote = 0x1C,
+}
+
+impl TermKind {
+    pub fn number(self) -> u8
+        ensures { result ≡ kind_number self }
+    {
+        self as u8
     }
 }
 
-pub fn same_subject(a: Subject, b: Subject) -> bool
-    ensures { result ≡ same_subject a b }
-{
-    match a {
-        Subject::Tpm(m) => match b {
-            Subject::Tpm(n) => m == n,
-            Subject::Device(_) => false,
-        },
-        Subject::Device(m) => match b {
-            Subject::Tpm(_) => false,
-            Subject::Device(n) => m == n,
-        },
+impl Term {
+    #[tactic(auto, unfolding(crate::specs::Term::kind_of))]
+    pub fn kind(self) -> TermKind
+        ensures { kind_number result ≡ kind_of self }
+    {
+        match self {
+            Term::PublicKey(_, _) => TermKind::PublicKey,
+            Term::PrivateKey(_, _) => TermKind::PrivateKey,
+            Term::Hash(_) => TermKind::Hash,
+            Term::Signature(_, _) => TermKind::Signature,
+            Term::Attest(_) => TermKind::Attest,
+            Term::Credential(_, _, _) => TermKind::Credential,
+            Term::Number(_) => TermKind::Number,
+            Term::IdevidRequest(_, _, _) => TermKind::IdevidRequest,
+            Term::LdevidRequest(_, _) => TermKind::LdevidRequest,
+            Term::Certificate(_, _, _) => TermKind::Certificate,
+            Term::Pair(_, _) => TermKind::Pair,
+            Term::Register(_) => TermKind::Register,
+            Term::Quote(_, _, _) => TermKind::Quote,
+        }
     }
 }
 
@@ -252,25 +333,36 @@ pub struct Entry {
     pub depth: u16,
 }
 
-// What Run answers: the commands accepted and refused and the certificates issued, or a refusal with its place.
-#[derive(Clone, Copy)]
-pub enum RunAnswer {
-    Ran(u32, u32, u32),
-    Refused(u32, u32),
+impl Entry {
+    // What a place of the ledger holds where there is no entry.
+    pub const NONE: Entry = Entry {
+        certificate: 0,
+        parent: 0,
+        depth: 0,
+    };
 }
 
-// What Path answers: the steps of the path, or a refusal with its place.
-#[derive(Clone, Copy)]
-pub enum PathAnswer {
-    Steps(u32),
-    Refused(u32, u32),
+// What Run answers: the commands accepted and refused and the certificates issued.
+#[derive(Clone, Copy, PartialEq, Eq)]
+pub struct Totals {
+    pub accepted: u32,
+    pub refused: u32,
+    pub issued: u32,
 }
 
-// What loading answers: the parties, terms and commands of the file, or a refusal with its place.
-#[derive(Clone, Copy)]
-pub enum LoadAnswer {
-    Loaded(u32, u32, u32),
-    Refused(u32, u32),
+// What loading answers: the parties, terms and commands of the file.
+#[derive(Clone, Copy, PartialEq, Eq)]
+pub struct Counts {
+    pub parties: u32,
+    pub terms: u32,
+    pub commands: u32,
+}
+
+// What the stock of numbers answers: whole boards, and the numbers left over.
+#[derive(Clone, Copy, PartialEq, Eq)]
+pub struct Boards {
+    pub boards: u32,
+    pub rest: u32,
 }
 
 // What is asked of a file and lent buffers: the totals of its first n commands (Run); the boards left in a party's stock of numbers, by the
@@ -281,11 +373,9 @@ pub enum Question {
     Stock(u8, u32),
 }
 
-// What is answered: the commands accepted and refused and the certificates issued; whole boards and the numbers left over; or a refusal with its
-// place.
-#[derive(Clone, Copy)]
-pub enum AskAnswer {
-    Totals(u32, u32, u32),
-    Boards(u32, u32),
-    Refused(u32, u32),
+// What is told where there was a run.
+#[derive(Clone, Copy, PartialEq, Eq)]
+pub enum Told {
+    Totals(Totals),
+    Boards(Boards),
 }

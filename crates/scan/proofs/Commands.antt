@@ -16,7 +16,7 @@ use Rattle.rules.specs.Limits.{file_limit}
 use Rattle.rules.specs.Record.{section_of, body_length, fields_of, width, command_section}
 use Rattle.state.specs.View.{view}
 use Rattle.rules.specs.Load.{first}
-use Rattle.tables.specs.Regions.{Terms}
+use Rattle.tables.specs.Columns.{Terms}
 use Rattle.learning.specs.Noted.{TermsNoted, Noted}
 use Rattle.checks.specs.There.{head_fault, field_fault_noted}
 use Rattle.checks.specs.Plain.{fields_fault_noted, Plain}

@@ -28,7 +28,7 @@ use Rattle.rules.specs.File.{File, Setup, learns, holds, signs_with, is_role, te
 use Rattle.rules.specs.Load.{first, refuse_unless, term_at, setup_at, empty_pair, section_fault, count_fault, declared_fault, kind_fault, field_fault, fields_fault, alike_fault, may_learn, may_hold, may_sign, allowed_fault, setup_fault, record_fault, enter, loaded, refused, feed}
 use Rattle.records.proofs.Keys.{term_kind}
 use Rattle.state.specs.View.{view, in_other}
-use Rattle.tables.specs.Regions.{Terms, field_of}
+use Rattle.tables.specs.Columns.{Terms, field_of}
 use Rattle.learning.specs.There.{term_there}
 use Rattle.learning.specs.Noted.{Noted}
 use Rattle.checks.specs.There.{head_fault, role_there, kind_fault_noted, inner_fault_noted, field_fault_noted, any_alike_there}

@@ -17,7 +17,7 @@ use Rattle.rules.specs.Record.{section_of, body_length, fields_of, width, widths
 use Rattle.rules.specs.File.{Setup, learns, holds, signs_with}
 use Rattle.rules.specs.Load.{fields_fault, enter, setup_at, feed, loaded, refused, empty_file}
 use Rattle.state.specs.View.{view}
-use Rattle.tables.specs.Regions.{Terms}
+use Rattle.tables.specs.Columns.{Terms}
 use Rattle.learning.specs.Noted.{Noted}
 use Rattle.checks.specs.There.{head_fault, field_fault_noted}
 use Rattle.checks.specs.Plain.{fields_fault_noted, Right}

@@ -7,7 +7,7 @@ use Rattle.rules.specs.Load.{refuse_unless, term_at, setup_at, feed, load, loade
 use Rattle.rules.specs.State.{taught, put}
 use Rattle.records.specs.Codes.{FieldRows}
 use Rattle.state.specs.View.{Columns, view, with_place}
-use Rattle.tables.specs.Regions.{Terms}
+use Rattle.tables.specs.Columns.{Terms}
 use Rattle.learning.specs.There.{term_there}
 use Rattle.learning.specs.Noted.{Noted}
 use Rattle.checks.specs.There.{TermsThere, role_there, any_alike_there}

@@ -5,11 +5,13 @@ ghost use Rattle.std.specs.Prelude.{◌≡◌, cond, ◌<◌, eqb, length, get_o
 ghost use Rattle.rules.specs.Record.{section_of};
 ghost use Rattle.rules.specs.Load.{term_at};
 ghost use Rattle.state.specs.View.{view};
-ghost use Rattle.tables.specs.Regions.{tables_in};
+ghost use Rattle.tables.specs.Columns.{tables_in};
 ghost use Rattle.learning.specs.There.{term_there};
 ghost use Rattle.index.specs.Indexed.{Indexed};
 ghost use Rattle.lookup.specs.Commands.{commands_from};
 ghost use Rattle.scan.specs.Describes.{counted, EnterReady, last_fault, columns_after, signers_after, ScanReady, ScanResult, CommandsReady, CommandsResult};
+
+use tables::Tables;
 
 // The section and the counts so far.
 #[derive(Clone, Copy)]
@@ -72,7 +74,7 @@ fn enter(
     state: &mut [u8],
     signers: &mut [u16; 8],
     links: &mut [u16; index::LINKS],
-    tables: &mut [u16; tables::WORDS],
+    tables: &mut Tables,
     body: &[u8],
     kind: u8,
     section: u8,
@@ -101,7 +103,7 @@ fn enter(
 fn scan_commands(
     table: &[u64; rules::KIND_COUNT],
     file: &[u8],
-    tables: &[u16; tables::WORDS],
+    tables: &Tables,
     from: usize,
     n: Tally,
 ) -> Scanned
@@ -180,7 +182,7 @@ pub fn scan(
     state: &mut [u8],
     signers: &mut [u16; 8],
     links: &mut [u16; index::LINKS],
-    tables: &mut [u16; tables::WORDS],
+    tables: &mut Tables,
 ) -> Scanned
     requires { ScanReady file.now state.old signers.old × Indexed file.now (view state.old).place links.old tables.old 0 }
     ensures result { ScanResult file.now state.new signers.new result }

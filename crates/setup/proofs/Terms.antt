@@ -12,7 +12,7 @@ use lib.ListN.{length}
 use Rattle.rules.specs.Limits.{party_limit}
 use Rattle.rules.specs.Term.{certificate_kind}
 use Rattle.state.specs.View.{view, with_knows}
-use Rattle.tables.specs.Regions.{Terms}
+use Rattle.tables.specs.Columns.{Terms}
 use Rattle.learning.specs.There.{kind_there, TermRecord, learn_there}
 use Rattle.learning.specs.Noted.{Ready, TermsNoted, Noted}
 use Rattle.learning.proofs.Words.{inside}

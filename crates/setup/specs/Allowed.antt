@@ -1,4 +1,5 @@
 -- Set-up by the bytes alone: refusals 10 to 12, and what an allowed record leaves.
+use Rattle.tables.specs.declared.columns.Tables.{Tables}
 use Rattle.std.specs.Prelude.{◌≡◌, Bool, false, not, ◌&&◌, ◌||◌, List, ℕ, zero, suc, ◌*◌, ◌<◌, ◌≤◌, eqb, length, get_or, set}
 use Rattle.rules.specs.Limits.{party_limit, device, tpm_maker}
 use Rattle.rules.specs.Attributes.{has, fixed_tpm, same_attributes, desk_key_attributes}
@@ -8,7 +9,7 @@ use Rattle.rules.specs.Record.{section_of, setup_section, word}
 use Rattle.rules.specs.Load.{refuse_unless}
 use Rattle.rules.specs.Learning.{grant}
 use Rattle.state.specs.View.{Columns, view, in_other, with_knows, with_table}
-use Rattle.tables.specs.Regions.{tables_in}
+use Rattle.tables.specs.Columns.{tables_in}
 use Rattle.learning.specs.There.{term_there, learn_there}
 use Rattle.learning.specs.Noted.{Noted}
 use Rattle.checks.specs.There.{role_there, kind_of_there, TermsThere}
@@ -60,7 +61,7 @@ signers_leave signers (holds p k) = signers
 signers_leave signers (signs_with p k) = set signers p k
 
 -- what entering a set-up record needs: the terms, which the tables have; its fields are right
-pub record EntersSetup (bs s tables body : List ℕ) (kind parties terms : ℕ) : Type 0 where
+pub record EntersSetup (bs s : List ℕ) (tables : Tables) (body : List ℕ) (kind parties terms : ℕ) : Type 0 where
   pub there : TermsThere bs s terms
   pub noted : Noted bs (view s).place (tables_in tables).terms terms
   pub is_setup : section_of kind ≡ setup_section

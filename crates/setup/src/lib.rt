@@ -10,6 +10,7 @@ ghost use Rattle.setup.specs.Allowed.{signs_there, may_learn_there, may_hold_the
 
 use learning::{attributes_at, learn_term};
 use rules::Attributes;
+use tables::Tables;
 
 // The signing key of a party that has none.
 pub const NO_KEY: u16 = 65535;
@@ -107,7 +108,7 @@ pub fn may_sign(
 pub fn enter_setup(
     file: &[u8],
     state: &mut [u8],
-    tables: &[u16; tables::WORDS],
+    tables: &Tables,
     signers: &mut [u16; 8],
     body: &[u8],
     kind: u8,

@@ -1,1 +1,1 @@
-pub mod Regions
+pub mod Stores

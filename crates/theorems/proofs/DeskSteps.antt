@@ -17,7 +17,7 @@ use Rattle.rules.specs.declared.Family.{Family}
 use Rattle.rules.specs.Limits.{device, tpm_maker, oem_desk, party_limit, depth_limit}
 use Rattle.rules.specs.Attributes as flag
 use Rattle.rules.specs.Attributes.{has, iak_attributes, ek_attributes}
-use Rattle.rules.specs.Families.{iak_family}
+use Rattle.rules.specs.Families.{signing_role, iak_family}
 use Rattle.rules.specs.Term.{signature_kind, attest_kind, credential_kind, number_kind, idevid_request_kind, ldevid_request_kind, pair_kind}
 use Rattle.rules.specs.File.{File, signs_with, challenge, issue_iak, issue, role_of, kind, attributes, subject, message, signing_key, certified_key, signer, credential_number, idevid_certificate, idevid_key, ldevid_message, ldevid_certificate, left_of, paired, signs_for_some}
 use Rattle.rules.specs.State.{State, number_used, credential_open, credential_closed, listed, depth_of, put, learnt, opening, closing, entered}
@@ -364,9 +364,9 @@ module _ (f : File) (ck : Checked f) (s : State) (inv : Invariant f s) where
     issue_tested : Passed (issue_tests f s family p q r)
     issue_tested = issue_passed family p q r e
 
-    issuer_role : role_of f p ≡ family.desk
+    issuer_role : role_of f p ≡ signing_role family
     unfolding issue_tests form_tests proof_tests called_for
-    issuer_role = is_role_role f family.desk p issue_tested.0
+    issuer_role = is_role_role f (signing_role family) p issue_tested.0
 
     issuer_key : Memᴰ (signs_with p (signer f r)) f.setup
     unfolding issue_tests form_tests proof_tests called_for
@@ -506,7 +506,7 @@ module _ (f : File) (ck : Checked f) (s : State) (inv : Invariant f s) where
       declared = w.0;
       learnt = refl;
       fresh =
-          certificate_fresh f ck s inv issued_state p r w.1 (desk_no_maker p r family.desk issuer_key issuer_role row.desk)
+          certificate_fresh f ck s inv issued_state p r w.1 (desk_no_maker p r (signing_role family) issuer_key issuer_role row.desk)
           (λ m g d. listed_last s.ledger new_entry);
       table_only = λ x k h. inl h;
       grows = record {

@@ -18,7 +18,7 @@ use Rattle.rules.specs.Limits.{tpm_maker, oem_desk, owner_desk}
 use Rattle.rules.specs.Refusals.{order, applies}
 use Rattle.rules.specs.Attributes.{same_attributes, ek_attributes}
 use Rattle.rules.specs.Term.{public_key_kind, number_kind, ldevid_request_kind, certificate_kind, pair_kind}
-use Rattle.rules.specs.Families.{tpm_makers, oem_desks, iak_family, idevid_family, request_families, families}
+use Rattle.rules.specs.Families.{signing_role, tpm_makers, oem_desks, iak_family, idevid_family, request_families, families}
 use Rattle.rules.specs.File.{File, signs_with, challenge, issue, role_of, attributes, certified_key, signer, left_of, signs_for_some}
 use Rattle.rules.specs.Load.{loaded, load}
 use Rattle.rules.specs.State.{depth_of}
@@ -44,7 +44,7 @@ module _ (f : File) (ck : Checked f) where
   signed_once_lem p m k g h = ap (role_of f) (signer_alone f ck p m k h (ck.signs_held p k g))
 
   -- the role of who signed a family's certificate is one that may sign, where that is asked
-  may_sign_lem : (family : Family) (t : ℕ) → SignedBy f family t → (other : Family) → (x : Signer f other.signers (signer f t)) → may other.signers family.desk ≡ true
+  may_sign_lem : (family : Family) (t : ℕ) → SignedBy f family t → (other : Family) → (x : Signer f other.signers (signer f t)) → may other.signers (signing_role family) ≡ true
   may_sign_lem family t s other x = ap (may other.signers) (sym s.desk_role ∙ signed_once_lem s.desk x.party (signer f t) s.desk_key x.given) ∙ x.allowed
 
   -- a TPM maker signed an endorsement certificate
@@ -114,7 +114,7 @@ module _ (bytes : List ℕ) (f : File) (loads : load bytes ≡ loaded f) (n : �
   sound_at = (demand3 bytes f loads n).sound
 
   -- the desk that signed a listed parent is one that may sign it
-  parent_desk_lem : (family : Family) (e g : Entry) → OfFamily f family e → (other : Family) → OfFamily f other g → g.certificate ≡ e.parent → may family.signers other.desk ≡ true
+  parent_desk_lem : (family : Family) (e g : Entry) → OfFamily f family e → (other : Family) → OfFamily f other g → g.certificate ≡ e.parent → may family.signers (signing_role other) ≡ true
   parent_desk_lem family e g o other x c =
       may_sign_lem f ck other e.parent (subst (SignedBy f other) c x.signed) family (some_signer f family.signers (signer f e.parent) o.parent_signed)
 
@@ -124,12 +124,12 @@ module _ (bytes : List ℕ) (f : File) (loads : load bytes ≡ loaded f) (n : �
       -- its parent is listed under no family, since a TPM maker signed it
       below : (g : Entry) → g.certificate ≡ e.parent → {j : ℕ} → Sound f n j g → ⊥
       below g c s =
-          (family_row s.family s.of_family.row).desk (may_maker s.family.desk (parent_desk_lem iak_family e g o s.family s.of_family c))
+          (family_row s.family s.of_family.row).desk (may_maker (signing_role s.family) (parent_desk_lem iak_family e g o s.family s.of_family c))
 
   -- an entry is an IAK's where an OEM desk signed its certificate, of a key with an IAK's attributes
-  iak_entry_lem : (g : Entry) (family : Family) → OfFamily f family g → may oem_desks family.desk ≡ true → attributes f (certified_key f g.certificate) ≡ iak_family.key → OfFamily f iak_family g
+  iak_entry_lem : (g : Entry) (family : Family) → OfFamily f family g → may oem_desks (signing_role family) ≡ true → attributes f (certified_key f g.certificate) ≡ iak_family.key → OfFamily f iak_family g
   iak_entry_lem g family x m a =
-      subst (λ (y : Family). OfFamily f y g) (one_row family iak_family x.row (Memᴰ.head refl) (sym x.key_attributes ∙ a) (may_oem family.desk m)) x
+      subst (λ (y : Family). OfFamily f y g) (one_row family iak_family x.row (Memᴰ.head refl) (sym x.key_attributes ∙ a) (may_oem (signing_role family) m)) x
 
   idevid_depth_lem : (i : ℕ) (e : Entry) → EntryAt f n i e → OfFamily f idevid_family e → e.depth ≡ 2
   idevid_depth_lem i e at o =
@@ -188,9 +188,9 @@ module _ (bytes : List ℕ) (f : File) (loads : load bytes ≡ loaded f) (n : �
     asked : (m : ℕ) → among m (before 28 order) ≡ true → Clear m (issue_tests f (reached f n) family p q r)
     asked = clear family p q r 28 refused
 
-    issuer : role_of f p ≡ family.desk
+    issuer : role_of f p ≡ signing_role family
     unfolding issue_tests form_tests proof_tests called_for
-    issuer = is_role_role f family.desk p ((asked 13 refl).0 refl)
+    issuer = is_role_role f (signing_role family) p ((asked 13 refl).0 refl)
 
     issuer_key_lem : Memᴰ (signs_with p (signer f r)) f.setup
     unfolding issue_tests form_tests proof_tests called_for

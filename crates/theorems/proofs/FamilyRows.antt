@@ -20,7 +20,7 @@ use Rattle.rules.specs.declared.Family.{Family}
 use Rattle.rules.specs.declared.Signers.{Signers}
 use Rattle.rules.specs.Limits.{tpm_maker, oem_desk, owner_desk}
 use Rattle.rules.specs.Attributes.{has, restricted, fixed_tpm, same_attributes}
-use Rattle.rules.specs.Families.{lak_family, request_families, families, family_of}
+use Rattle.rules.specs.Families.{signing_role, lak_family, request_families, families, family_of}
 use Rattle.rules.specs.File.{File, signs_with, role_of, signs_for_role, signs_for_some}
 use Rattle.theorems.proofs.Booleans.{and_true, or_true, not_both}
 use Rattle.theorems.proofs.Terms.{signs_role_given}
@@ -60,17 +60,17 @@ no_child x b y m e = not_both _ (every_row (λ y. not (same_attributes y.parent 
 pub record FamilyRow (x : Family) : Type 0 where
   pub fixed : has x.key fixed_tpm ≡ true
   pub parent_fixed : has x.parent fixed_tpm ≡ true
-  pub desk : x.desk ≡ tpm_maker → ⊥
+  pub desk : signing_role x ≡ tpm_maker → ⊥
 
 -- and one whose certificates are issued on a request: parents with Restricted keys, which no TPM maker signed
 pub record RequestRow (x : Family) : Type 0 where
   pub fixed : has x.key fixed_tpm ≡ true
-  pub desk : x.desk ≡ tpm_maker → ⊥
+  pub desk : signing_role x ≡ tpm_maker → ⊥
   pub restricted : has x.parent Rattle.rules.specs.Attributes.restricted ≡ true
   pub no_maker : x.signers.maker ≡ true → ⊥
 
 abbrev family_test : Family → Bool
-family_test x = has x.key fixed_tpm && (has x.parent fixed_tpm && not (eqb x.desk tpm_maker))
+family_test x = has x.key fixed_tpm && (has x.parent fixed_tpm && not (eqb (signing_role x) tpm_maker))
 
 abbrev request_test : Family → Bool
 request_test x = has x.parent restricted && not x.signers.maker
@@ -97,7 +97,7 @@ request_row x m =
 
 -- rows alike in their keys' attributes and their desk's role
 abbrev alike : Family → Family → Bool
-alike x y = same_attributes x.key y.key && eqb x.desk y.desk
+alike x y = same_attributes x.key y.key && eqb (signing_role x) (signing_role y)
 
 abbrev single : List Family → Bool
 single [] = true
@@ -107,11 +107,11 @@ families_single : single families ≡ true
 unfolding same_attributes
 families_single = refl
 
-are_alike : (x y : Family) → x.key ≡ y.key → x.desk ≡ y.desk → alike x y ≡ true
+are_alike : (x y : Family) → x.key ≡ y.key → signing_role x ≡ signing_role y → alike x y ≡ true
 unfolding same_attributes
-are_alike x y k d = rw (k, d, eq-eqb y.key.bits y.key.bits refl, eq-eqb y.desk y.desk refl) refl
+are_alike x y k d = rw (k, d, eq-eqb y.key.bits y.key.bits refl, eq-eqb (signing_role y) (signing_role y) refl) refl
 
-single_row : (xs : List Family) → single xs ≡ true → (a b : Family) → Memᴰ a xs → Memᴰ b xs → a.key ≡ b.key → a.desk ≡ b.desk → a ≡ b
+single_row : (xs : List Family) → single xs ≡ true → (a b : Family) → Memᴰ a xs → Memᴰ b xs → a.key ≡ b.key → signing_role a ≡ signing_role b → a ≡ b
 single_row [] e a b m n k d = absurd (Memᴰ.not-nil m)
 single_row (x ∷ xs) e a b m n k d =
     ⊎_elim (λ h. ⊎_elim (λ i. h ∙ sym i) (λ i. absurd (other b i (first a b h k) (first_desk a b h d))) (Memᴰ.cases_cons n))
@@ -124,13 +124,13 @@ single_row (x ∷ xs) e a b m n k d =
     first : (y z : Family) → y ≡ x → y.key ≡ z.key → x.key ≡ z.key
     first y z h k = ap (λ (v : Family). v.key) (sym h) ∙ k
 
-    first_desk : (y z : Family) → y ≡ x → y.desk ≡ z.desk → x.desk ≡ z.desk
-    first_desk y z h k = ap (λ (v : Family). v.desk) (sym h) ∙ k
+    first_desk : (y z : Family) → y ≡ x → signing_role y ≡ signing_role z → signing_role x ≡ signing_role z
+    first_desk y z h k = ap signing_role (sym h) ∙ k
 
-    other : (y : Family) → Memᴰ y xs → x.key ≡ y.key → x.desk ≡ y.desk → ⊥
+    other : (y : Family) → Memᴰ y xs → x.key ≡ y.key → signing_role x ≡ signing_role y → ⊥
     other y i k d = not_both _ (every_row (λ y. not (alike x y)) xs w.0 y i) (are_alike x y k d)
 
-pub one_row : (a b : Family) → Memᴰ a families → Memᴰ b families → a.key ≡ b.key → a.desk ≡ b.desk → a ≡ b
+pub one_row : (a b : Family) → Memᴰ a families → Memᴰ b families → a.key ≡ b.key → signing_role a ≡ signing_role b → a ≡ b
 one_row = single_row families families_single
 
 -- a role of those who may sign

@@ -7,7 +7,7 @@ use Rattle.rules.specs.declared.Family.{Family}
 use Rattle.rules.specs.declared.Entry.{Entry}
 use Rattle.rules.specs.declared.Subject.TheVariants.{Device}
 use Rattle.rules.specs.Limits.{device, depth_limit}
-use Rattle.rules.specs.Families.{iak_family, families}
+use Rattle.rules.specs.Families.{signing_role, iak_family, families}
 use Rattle.rules.specs.Term.{private_key_kind, certificate_kind}
 use Rattle.rules.specs.File.{File, learns, holds, signs_with, Command, hash, sign, certify, make_credential, activate_credential, make_idevid_request, make_ldevid_request, make_pair, check_hash, check_signature, check_certificate, check_attributes, send, self_issue, challenge, issue_iak, issue, issue_iaks, extend, quote, IakPair, role_of, kind, parts, subject, attributes, paired, certified_key, signer, credential_number, signs_for_some}
 use Rattle.rules.specs.Load.{loaded, load, commands_of}
@@ -63,7 +63,7 @@ pub record SignedBy (f : File) (family : Family) (t : ℕ) : Type 0 where
   pub is_certificate : kind f t ≡ certificate_kind
   pub desk : ℕ
   pub desk_key : Memᴰ (signs_with desk (signer f t)) f.setup
-  pub desk_role : role_of f desk ≡ family.desk
+  pub desk_role : role_of f desk ≡ signing_role family
 
 -- a certificate that a desk of some family signed
 pub record DeskSigned (f : File) (t : ℕ) : Type 0 where

@@ -3,6 +3,7 @@
 --     accepted-next, requested-next                 a pair more that is accepted
 --     refused-here, all-accepted                    the outcome: at the first pair that is refused, and where none is
 -- Assumes nothing.
+use Rattle.tables.specs.declared.columns.Tables.{Tables}
 use mathlib.Core.Path.{◌≡◌, refl, sym, ap, subst⁻¹, ◌∙◌}
 use mathlib.Core.Bool.{Bool, true, false}
 use mathlib.Core.List.{List}
@@ -48,7 +49,7 @@ module _ (f : File) (s : State) (p q : ℕ) (before : List IakPair) (x : IakPair
     unfolding judged first
     judged_late e o = rw (n, e, o) refl
 
-module _ (bs s tables : List ℕ) (at : ℕ) (w : TogetherDecided bs s tables at) (role : is_role (file_in bs) oem_desk (desk_at bs at) ≡ true) (fault : pairs_fault (pairs_at pair_count bs (at + 3)) ≡ 0) where
+module _ (bs s : List ℕ) (tables : Tables) (at : ℕ) (w : TogetherDecided bs s tables at) (role : is_role (file_in bs) oem_desk (desk_at bs at) ≡ true) (fault : pairs_fault (pairs_at pair_count bs (at + 3)) ≡ 0) where
   abbrev all : List IakPair
   all = pairs_at pair_count bs (at + 3)
 

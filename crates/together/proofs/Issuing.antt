@@ -5,6 +5,7 @@
 --     issuing-filled    after a pair
 --     issuing-ends      after the last
 -- Assumes nothing.
+use Rattle.tables.specs.declared.columns.Tables.{Tables}
 use mathlib.Core.Path.{◌≡◌, refl, sym, ap, subst, subst⁻¹, ◌∙◌}
 use mathlib.Core.Bool.{Bool, true, false, cond}
 use mathlib.Core.List.{List, [], ◌∷◌, ◌++◌, append_assoc, append-nil}
@@ -25,7 +26,7 @@ use Rattle.theorems.proofs.Together.{PairsAccepted, pairs_accepted}
 use Rattle.theorems.proofs.History.{close_stays}
 use Rattle.state.specs.View.{view}
 use Rattle.state.proofs.Exact.{state_of}
-use Rattle.tables.specs.Regions.{tables_in}
+use Rattle.tables.specs.Columns.{tables_in}
 use Rattle.loaded.specs.Loaded.{file_in}
 use Rattle.loaded.specs.Entries.{Enters, Boarded, Ledgered, LeavesOn, DeskLeaves, SameKeys}
 use Rattle.loaded.proofs.Standing.{checked_here, holds_kept}
@@ -41,7 +42,7 @@ use Rattle.gained.proofs.Took.{took_none, took_length}
 use Rattle.together.specs.Ready.{desk_at, returning_at, pair_at, together_at, TogetherDone, Issuing}
 use Rattle.together.proofs.Pairs.{one_empty, one_filled}
 
-same_keys : (tables : List ℕ) → SameKeys (tables_in tables) (tables_in tables)
+same_keys : (tables : Tables) → SameKeys (tables_in tables) (tables_in tables)
 same_keys tables = record { words = refl; signer = refl; half = refl; terms = refl }
 
 pairs_few : (n : ℕ) (bs : List ℕ) (i : ℕ) → length (pairs_at n bs i) ≤ n
@@ -53,7 +54,7 @@ pairs_few (suc n) bs i = go (empty_pair bs i) (pairs_few n bs (i + pair_width))
     go true h = omega (arith, h)
     go false h = omega (arith, h)
 
-module _ {bs s tables : List ℕ} {n at : ℕ} (w : TogetherDone bs s tables n at) (g : Gained) (none : Whole g × (g.count ≡ 0)) where
+module _ {bs s : List ℕ} {tables : Tables} {n at : ℕ} (w : TogetherDone bs s tables n at) (g : Gained) (none : Whole g × (g.count ≡ 0)) where
   as_old : w.ledger ++ took g ≡ w.ledger
   as_old = ap (λ (l : List Entry). w.ledger ++ l) (took_none g none.1) ∙ append-nil w.ledger
 
@@ -78,7 +79,7 @@ module _ {bs s tables : List ℕ} {n at : ℕ} (w : TogetherDone bs s tables n a
     opened = w.here.opened;
   }
 
-module _ {bs s₀ tables₀ s tables : List ℕ} {p q n : ℕ} {all : State} {old : List Entry} {g : Gained} where
+module _ {bs s₀ : List ℕ} {tables₀ : Tables} {s : List ℕ} {tables : Tables} {p q n : ℕ} {all : State} {old : List Entry} {g : Gained} where
   pub issuing_as : {xs ys : List IakPair} → xs ≡ ys → Issuing bs s₀ tables₀ p q all xs s tables n old g → Issuing bs s₀ tables₀ p q all ys s tables n old g
   issuing_as e w = subst (λ (zs : List IakPair). Issuing bs s₀ tables₀ p q all zs s tables n old g) e w
 
@@ -112,7 +113,7 @@ module _ {bs s₀ tables₀ s tables : List ℕ} {p q n : ℕ} {all : State} {ol
       finds = w.finds;
     }
 
-    module _ {s' tables' : List ℕ} {e : Entry} {r : Gained} (v : DeskLeaves bs s tables (n + g.count) (issue_iak p q x.credential x.certificate) s' tables' (e ∷ [])) (adds : Adds g e r) (len : length s' ≡ length s) where
+    module _ {s' : List ℕ} {tables' : Tables} {e : Entry} {r : Gained} (v : DeskLeaves bs s tables (n + g.count) (issue_iak p q x.credential x.certificate) s' tables' (e ∷ [])) (adds : Adds g e r) (len : length s' ≡ length s) where
       abbrev on : LeavesOn bs s tables (n + g.count) (issue_iak p q x.credential x.certificate) s' tables' (e ∷ []) (old ++ took g)
       on = v.on (old ++ took g) (record { ledgered = w.ledgered; accepted = w.accepted.0 })
 
@@ -158,7 +159,7 @@ module _ {bs s₀ tables₀ s tables : List ℕ} {p q n : ℕ} {all : State} {ol
       }
 
 pub issuing_ends :
-    {bs s tables s' tables' : List ℕ} {n at : ℕ} {g : Gained} (w₀ : TogetherDone bs s tables n at)
+    {bs s : List ℕ} {tables : Tables} {s' : List ℕ} {tables' : Tables} {n at : ℕ} {g : Gained} (w₀ : TogetherDone bs s tables n at)
     → ((w : TogetherDone bs s tables n at) → Issuing bs s tables (desk_at bs at) (returning_at bs at) (effect_of (file_in bs) (state_of (view s) w.ledger) (together_at bs at)) [] s' tables' n w.ledger g)
     → Whole g × DeskLeaves bs s tables n (together_at bs at) s' tables' (took g)
 unfolding issue_iaks_effect

@@ -1,4 +1,5 @@
 -- A 43 by its record's place: what it is decided and done by.
+use Rattle.tables.specs.declared.columns.Tables.{Tables}
 use Rattle.std.specs.Prelude.{◌≡◌, true, false, List, ◌++◌, ℕ, ◌+◌, ◌*◌, ◌<◌, ◌≤◌, length, get_or}
 use Rattle.rules.specs.declared.Entry.{Entry}
 use Rattle.rules.specs.Limits.{pair_count, pair_width}
@@ -13,7 +14,7 @@ use Rattle.theorems.proofs.Loading.{PairsFormed, Wellformed}
 use Rattle.theorems.proofs.Together.{PairsAccepted}
 use Rattle.state.specs.View.{view}
 use Rattle.state.proofs.Exact.{state_of}
-use Rattle.tables.specs.Regions.{tables_in}
+use Rattle.tables.specs.Columns.{tables_in}
 use Rattle.loaded.specs.Loaded.{file_in, Holds, Finds}
 use Rattle.loaded.specs.Entries.{Ledgered, SameKeys}
 use Rattle.gained.specs.declared.Gained.{Gained}
@@ -41,7 +42,7 @@ pub record TogetherHere (bs s : List ℕ) (at : ℕ) : Type 0 where
   pub wellformed : Wellformed (file_in bs) (together_at bs at)
   pub opened : OpenRequested bs s
 
-pub record TogetherDecided (bs s tables : List ℕ) (at : ℕ) : Type 0 where
+pub record TogetherDecided (bs s : List ℕ) (tables : Tables) (at : ℕ) : Type 0 where
   pub here : TogetherHere bs s at
   pub finds : Finds bs tables
   pub entries : ℕ
@@ -49,14 +50,14 @@ pub record TogetherDecided (bs s tables : List ℕ) (at : ℕ) : Type 0 where
   pub ledgered : Ledgered bs s tables entries ledger
 
 -- n of its pairs were judged
-pub record JudgeReady (bs s tables : List ℕ) (at n : ℕ) : Type 0 where
+pub record JudgeReady (bs s : List ℕ) (tables : Tables) (at n : ℕ) : Type 0 where
   pub decided : TogetherDecided bs s tables at
   pub few : n ≤ pair_count
   pub formed : PairsFormed (file_in bs) (pairs_at n bs (at + 3))
   pub requested : PairsRequested (file_in bs) (view s).request (pairs_at n bs (at + 3))
 
 -- and so is the next: 0 where it is empty, and else by those before it; its credential's request has the form that a challenge asks for
-pub record Judges (bs s tables : List ℕ) (at n x : ℕ) : Type 0 where
+pub record Judges (bs s : List ℕ) (tables : Tables) (at n x : ℕ) : Type 0 where
   pub empty : empty_pair bs (at + 3 + pair_width * n) ≡ true → x ≡ 0
   pub filled :
       empty_pair bs (at + 3 + pair_width * n) ≡ false → (entries : ℕ) (ledger : List Entry) → Ledgered bs s tables entries ledger
@@ -64,7 +65,7 @@ pub record Judges (bs s tables : List ℕ) (at n x : ℕ) : Type 0 where
   pub requested : empty_pair bs (at + 3 + pair_width * n) ≡ false → x ≡ 0 → Requested (file_in bs) ((view s).request (word bs (at + 3 + pair_width * n)))
 
 -- an accepted one
-pub record TogetherDone (bs s tables : List ℕ) (n at : ℕ) : Type 0 where
+pub record TogetherDone (bs s : List ℕ) (tables : Tables) (n at : ℕ) : Type 0 where
   pub here : TogetherHere bs s at
   pub finds : Finds bs tables
   pub ledger : List Entry
@@ -73,7 +74,7 @@ pub record TogetherDone (bs s tables : List ℕ) (n at : ℕ) : Type 0 where
 
 -- While its pairs are issued: what is left of them leaves all that the command leaves, and each is accepted after those before it. The ledger
 -- had n entries, and gains some.
-pub record Issuing (bs s₀ tables₀ : List ℕ) (p q : ℕ) (all : State) (xs : List IakPair) (s tables : List ℕ) (n : ℕ) (old : List Entry) (g : Gained) : Type 0 where
+pub record Issuing (bs s₀ : List ℕ) (tables₀ : Tables) (p q : ℕ) (all : State) (xs : List IakPair) (s : List ℕ) (tables : Tables) (n : ℕ) (old : List Entry) (g : Gained) : Type 0 where
   pub holds : Holds bs s
   pub places : (view s).place ≡ (view s₀).place
   pub keys : SameKeys (tables_in tables₀) (tables_in tables)
@@ -89,7 +90,7 @@ pub record Issuing (bs s₀ tables₀ : List ℕ) (p q : ℕ) (all : State) (xs 
   pub opened : OpenRequested bs s
 
 -- the pair at a place is among what is left
-pub record SomeLeft (bs : List ℕ) (p place : ℕ) (s tables : List ℕ) (n : ℕ) (g : Gained) : Type 0 where
+pub record SomeLeft (bs : List ℕ) (p place : ℕ) (s : List ℕ) (tables : Tables) (n : ℕ) (g : Gained) : Type 0 where
   pub start : List ℕ
   pub start_tables : List ℕ
   pub returning : ℕ
@@ -101,5 +102,5 @@ pub record SomeLeft (bs : List ℕ) (p place : ℕ) (s tables : List ℕ) (n : �
 -- and is no more
 abbrev pub OneLess : List ℕ → ℕ → ℕ → List ℕ → List ℕ → ℕ → Gained → List ℕ → List ℕ → Gained → Type 0
 OneLess bs p place s tables n g s' tables' r =
-    (s₀ tables₀ : List ℕ) (q : ℕ) (all : State) (more : List IakPair) (old : List Entry) → Issuing bs s₀ tables₀ p q all (pairs_at 1 bs place ++ more) s tables n old g
+    (s₀ : List ℕ) (tables₀ : Tables) (q : ℕ) (all : State) (more : List IakPair) (old : List Entry) → Issuing bs s₀ tables₀ p q all (pairs_at 1 bs place ++ more) s tables n old g
     → Issuing bs s₀ tables₀ p q all more s' tables' n old r

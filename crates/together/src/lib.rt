@@ -22,6 +22,7 @@ ghost use Rattle.together.specs.Ready.{desk_at, returning_at, together_at, Toget
 
 use gained::Gained;
 use rules::Subject;
+use tables::Tables;
 
 // Whether a term stands in one field of n pairs, from the first's place on.
 fn stands_in(file: &[u8], first: usize, n: usize, t: u16) -> bool
@@ -89,7 +90,7 @@ fn pairs_fault(file: &[u8], first: usize) -> u8
 }
 
 // The EK in the request that a credential was opened with.
-fn ek_asked(file: &[u8], state: &[u8], tables: &[u16; tables::WORDS], c: usize) -> usize
+fn ek_asked(file: &[u8], state: &[u8], tables: &Tables, c: usize) -> usize
     requires { Holds file.now state.now × Finds file.now tables.now × (c < length (file_in file.now).terms) × Requested (file_in file.now) ((view state.now).request c) }
     ensures { result ≡ ek_of (file_in file.now) ((view state.now).request c) }
 {
@@ -103,7 +104,7 @@ fn ek_asked(file: &[u8], state: &[u8], tables: &[u16; tables::WORDS], c: usize) 
 fn pair_ends(
     file: &[u8],
     state: &[u8],
-    tables: &[u16; tables::WORDS],
+    tables: &Tables,
     place: usize,
     wanted: Subject,
     ek: usize,
@@ -128,7 +129,7 @@ fn pair_ends(
 fn others_end(
     file: &[u8],
     state: &[u8],
-    tables: &[u16; tables::WORDS],
+    tables: &Tables,
     first: usize,
     n: usize,
     wanted: Subject,
@@ -153,7 +154,7 @@ fn others_end(
 fn judge(
     file: &[u8],
     state: &[u8],
-    tables: &[u16; tables::WORDS],
+    tables: &Tables,
     at: usize,
     n: usize,
     c: u16,
@@ -184,7 +185,7 @@ fn judge(
 }
 
 // The same of the pair that stands there, 0 where it is empty.
-fn judge_next(file: &[u8], state: &[u8], tables: &[u16; tables::WORDS], at: usize, n: usize) -> u8
+fn judge_next(file: &[u8], state: &[u8], tables: &Tables, at: usize, n: usize) -> u8
     requires { JudgeReady file.now state.now tables.now at n × (n < pair_count) }
     ensures { Judges file.now state.now tables.now at n result }
 {
@@ -198,7 +199,7 @@ fn judge_next(file: &[u8], state: &[u8], tables: &[u16; tables::WORDS], at: usiz
 }
 
 // 43.
-pub fn decide(file: &[u8], state: &[u8], tables: &[u16; tables::WORDS], at: usize) -> u8
+pub fn decide(file: &[u8], state: &[u8], tables: &Tables, at: usize) -> u8
     requires { TogetherDecided file.now state.now tables.now at }
     ensures { DecidesListed file.now state.now tables.now (together_at file.now at) result }
 {
@@ -225,7 +226,7 @@ pub fn decide(file: &[u8], state: &[u8], tables: &[u16; tables::WORDS], at: usiz
 fn issue_next(
     file: &[u8],
     state: &mut [u8],
-    tables: &mut [u16; tables::WORDS],
+    tables: &mut Tables,
     n: usize,
     party: usize,
     place: usize,
@@ -248,7 +249,7 @@ fn issue_next(
 pub fn effect(
     file: &[u8],
     state: &mut [u8],
-    tables: &mut [u16; tables::WORDS],
+    tables: &mut Tables,
     entries: usize,
     at: usize,
 ) -> Gained

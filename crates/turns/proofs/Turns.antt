@@ -4,6 +4,7 @@
 --     Onward, onward-start, onward-next, onward-last, onward-ends     the turn's own loop
 --     Going, going_start, going-ready, going-fits, going_next, going-ends     the loop over turns, on the lent places
 -- Assumes nothing.
+use Rattle.tables.specs.declared.columns.Tables.{Tables}
 use mathlib.Core.Path.{◌≡◌, refl, sym, ap, subst, subst⁻¹, ◌∙◌}
 use mathlib.Core.Bool.{Bool, true, false, cond}
 use mathlib.Core.List.{List, [], ◌∷◌, ◌++◌, append-nil}
@@ -52,7 +53,7 @@ unfolding run outcomes zeros others
 results_next f x c cs out i a b y e =
     rw e (rw (add-one i, add_assoc a (cond (eqb (outcome f x c) 0) 1 0) (zeros (outcomes f cs (after f x c))), add_assoc b (cond (eqb (outcome f x c) 0) 0 1) (others (outcomes f cs (after f x c)))))
 
-leads_next : {bs : List ℕ} {s : Memory} {out : List ℕ} {p : Progress} {ledger : List Entry} {s' : Memory} {tables' : List ℕ} {y m : ℕ} {ledger' : List Entry} (count : ℕ) → 0 < p.left → p.at < length bs
+leads_next : {bs : List ℕ} {s : Memory} {out : List ℕ} {p : Progress} {ledger : List Entry} {s' : Memory} {tables' : Tables} {y m : ℕ} {ledger' : List Entry} (count : ℕ) → 0 < p.left → p.at < length bs
     → Does bs s p.at ledger s' tables' y m ledger'
     → Leads bs (moment s out ledger p) (moment s' (set out p.done y) ledger' (stepped (length bs) p y count (next_place bs p.at)))
 leads_next {bs} {s} {out} {p} {ledger} {s'} {tables'} {y} {m} {ledger'} count more inside d = record {
@@ -114,7 +115,7 @@ pub step_less : (bytes : ℕ) (p : Progress) (y count next : ℕ) {q : Progress}
 step_less bytes p y count next some e = subst⁻¹ (λ (q : Progress). q.left < p.left) e (left_less (ltb next bytes) (omega (arith, some)))
 
 -- ---- the turn's own loop: the ledger stays as it is until a desk command is accepted
-pub record Onward (bs : List ℕ) (s : Memory) (tables out : List ℕ) (from : Progress) (s' : Memory) (tables' out' : List ℕ) (p : Progress) : Type 0 where
+pub record Onward (bs : List ℕ) (s : Memory) (tables : Tables) (out : List ℕ) (from : Progress) (s' : Memory) (tables' : Tables) (out' : List ℕ) (p : Progress) : Type 0 where
   pub underway : Underway bs p
   pub fewer : p.left ≤ from.left
   pub long : length s'.state ≡ length s.state
@@ -123,10 +124,10 @@ pub record Onward (bs : List ℕ) (s : Memory) (tables out : List ℕ) (from : P
   pub stands : (ledger : List Entry) → Stands bs s tables from.issued ledger → Stands bs s' tables' p.issued ledger
   pub leads : (ledger : List Entry) → Stands bs s tables from.issued ledger → Leads bs (moment s out ledger from) (moment s' out' ledger p)
 
-pub onward_start : {bs : List ℕ} {s : Memory} {tables out : List ℕ} {p : Progress} → Underway bs p → InBytes s → Onward bs s tables out p s tables out p
+pub onward_start : {bs : List ℕ} {s : Memory} {tables : Tables} {out : List ℕ} {p : Progress} → Underway bs p → InBytes s → Onward bs s tables out p s tables out p
 onward_start {bs} w b = record { underway = w; fewer = omega arith; long = refl; registers = refl; bytes = b; stands = λ ledger st. st; leads = λ ledger st. leads_refl bs _ }
 
-module _ {bs : List ℕ} {s : Memory} {tables out : List ℕ} {parties : ℕ} {from : Progress} (ready : TurnReady bs s tables out parties from) {s' : Memory} {tables' out' : List ℕ} {p : Progress} (w : Onward bs s tables out from s' tables' out' p) where
+module _ {bs : List ℕ} {s : Memory} {tables : Tables} {out : List ℕ} {parties : ℕ} {from : Progress} (ready : TurnReady bs s tables out parties from) {s' : Memory} {tables' : Tables} {out' : List ℕ} {p : Progress} (w : Onward bs s tables out from s' tables' out' p) where
   pub onward_ends : p.left ≡ 0 → {g : Gained} → Whole g → g.count ≡ 0 → Turns bs s tables out from s' tables' out' (record { gained = g; progress = p })
   onward_ends z {g} whole none =
       let same : (ledger : List Entry) → ledger ++ took g ≡ ledger = λ ledger. ap (λ (l : List Entry). ledger ++ l) (took_none g none) ∙ append-nil ledger in
@@ -216,7 +217,7 @@ length_onto (e ∷ es) (x ∷ l) h = ap suc (length_onto es l (omega (arith, h))
 -- ---- between turns: what the lent places and the loop's local hold, and the relation that the loop keeps
 pub record Values : Type 0 where
   pub memory : Memory
-  pub tables : List ℕ
+  pub tables : Tables
   pub outcomes : List ℕ
   pub ledger : List Entry
   pub progress : Progress
@@ -229,7 +230,7 @@ pub record Going (bs : List ℕ) (s₀ : Memory) (out₀ : List ℕ) (first n : 
   pub underway : Underway bs v.progress
   pub leads : Leads bs (moment s₀ out₀ [] (starts bs first n)) (moment v.memory v.outcomes entries v.progress)
 
-pub going_start : (bs : List ℕ) (s : Memory) (tables out : List ℕ) (parties first n : ℕ) (l : List Entry) → RunReady bs s tables out parties first
+pub going_start : (bs : List ℕ) (s : Memory) (tables : Tables) (out : List ℕ) (parties first n : ℕ) (l : List Entry) → RunReady bs s tables out parties first
     → Going bs s out first n l (record { memory = s; tables = tables; outcomes = out; ledger = l; progress = starts bs first n })
 going_start bs s tables out parties first n l w = record {
   entries = [];
@@ -277,7 +278,7 @@ module _ {bs : List ℕ} {s₀ : Memory} {out₀ : List ℕ} {first n : ℕ} {ol
     parties_are = are;
   }
 
-  module _ {s : Memory} {tables out : List ℕ} {r : Turned} (told : Turns bs v.memory v.tables v.outcomes v.progress s tables out r) where
+  module _ {s : Memory} {tables : Tables} {out : List ℕ} {r : Turned} (told : Turns bs v.memory v.tables v.outcomes v.progress s tables out r) where
     after_stands : Stands bs s tables r.progress.issued (w.entries ++ took r.gained)
     after_stands = told.stands w.entries w.stands
 
@@ -299,7 +300,7 @@ module _ {bs : List ℕ} {s₀ : Memory} {out₀ : List ℕ} {first n : ℕ} {ol
     }
 
 -- a turn in the first parts of longer buffers
-pub turned_within : {bs : List ℕ} {m : Memory} {tables out : List ℕ} {p : Progress} {s g tables' out' : List ℕ} {r : Turned} (rest beyond : List ℕ) → length s ≡ state_bytes → length g ≡ register_bytes
+pub turned_within : {bs : List ℕ} {m : Memory} {tables : Tables} {out : List ℕ} {p : Progress} {s g : List ℕ} {tables' : Tables} {out' : List ℕ} {r : Turned} (rest beyond : List ℕ) → length s ≡ state_bytes → length g ≡ register_bytes
     → Turns bs m tables out p (memory s g) tables' out' r
     → Turns bs m tables out p (memory (take state_bytes (s ++ rest)) (take register_bytes (g ++ beyond))) tables' out' r
     × (drop state_bytes (s ++ rest) ≡ rest) × (drop register_bytes (g ++ beyond) ≡ beyond)

@@ -1,4 +1,5 @@
 -- What a turn of the loop over commands needs, and what it leaves; what the loop needs and leaves.
+use Rattle.tables.specs.declared.columns.Tables.{Tables}
 use Rattle.std.specs.Prelude.{◌≡◌, cond, List, [], ◌++◌, ℕ, ◌+◌, ◌*◌, ◌-◌, ◌<◌, ◌≤◌, eqb, ltb, length, drop}
 use Rattle.std.proofs.lemmas.List.Edits.{sets}
 use Rattle.rules.specs.declared.Entry.{Entry}
@@ -76,7 +77,7 @@ pub record InBytes (m : Memory) : Type 0 where
   pub registers : Bytes m.registers
 
 -- before a turn: room for an outcome of each command
-pub record TurnReady (bs : List ℕ) (m : Memory) (tables out : List ℕ) (parties : ℕ) (p : Progress) : Type 0 where
+pub record TurnReady (bs : List ℕ) (m : Memory) (tables : Tables) (out : List ℕ) (parties : ℕ) (p : Progress) : Type 0 where
   pub stands : SomeStands bs m tables p.issued
   pub underway : Underway bs p
   pub short : length bs ≤ file_limit
@@ -84,7 +85,7 @@ pub record TurnReady (bs : List ℕ) (m : Memory) (tables out : List ℕ) (parti
   pub parties_are : parties ≡ length (file_in bs).roles
 
 -- what a turn leaves, whatever the ledger, which gains some entries: a later moment, and fewer commands are left
-pub record Turns (bs : List ℕ) (m : Memory) (tables out : List ℕ) (p : Progress) (m' : Memory) (tables' out' : List ℕ) (r : Turned) : Type 0 where
+pub record Turns (bs : List ℕ) (m : Memory) (tables : Tables) (out : List ℕ) (p : Progress) (m' : Memory) (tables' : Tables) (out' : List ℕ) (r : Turned) : Type 0 where
   pub whole : Whole r.gained
   pub bytes : InBytes m'
   pub underway : Underway bs r.progress
@@ -94,7 +95,7 @@ pub record Turns (bs : List ℕ) (m : Memory) (tables out : List ℕ) (p : Progr
       → Leads bs (record { memory = m; outcomes = out; ledger = ledger; progress = p }) (record { memory = m'; outcomes = out'; ledger = ledger ++ took r.gained; progress = r.progress })
 
 -- before the loop: no entry yet, room for an outcome of each command, and commands alone from the first one's place on
-pub record RunReady (bs : List ℕ) (m : Memory) (tables out : List ℕ) (parties first : ℕ) : Type 0 where
+pub record RunReady (bs : List ℕ) (m : Memory) (tables : Tables) (out : List ℕ) (parties first : ℕ) : Type 0 where
   pub stands : Stands bs m tables 0 []
   pub bytes : InBytes m
   pub short : length bs ≤ file_limit
@@ -116,7 +117,7 @@ onto es l = es ++ drop (length es) l
 
 -- after the loop: the rules' state after these commands, with a ledger of some entries, which stand at the first places
 -- of the lent one; their outcomes and the totals; what stands between commands
-pub record Executes (bs : List ℕ) (m : Memory) (out : List ℕ) (first n : ℕ) (old : List Entry) (m' : Memory) (tables' out' : List ℕ) (new : List Entry) (p : Progress) : Type 0 where
+pub record Executes (bs : List ℕ) (m : Memory) (out : List ℕ) (first n : ℕ) (old : List Entry) (m' : Memory) (tables' : Tables) (out' : List ℕ) (new : List Entry) (p : Progress) : Type 0 where
   pub entries : List Entry
   pub ledger : new ≡ onto entries old
   pub state : state_in m' entries ≡ run (file_in bs) (commands_left bs first n) (state_in m [])

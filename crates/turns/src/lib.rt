@@ -7,6 +7,7 @@ ghost use Rattle.commands.specs.Standing.{memory};
 ghost use Rattle.turns.specs.Turns.{starts, stepped, StepReady, TurnReady, Turns};
 
 use gained::Gained;
+use tables::Tables;
 
 // How far a run is: how many commands are left at most, the place of the next, how many are done, accepted and refused,
 // and the entries.
@@ -117,7 +118,7 @@ pub fn turn(
     file: &[u8],
     state: &mut [u8],
     registers: &mut [u8],
-    tables: &mut [u16; tables::WORDS],
+    tables: &mut Tables,
     outcomes: &mut [u8],
     parties: usize,
     from: Progress,
@@ -158,7 +159,7 @@ pub fn turn_within(
     file: &[u8],
     state: &mut [u8],
     registers: &mut [u8],
-    tables: &mut [u16; tables::WORDS],
+    tables: &mut Tables,
     outcomes: &mut [u8],
     b: Begun,
     p: Progress,

@@ -1,7 +1,7 @@
 use mathlib.Core.Path.{◌≡◌}
 use Prim.Native.Nat.{◌≤◌}
 use Rattle.rules.specs.Limits.{term_limit}
-use Rattle.tables.specs.Regions.{tables_in}
+use Rattle.tables.specs.Columns.{tables_in}
 use Rattle.boards.specs.Linked.{walk, entry_of}
 use Rattle.boards.proofs.entry_of.Given as goal
 

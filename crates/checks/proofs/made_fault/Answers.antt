@@ -6,7 +6,7 @@ use Prim.Native.Nat.{ℕ}
 use native.Mathlib.Omega.{arith}
 use Rattle.rules.specs.declared.Field.{Field}
 use Rattle.rules.specs.declared.Field.TheVariants.{TermOf, SignedAttest}
-use Rattle.tables.specs.Regions.{Terms}
+use Rattle.tables.specs.Columns.{Terms}
 use Rattle.rules.specs.Term.{signature_kind, attest_kind}
 use Rattle.rules.specs.Record.{word}
 use Rattle.checks.specs.There.{inner_fault_noted, field_fault_noted}

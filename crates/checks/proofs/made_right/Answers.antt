@@ -6,7 +6,7 @@ use native.Mathlib.Omega.{arith}
 use lib.ListN.{take, drop}
 use Rattle.rules.specs.declared.Field.{Field}
 use Rattle.records.specs.Codes.{low_field}
-use Rattle.tables.specs.Regions.{tables_in}
+use Rattle.tables.specs.Columns.{tables_in}
 use Rattle.checks.specs.There.{field_fault_noted}
 use Rattle.checks.proofs.Plain.{made_second, made_plain}
 use Rattle.checks.proofs.made_right.Goals as goal

@@ -1,10 +1,11 @@
 -- Refused where the walk found a term of the kind and key; else the index has the term, and the half of its pair where it found one.
+use Rattle.tables.specs.declared.columns.Tables.{Tables}
 use Rattle.std.proofs.Common.{◌≡◌, ℕ, List, ◌∷◌, [], get_or, Fits, w8, refl, ap, ◌∙◌, arith}
 use Rattle.rules.specs.Load.{refuse_unless, term_at}
 use Rattle.rules.specs.Term.{fields_in}
 use Rattle.records.specs.declared.Words.{Words}
 use Rattle.records.specs.Keys.{key_of, words_of}
-use Rattle.tables.specs.Regions.{Tables, tables_in}
+use Rattle.tables.specs.Columns.{TableColumns, tables_in}
 use Rattle.index.specs.declared.Searched.{Searched}
 use Rattle.index.specs.Indexed.{key_noted, other_half, SearchResult, EntersTerm}
 use Rattle.index.proofs.Noted.{reached}
@@ -13,7 +14,7 @@ use Rattle.index.proofs.enter_term.Goals as goal
 
 -- what is known after the search
 sought :
-    {bs s links tables body : List ℕ} {k at n key second : ℕ} {words : Words} {found : Searched}
+    {bs s links : List ℕ} {tables : Tables} {body : List ℕ} {k at n key second : ℕ} {words : Words} {found : Searched}
     → EntersTerm bs s links tables body k at n → ((i : ℕ) → Fits w8 (get_or bs i 0)) → words ≡ words_of (fields_in (term_at k body))
     → key ≡ key_of (words.first ∷ words.second ∷ words.third ∷ words.fourth ∷ []) → second ≡ other_half k
     → SearchResult (tables_in tables).terms.kind (key_noted (tables_in tables).terms) links k second key n found
@@ -39,7 +40,7 @@ pub note_half-requires-else-kind-eq16 : goal.note_half-requires-else-kind-eq16
 note_half-requires-else-kind-eq16 c =
     let w = sought c.requires c.type_inv.file c.words_in-words.ensures c.key-key.ensures c.other_half.ensures c.search-found.ensures in
     let m = other_most w c.if-same-ne0.false in
-    (ap (λ (v : Tables). v.words) c.note_term.ensures ∙ c.requires.indexed.words, omega (arith, m))
+    (ap (λ (v : TableColumns). v.words) c.note_term.ensures ∙ c.requires.indexed.words, omega (arith, m))
 
 pub returns-then-kind-eq16-clause-refusal : goal.returns-then-kind-eq16-clause-refusal
 unfolding refuse_unless

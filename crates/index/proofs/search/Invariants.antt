@@ -1,5 +1,5 @@
 -- The way of a key down its bucket, with what it has found.
-use Rattle.tables.specs.Regions.{tables_in}
+use Rattle.tables.specs.Columns.{tables_in}
 use Rattle.index.specs.Tree.{yet}
 use Rattle.index.specs.Indexed.{key_noted, same_by}
 use Rattle.index.proofs.Walk.{Walking}

@@ -1,7 +1,7 @@
 use mathlib.Core.Path.{subst⁻¹, ◌∙◌}
 use native.Mathlib.Omega.{arith}
 use Rattle.rules.specs.Limits.{term_limit}
-use Rattle.tables.specs.Regions.{Boards}
+use Rattle.tables.specs.Columns.{Boards}
 use Rattle.boards.specs.Linked.{Falls}
 use Rattle.loaded.proofs.Boards.{falls_ek, entered_falls}
 use Rattle.loaded.proofs.Standing.{checked_here, kind_declared, term_here}

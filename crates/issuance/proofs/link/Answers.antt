@@ -1,5 +1,5 @@
 use mathlib.Core.Path.{sym, ap, ◌∙◌}
-use Rattle.tables.specs.Regions.{tables_in}
+use Rattle.tables.specs.Columns.{tables_in}
 use Rattle.issuance.specs.Appends.{linked_by}
 use Rattle.issuance.proofs.Appending.{linked_known, linked_new}
 use Rattle.issuance.proofs.link.Goals as goal

@@ -1,7 +1,7 @@
 -- The parts that the match found are those of t; each can be learnt, and the first of two was known or is learnt.
 use Rattle.std.proofs.Common.{◌≡◌, ap, sym, ◌∙◌, arith}
 use Rattle.state.specs.View.{view}
-use Rattle.tables.specs.Regions.{tables_in}
+use Rattle.tables.specs.Columns.{tables_in}
 use Rattle.learning.proofs.Opening.{learned, learn_known, learn_new, parts_none, parts_one, parts_two, lower_one, lower_two, ready_part, ready_after}
 use Rattle.learning.proofs.+learn_parts_learn_term.Goals as goal
 use Rattle.learning.proofs.+learn_parts_learn_term.Goals.{learn_parts-then-not-knows-2, learn_parts-else-not-knows-2}

@@ -1,4 +1,5 @@
 -- `loader::load` meets its contract: what filling leaves is what loading gives, and the buffer beyond its first part is as it was. Assumes nothing.
+use Rattle.tables.specs.declared.columns.Tables.{Tables}
 use mathlib.Core.Path.{◌≡◌, refl, sym, ap, ◌∙◌}
 use mathlib.Core.Logic.{inl, inr}
 use mathlib.Core.List.{List, ◌++◌}
@@ -17,7 +18,7 @@ use Rattle.loader.proofs.Final.{final_leaves, refused_leaves, short_leaves, long
 use Rattle.loader.proofs.load.Goals as goal
 
 -- what filling leaves
-module _ (bytes s tables : List ℕ) (r : Scanned) (short : length bytes ≤ file_limit) where
+module _ (bytes s : List ℕ) (tables : Tables) (r : Scanned) (short : length bytes ≤ file_limit) where
   place-fits : FillResult bytes s tables r → (r.number ≡ 0 → ⊥) → r.place < 4294967296
   place-fits (inl (z, w)) h = absurd (h z)
   place-fits (inr (m, z, e, k)) h = omega (arith, near_refusal bytes (suc m) r.place e)

@@ -1,6 +1,6 @@
 use Prim.Native.Nat.{◌≤◌, ◌-◌}
 use Rattle.rules.specs.Limits.{party_limit}
-use Rattle.tables.specs.Regions.{tables_in}
+use Rattle.tables.specs.Columns.{tables_in}
 use Rattle.loader.specs.Tabled.{Signed}
 use Rattle.loader.proofs.note_signers.Given as goal
 

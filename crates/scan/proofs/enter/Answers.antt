@@ -1,4 +1,5 @@
 -- `scan::enter` meets its contract: each branch is that of `last_fault`, `columns_after` and `signers_after`. Assumes nothing.
+use Rattle.tables.specs.declared.columns.Tables.{Tables}
 use borrow.Author.Tests.{ne_eqb, leb-true}
 use mathlib.Core.Path.{◌≡◌, refl, sym, ◌∙◌}
 use mathlib.Core.Bool.{Bool, true, false, cond, not}
@@ -46,7 +47,7 @@ setup-place bs v x false = refl
 other-terms : (own : ℕ) (n : Tally) → (own ≡ term_section → ⊥) → (counted own n).terms ≡ n.terms
 other-terms own n a = counted_is (λ (m : Tally). m.terms ≡ n.terms) own n refl (λ e. absurd (a e)) refl refl
 
-module _ (bs : List ℕ) (v : Columns) (signers links tables : List ℕ) (n : Tally) (k own : ℕ) (body : List ℕ) (at : ℕ) (o : own ≡ section_of k) where
+module _ (bs : List ℕ) (v : Columns) (signers links : List ℕ) (tables : Tables) (n : Tally) (k own : ℕ) (body : List ℕ) (at : ℕ) (o : own ≡ section_of k) where
   -- what entering leaves
   abbrev Entered : ℕ → Columns → List ℕ → List ℕ → List ℕ → Type 0
   Entered r w signers' links' tables' =
@@ -55,7 +56,7 @@ module _ (bs : List ℕ) (v : Columns) (signers links tables : List ℕ) (n : Ta
       × ((signers' ≡ cond (eqb r 0) (signers_after signers k body) signers)
       × (r ≡ 0 → Indexed bs w.place links' tables' (counted own n).terms)))
 
-  term-entered : (r : ℕ) (w : Columns) (links' tables' : List ℕ) → own ≡ term_section
+  term-entered : (r : ℕ) (w : Columns) (links' : List ℕ) (tables' : Tables) → own ≡ term_section
       → r ≡ refuse_unless 9 (not (any_alike_there bs v.place (term_at k body) n.terms))
       → w ≡ cond (eqb r 0) (with_place v (put v.place n.terms at)) v
       → (r ≡ 0 → Indexed bs w.place links' tables' (n.terms + 1))

@@ -2,6 +2,7 @@
 -- its terms are indexed, feeding it the pieces from `at` on is loading the file, and the first command is the first
 -- from `at` on. The inner one: the fields so far, or all of them, are right, and the rest is what is left.
 -- Assumes nothing.
+use Rattle.tables.specs.declared.columns.Tables.{Tables}
 use mathlib.Core.Path.{◌≡◌, refl, sym, ap, subst⁻¹, ◌∙◌}
 use mathlib.Core.List.{List}
 use Prim.Native.Nat.{ℕ, ◌<◌, ◌≤◌}
@@ -31,10 +32,10 @@ unfolding term_there body_at
 body-stands bs at body e = ap (term_at (get_or bs at 0)) (sym e)
 
 -- the same count
-indexed-terms : {bs : List ℕ} {place : ℕ → ℕ} {links tables : List ℕ} {n m : ℕ} → m ≡ n → Indexed bs place links tables n → Indexed bs place links tables m
+indexed-terms : {bs : List ℕ} {place : ℕ → ℕ} {links : List ℕ} {tables : Tables} {n m : ℕ} → m ≡ n → Indexed bs place links tables n → Indexed bs place links tables m
 indexed-terms {bs} {place} {links} {tables} e i = subst⁻¹ (Indexed bs place links tables) e i
 
-indexed-counted : {bs : List ℕ} {place : ℕ → ℕ} {links tables : List ℕ} {n m : Tally} → m ≡ n → Indexed bs place links tables n.terms → Indexed bs place links tables m.terms
+indexed-counted : {bs : List ℕ} {place : ℕ → ℕ} {links : List ℕ} {tables : Tables} {n m : Tally} → m ≡ n → Indexed bs place links tables n.terms → Indexed bs place links tables m.terms
 indexed-counted e i = indexed-terms (ap (λ (t : Tally). t.terms) e) i
 
 -- the first command's place, where the file ends

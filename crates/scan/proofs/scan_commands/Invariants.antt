@@ -3,7 +3,7 @@ use Prim.Native.Nat.{◌-◌}
 use lib.ListN.{length, get_or, drop}
 use Rattle.rules.specs.Record.{fields_of}
 use Rattle.records.specs.Codes.{field_limit, packed}
-use Rattle.tables.specs.Regions.{tables_in}
+use Rattle.tables.specs.Columns.{tables_in}
 use Rattle.scan.proofs.Commands.{Standing, AtField}
 use Rattle.scan.proofs.scan_commands.Given as goal
 

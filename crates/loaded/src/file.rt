@@ -1,0 +1,266 @@
+// What the code keeps of a loaded file, and what it reads of it.
+
+ghost use Rattle.std.specs.Prelude.{◌≡◌, ◌<◌, ◌≤◌, length};
+ghost use Rattle.rules.specs.Limits.{state_bytes};
+ghost use Rattle.rules.specs.Codes.{role_number, kind_number};
+ghost use Rattle.rules.specs.Attributes.{same_attributes};
+ghost use Rattle.rules.specs.Term.{idevid_request_kind, certificate_kind};
+ghost use Rattle.rules.specs.File.{is_role, is_kind, kind, field, subject, attributes, paired, half_in, signs_for, signs_for_role, signs_for_some, hashed_term, message, signing_key, attested_key, credential_term, credential_number, credential_key, idevid_certificate, idevid_key, ldevid_message, ldevid_certificate, certified_key, signer, left_of, right_of, register_of, quoted_value, quote_number};
+ghost use Rattle.rules.specs.Device.{key_has};
+ghost use Rattle.state.specs.View.{view};
+ghost use Rattle.tables.specs.Columns.{field_words};
+ghost use Rattle.loaded.specs.Loaded.{file_in, Reads, Holds, Learns, subject_by};
+
+use crate::terms::{Certificate, Credential, IdevidRequest, LdevidRequest, Pair, Quote, Signature};
+use rules::{Attributes, Role, Signers, Subject, TermKind};
+use tables::Tables;
+
+// The bytes of a file that loads, the tables by which its terms are read, and how many parties it declares.
+#[derive(Clone, Copy)]
+pub struct Loaded<'a> {
+    pub file: &'a [u8],
+    pub tables: &'a Tables,
+    pub parties: usize,
+    pub ghost reads: { Reads file.now tables.now parties },
+}
+
+// A Subject by its two fields.
+fn subject_of(tag: u16, number: u16) -> Subject
+    ensures { result ≡ subject_by tag number }
+{
+    if tag == 0 {
+        Subject::Tpm(number)
+    } else {
+        Subject::Device(number)
+    }
+}
+
+impl<'a> Loaded<'a> {
+    // Whether a party has a role.
+    pub fn is_role(&self, party: usize, role: Role) -> bool
+        requires { party < length (file_in self.now.file.now).roles }
+        ensures { result ≡ is_role (file_in self.now.file.now) (role_number role) party }
+    {
+        checks::role_of(self.file, party) == role.number()
+    }
+
+    // Whether a term is of a kind.
+    pub fn is_kind(&self, t: usize, kind: TermKind) -> bool
+        requires { t < length (file_in self.now.file.now).terms }
+        ensures { result ≡ is_kind (file_in self.now.file.now) (kind_number kind) t }
+    {
+        self.tables.kind_of(t) == kind.number() as u16
+    }
+
+    // A field of a term.
+    fn field(&self, t: usize, i: usize) -> usize
+        requires { (t < length (file_in self.now.file.now).terms) × (i < field_words) }
+        ensures { result ≡ field (file_in self.now.file.now) t i }
+    {
+        self.tables.field_of(t, i) as usize
+    }
+
+    // The attributes of a key, as a number; 0 of another term.
+    fn attribute_bits(&self, t: usize) -> u16
+        requires { t < length (file_in self.now.file.now).terms }
+        ensures { result ≡ (attributes (file_in self.now.file.now) t).bits }
+    {
+        if self.tables.kind_of(t) <= TermKind::PrivateKey.number() as u16 {
+            self.tables.field_of(t, 1)
+        } else {
+            0
+        }
+    }
+
+    // Whether a key has exactly these attributes.
+    pub fn has_attributes(&self, t: usize, wanted: Attributes) -> bool
+        requires { t < length (file_in self.now.file.now).terms }
+        ensures { result ≡ same_attributes (attributes (file_in self.now.file.now) t) wanted }
+    {
+        self.attribute_bits(t) == wanted.bits as u16
+    }
+
+    // Whether a key has one of the four attributes.
+    pub fn key_has(&self, t: usize, flag: u8) -> bool
+        requires { (t < length (file_in self.now.file.now).terms) × (0 < flag) }
+        ensures { result ≡ key_has (file_in self.now.file.now) t flag }
+    {
+        self.attribute_bits(t) / flag as u16 % 2 == 1
+    }
+
+    // Whether a public and a private key are a pair.
+    pub fn is_pair(&self, key: usize, half: usize) -> bool
+        requires { (key < length (file_in self.now.file.now).terms) × (half < length (file_in self.now.file.now).terms) }
+        ensures { result ≡ paired (file_in self.now.file.now) key half }
+    {
+        self.tables.half_of(key) == Some(half)
+    }
+
+    // Whether a party's TPM holds the private half of a public key.
+    pub fn holds_half(&self, state: &[u8], party: usize, key: usize) -> bool
+        requires { (state_bytes ≤ length state.now) × (party < length (file_in self.now.file.now).roles) × (key < length (file_in self.now.file.now).terms) }
+        ensures { result ≡ half_in (file_in self.now.file.now) ((view state.now).table party) key }
+    {
+        match self.tables.half_of(key) {
+            Some(half) => state::in_table(state, party, half),
+            None => false,
+        }
+    }
+
+    // Whether a key is the signing key of a party.
+    pub fn signs(&self, party: usize, key: usize) -> bool
+        requires { (party < length (file_in self.now.file.now).roles) × (key < length (file_in self.now.file.now).terms) }
+        ensures { result ≡ signs_for (file_in self.now.file.now) party key }
+    {
+        self.tables.signer_of(party) as usize == key
+    }
+
+    // Whether a key is the signing key of a party of a role.
+    pub fn signs_for_role(&self, role: Role, key: usize) -> bool
+        requires { key < length (file_in self.now.file.now).terms }
+        ensures { result ≡ signs_for_role (file_in self.now.file.now) (role_number role) key }
+    {
+        for p in 0..self.parties {
+            if self.signs(p, key) && self.is_role(p, role) {
+                return true;
+            }
+        }
+        false
+    }
+
+    // Whether a key is the signing key of one who may sign.
+    pub fn signs_for_some(&self, who: Signers, key: usize) -> bool
+        requires { key < length (file_in self.now.file.now).terms }
+        ensures { result ≡ signs_for_some (file_in self.now.file.now) who key }
+    {
+        who.maker && self.signs_for_role(Role::TpmMaker, key)
+            || who.oem && self.signs_for_role(Role::OemDesk, key)
+            || who.owner && self.signs_for_role(Role::OwnerDesk, key)
+    }
+
+    // What a hash is of.
+    pub fn hashed_term(&self, t: usize) -> usize
+        requires { t < length (file_in self.now.file.now).terms }
+        ensures { result ≡ hashed_term (file_in self.now.file.now) t }
+    {
+        self.field(t, 0)
+    }
+
+    // A signature.
+    pub fn signature(&self, t: usize) -> Signature
+        requires { t < length (file_in self.now.file.now).terms }
+        ensures message { result.message ≡ message (file_in self.now.file.now) t }
+        ensures key { result.key ≡ signing_key (file_in self.now.file.now) t }
+    {
+        Signature {
+            message: self.field(t, 0),
+            key: self.field(t, 1),
+        }
+    }
+
+    // The attested public key.
+    pub fn attested_key(&self, t: usize) -> usize
+        requires { t < length (file_in self.now.file.now).terms }
+        ensures { result ≡ attested_key (file_in self.now.file.now) t }
+    {
+        self.field(t, 0)
+    }
+
+    // A credential.
+    pub fn credential(&self, t: usize) -> Credential
+        requires { t < length (file_in self.now.file.now).terms }
+        ensures content { result.content ≡ credential_term (file_in self.now.file.now) t }
+        ensures number { result.number ≡ credential_number (file_in self.now.file.now) t }
+        ensures key { result.key ≡ credential_key (file_in self.now.file.now) t }
+    {
+        Credential {
+            content: self.field(t, 0),
+            number: self.field(t, 1),
+            key: self.field(t, 2),
+        }
+    }
+
+    // An IDevID request.
+    pub fn idevid_request(&self, t: usize) -> IdevidRequest
+        requires { kind (file_in self.now.file.now) t ≡ idevid_request_kind }
+        ensures subject { result.subject ≡ subject (file_in self.now.file.now) t }
+        ensures certificate { result.certificate ≡ idevid_certificate (file_in self.now.file.now) t }
+        ensures key { result.key ≡ idevid_key (file_in self.now.file.now) t }
+    {
+        IdevidRequest {
+            subject: subject_of(self.tables.field_of(t, 0), self.tables.field_of(t, 1)),
+            certificate: self.field(t, 2),
+            key: self.field(t, 3),
+        }
+    }
+
+    // An LDevID request.
+    pub fn ldevid_request(&self, t: usize) -> LdevidRequest
+        requires { t < length (file_in self.now.file.now).terms }
+        ensures message { result.message ≡ ldevid_message (file_in self.now.file.now) t }
+        ensures certificate { result.certificate ≡ ldevid_certificate (file_in self.now.file.now) t }
+    {
+        LdevidRequest {
+            message: self.field(t, 0),
+            certificate: self.field(t, 1),
+        }
+    }
+
+    // A certificate.
+    pub fn certificate(&self, t: usize) -> Certificate
+        requires { kind (file_in self.now.file.now) t ≡ certificate_kind }
+        ensures key { result.key ≡ certified_key (file_in self.now.file.now) t }
+        ensures subject { result.subject ≡ subject (file_in self.now.file.now) t }
+        ensures signer { result.signer ≡ signer (file_in self.now.file.now) t }
+    {
+        Certificate {
+            key: self.field(t, 0),
+            subject: subject_of(self.tables.field_of(t, 1), self.tables.field_of(t, 2)),
+            signer: self.field(t, 3),
+        }
+    }
+
+    // The two terms of a pair.
+    pub fn pair(&self, t: usize) -> Pair
+        requires { t < length (file_in self.now.file.now).terms }
+        ensures left { result.left ≡ left_of (file_in self.now.file.now) t }
+        ensures right { result.right ≡ right_of (file_in self.now.file.now) t }
+    {
+        Pair {
+            left: self.field(t, 0),
+            right: self.field(t, 1),
+        }
+    }
+
+    // The register of a 1B term.
+    pub fn register(&self, t: usize) -> usize
+        requires { t < length (file_in self.now.file.now).terms }
+        ensures { result ≡ register_of (file_in self.now.file.now) t }
+    {
+        self.field(t, 0)
+    }
+
+    // A quote body.
+    pub fn quote(&self, t: usize) -> Quote
+        requires { t < length (file_in self.now.file.now).terms }
+        ensures register { result.register ≡ register_of (file_in self.now.file.now) t }
+        ensures value { result.value ≡ quoted_value (file_in self.now.file.now) t }
+        ensures number { result.number ≡ quote_number (file_in self.now.file.now) t }
+    {
+        Quote {
+            register: self.field(t, 0),
+            value: self.field(t, 1),
+            number: self.field(t, 2),
+        }
+    }
+
+    // A party learns a term and everything in it; one that it knows needs no opening.
+    pub fn learn(&self, state: &mut [u8], party: usize, t: usize)
+        requires { Holds self.now.file.now state.old × (party < length (file_in self.now.file.now).roles) × (t < length (file_in self.now.file.now).terms) }
+        ensures { Learns self.now.file.now state.old state.new party t }
+    {
+        if !state::knows(state, party, t) {
+            learning::learn_term(self.tables, state, party, t);
+        }
+    }
+}

@@ -1,7 +1,0 @@
-use Rattle.rules.specs.Limits.{term_limit}
-use Rattle.tables.specs.Regions.{depth_start}
-use Rattle.tables.proofs.Regions.{region_at}
-use Rattle.tables.proofs.depth_of.Goals as goal
-
-pub returns : goal.returns
-returns c = region_at _ depth_start term_limit _ c.requires

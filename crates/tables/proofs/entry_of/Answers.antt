@@ -1,7 +1,0 @@
-use Rattle.rules.specs.Limits.{term_limit}
-use Rattle.tables.specs.Regions.{entry_start}
-use Rattle.tables.proofs.Regions.{region_at}
-use Rattle.tables.proofs.entry_of.Goals as goal
-
-pub returns : goal.returns
-returns c = region_at _ entry_start term_limit _ c.requires
