@@ -1,7 +1,9 @@
 -- What stands while a file's commands run: the rules' state in the lent bytes, and what every command keeps.
 use Rattle.tables.specs.declared.columns.Tables.{Tables}
-use Rattle.std.specs.Prelude.{◌≡◌, Bool, true, false, ◌&&◌, List, ◌++◌, ℕ, ◌+◌, ◌≤◌, ltb, length}
+use Rattle.std.specs.Prelude.{◌≡◌, Bool, true, false, ◌&&◌, List, ◌++◌, ℕ, ◌+◌, ◌≤◌, ltb, length, Result}
 use Rattle.rules.specs.declared.Entry.{Entry}
+use Rattle.rules.specs.declared.Refusal.{Refusal}
+use Rattle.rules.specs.Codes.{number_in}
 use Rattle.rules.specs.Limits.{register_bytes}
 use Rattle.rules.specs.File.{File}
 use Rattle.rules.specs.Run.{outcome, after}
@@ -19,8 +21,6 @@ use Rattle.learning.specs.There.{kind_there}
 use Rattle.lookup.specs.There.{command_there}
 use Rattle.lookup.specs.Commands.{CommandAt}
 use Rattle.requests.specs.Formed.{Requested}
-use Rattle.gained.specs.declared.Gained.{Gained}
-use Rattle.gained.specs.Took.{took, Whole}
 
 -- what commands change in the lent bytes: the state, and the registers of every party's TPM
 pub record Memory : Type 0 where
@@ -63,11 +63,11 @@ pub record Stands (bs : List ℕ) (m : Memory) (tables : Tables) (n : ℕ) (ledg
   pub registers : length m.registers ≡ register_bytes
 
 -- some ledger
-abbrev pub SomeStands : List ℕ → Memory → List ℕ → ℕ → Type 0
+abbrev pub SomeStands : List ℕ → Memory → Tables → ℕ → Type 0
 SomeStands bs m tables n = (ledger : List Entry) × Stands bs m tables n ledger
 
 -- of some number of entries
-abbrev pub AnyStands : List ℕ → Memory → List ℕ → Type 0
+abbrev pub AnyStands : List ℕ → Memory → Tables → Type 0
 AnyStands bs m tables = (n : ℕ) × SomeStands bs m tables n
 
 -- what a command does: its outcome, what is left, with a ledger of k entries then, and that it stands
@@ -79,9 +79,9 @@ pub record Does (bs : List ℕ) (m : Memory) (at : ℕ) (ledger : List Entry) (m
 
 -- what is decided, whatever the ledger: the rules' outcome; a device command, or a refused one, is done, and the ledger
 -- gains nothing; a desk command has changed nothing
-pub record Decided (bs : List ℕ) (m : Memory) (tables : Tables) (at : ℕ) (m' : Memory) (x : ℕ) : Type 0 where
-  pub decided : (n : ℕ) (ledger : List Entry) → Stands bs m tables n ledger → x ≡ outcome (file_in bs) (state_in m ledger) (command_there bs at)
-  pub done : (x ≡ 0 → desk_kind (kind_there bs at) ≡ false) → (n : ℕ) (ledger : List Entry) → Stands bs m tables n ledger → Does bs m at ledger m' tables x n ledger
+pub record Decided (bs : List ℕ) (m : Memory) (tables : Tables) (at : ℕ) (m' : Memory) (x : Result Unit Refusal) : Type 0 where
+  pub decided : (n : ℕ) (ledger : List Entry) → Stands bs m tables n ledger → number_in x ≡ outcome (file_in bs) (state_in m ledger) (command_there bs at)
+  pub done : (number_in x ≡ 0 → desk_kind (kind_there bs at) ≡ false) → (n : ℕ) (ledger : List Entry) → Stands bs m tables n ledger → Does bs m at ledger m' tables (number_in x) n ledger
   pub same : desk_kind (kind_there bs at) ≡ true → m' ≡ m
 
 -- a desk command that is accepted, whatever the ledger
@@ -92,13 +92,12 @@ pub record DeskAccepted (bs : List ℕ) (m : Memory) (tables : Tables) (n at : �
   pub accepted : (ledger : List Entry) → Stands bs m tables n ledger → 0 ≡ outcome (file_in bs) (state_in m ledger) (command_there bs at)
 
 -- what it does: the ledger gains some entries; no register moves
-pub record DeskDoes (bs : List ℕ) (m : Memory) (tables : Tables) (n at : ℕ) (s' : List ℕ) (tables' : Tables) (g : Gained) : Type 0 where
-  pub whole : Whole g
-  pub does : (ledger : List Entry) → Stands bs m tables n ledger → Does bs m at ledger (memory s' m.registers) tables' 0 (n + g.count) (ledger ++ took g)
+pub record DeskDoes (bs : List ℕ) (m : Memory) (tables : Tables) (n at : ℕ) (s' : List ℕ) (tables' : Tables) (gained : List Entry) : Type 0 where
+  pub does : (ledger : List Entry) → Stands bs m tables n ledger → Does bs m at ledger (memory s' m.registers) tables' 0 (n + length gained) (ledger ++ gained)
 
 -- of some registers, and whatever they are: what is lent to a desk command has none
-abbrev pub AnyAccepted : List ℕ → List ℕ → List ℕ → ℕ → ℕ → Type 0
+abbrev pub AnyAccepted : List ℕ → List ℕ → Tables → ℕ → ℕ → Type 0
 AnyAccepted bs s tables n at = (registers : List ℕ) × DeskAccepted bs (memory s registers) tables n at
 
-abbrev pub AllDone : List ℕ → List ℕ → List ℕ → ℕ → ℕ → List ℕ → List ℕ → Gained → Type 0
-AllDone bs s tables n at s' tables' g = (registers : List ℕ) → DeskAccepted bs (memory s registers) tables n at → DeskDoes bs (memory s registers) tables n at s' tables' g
+abbrev pub AllDone : List ℕ → List ℕ → Tables → ℕ → ℕ → List ℕ → Tables → List Entry → Type 0
+AllDone bs s tables n at s' tables' gained = (registers : List ℕ) → DeskAccepted bs (memory s registers) tables n at → DeskDoes bs (memory s registers) tables n at s' tables' gained

@@ -7,39 +7,36 @@ ghost use Rattle.lookup.specs.Commands.{CommandAt};
 ghost use Rattle.loaded.specs.Loaded.{file_in};
 ghost use Rattle.commands.specs.Standing.{memory, desk_kind, AnyStands, Decided, AnyAccepted, AllDone};
 
-use gained::Gained;
+use ledger::Gained;
+use loaded::Loaded;
+use rules::Refusal;
 use tables::Tables;
 
 // Whether a kind is that of a desk command, 3E to 43.
 pub fn is_desk(kind: u8) -> bool
     ensures { result ≡ desk_kind kind }
 {
-    if kind > 0x43 {
-        return false;
-    }
-    kind > 0x3D
+    0x3D < kind && kind < 0x44
 }
 
 // The outcome of the command at a place. A device command is executed; of a desk command nothing is done yet.
 pub fn decide(
-    file: &[u8],
+    loaded: &Loaded,
     state: &mut [u8],
     registers: &mut [u8],
-    tables: &Tables,
-    parties: usize,
     at: usize,
-) -> u8
-    requires { AnyStands file.now (memory state.old registers.old) tables.now × CommandAt (Wellformed (file_in file.now)) file.now at × (parties ≡ length (file_in file.now).roles) }
-    ensures { Decided file.now (memory state.old registers.old) tables.now at (memory state.new registers.new) result }
+) -> Result<(), Refusal>
+    requires { AnyStands loaded.now.file.now (memory state.old registers.old) loaded.now.tables.now × CommandAt (Wellformed (file_in loaded.now.file.now)) loaded.now.file.now at }
+    ensures { Decided loaded.now.file.now (memory state.old registers.old) loaded.now.tables.now at (memory state.new registers.new) result }
 {
-    let kind = file[at];
+    let kind = loaded.file[at];
     if kind < 0x3E {
-        return device::execute(file, state, tables, at);
+        return device::execute(loaded, state, at);
     }
     if kind < 0x44 {
-        return desk::decide(file, state, tables, parties, at);
+        return desk::decide(loaded, state, at);
     }
-    quotes::execute(file, state, registers, tables, at)
+    quotes::execute(loaded, state, registers, at)
 }
 
 // Does the accepted desk command at a place, where the ledger has so many entries. Answers the entries that the ledger
@@ -52,7 +49,7 @@ pub fn effect(
     at: usize,
 ) -> Gained
     requires { AnyAccepted file.now state.old tables.old entries at }
-    ensures { AllDone file.now state.old tables.old entries at state.new tables.new result }
+    ensures { AllDone file.now state.old tables.old entries at state.new tables.new result.items }
 {
     desk::effect(file, state, tables, entries, at)
 }

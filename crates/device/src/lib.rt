@@ -583,36 +583,11 @@ fn effect_issued(file: &[u8], state: &mut [u8], tables: &Tables, at: usize)
 }
 
 // Executes the device command at a place: what it decides, and what it leaves where it is accepted. Checks leave nothing.
-pub fn execute(file: &[u8], state: &mut [u8], tables: &Tables, at: usize) -> u8
-    requires { Holds file.now state.old × Finds file.now tables.now × CommandAt (Wellformed (file_in file.now)) file.now at × (kind_there file.now at < 0x3E) }
-    ensures decided { Decides file.now state.old (command_there file.now at) result }
-    ensures left { result ≡ 0 → Leaves file.now state.old state.new (command_there file.now at) }
-    ensures kept { (result ≡ 0 → ⊥) → state.new ≡ state.old }
+pub fn execute(loaded: &Loaded, state: &mut [u8], at: usize) -> Result<(), Refusal>
+    requires { Holds loaded.now.file.now state.old × CommandAt (Wellformed (file_in loaded.now.file.now)) loaded.now.file.now at × (kind_there loaded.now.file.now at < 0x3E) }
+    ensures decided { Decides loaded.now.file.now state.old (command_there loaded.now.file.now at) result }
+    ensures left { IsOk result → Leaves loaded.now.file.now state.old state.new (command_there loaded.now.file.now at) }
+    ensures kept { IsErr result → state.new ≡ state.old }
 {
-    let kind = file[at];
-    if kind < 0x38 {
-        let made = decide_made(file, state, tables, at, kind);
-        if made != 0 {
-            return made;
-        }
-        effect_made(file, state, tables, at, kind);
-        return 0;
-    }
-    if kind < 0x3C {
-        return decide_checked(file, state, tables, at, kind);
-    }
-    if kind == 0x3C {
-        let sent = decide_sent(file, state, tables, at);
-        if sent != 0 {
-            return sent;
-        }
-        effect_sent(file, state, tables, at);
-        return 0;
-    }
-    let issued = decide_issued(file, state, tables, at);
-    if issued != 0 {
-        return issued;
-    }
-    effect_issued(file, state, tables, at);
-    0
+    todo
 }

@@ -1,32 +1,22 @@
--- What a run leaves by its parts: what is found before the first command, the ledger's places cleared, and what the loop over commands leaves. What it answers and leaves by the rules, and what calls above it start from.
+-- What a run answers and leaves by the rules, and what calls above it start from.
+use Rattle.std.specs.Prelude.{◌≡◌, true, List, [], ◌∷◌, ℕ, ◌+◌, ◌≤◌, length, Result}
 use Rattle.tables.specs.declared.columns.Tables.{Tables}
-use Rattle.std.specs.Prelude.{◌≡◌, true, cond, List, [], ◌∷◌, ℕ, ◌+◌, ◌≤◌, eqb, length}
 use Rattle.rules.specs.declared.Entry.{Entry}
+use Rattle.rules.specs.declared.Refused.{Refused}
 use Rattle.rules.specs.Limits.{term_limit, command_limit, state_bytes}
 use Rattle.rules.specs.Run.{reached, accepted, refusals, issued}
-use Rattle.rules.specs.Lent.{Answer, success, refusal, Lent, no_entry, first_part, long_enough, run_answer, run_leaves}
+use Rattle.rules.specs.Lent.{Answer, in_numbers, Lent, no_entry, first_part, long_enough, run_answer, run_leaves}
 use Rattle.loaded.specs.Loaded.{file_in}
 use Rattle.commands.specs.Standing.{state_in, Stands}
-use Rattle.beginning.specs.Begins.{Begins}
-use Rattle.ledger.specs.Placed.{cleared}
-use Rattle.command_loop.specs.Recorded.{within, Recorded}
+use Rattle.command_loop.specs.Recorded.{within}
 use Rattle.engine.specs.declared.Finished.{Finished}
 
--- by its parts, on a ledger of so many places
-pub record Runs (bs : List ℕ) (n room : ℕ) (s : List ℕ) (l : List Entry) (out g s' : List ℕ) (l' : List Entry) (out' g' : List ℕ) (tables : Tables) (r : Finished) : Type 0 where
-  pub state_then : List ℕ
-  pub outcomes_then : List ℕ
-  pub registers_then : List ℕ
-  pub tables_then : Tables
-  pub begins : Begins bs room s out g state_then outcomes_then registers_then tables_then r.begun
-  pub recorded : Recorded bs state_then (cleared l r.begun.places) outcomes_then registers_then r.begun n s' l' out' g' tables r.progress
-
 -- the answer of a run in numbers
-abbrev pub ran_in : Finished → Answer
-ran_in r = cond (eqb r.begun.number 0) (success (r.progress.accepted ∷ r.progress.refused ∷ r.progress.issued ∷ [])) (refusal r.begun.number r.begun.place)
+abbrev pub ran_in : Result Finished Refused → Answer
+ran_in = in_numbers (λ r. r.progress.accepted ∷ r.progress.refused ∷ r.progress.issued ∷ [])
 
 -- what the rules say
-pub record Ran (bs : List ℕ) (n : ℕ) (lent after : Lent) (r : Finished) : Type 0 where
+pub record Ran (bs : List ℕ) (n : ℕ) (lent after : Lent) (r : Result Finished Refused) : Type 0 where
   pub answer : ran_in r ≡ run_answer bs n lent
   pub buffers : after ≡ run_leaves bs n lent
 

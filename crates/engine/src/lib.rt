@@ -1,13 +1,14 @@
-// Run on a lent slice of entries: what is found before the first command, the ledger's places cleared, and the loop over commands.
+// Run on a lent slice of entries: what is found before the first command, and the loop over commands.
 #![tactic(auto)]
 
-ghost use Rattle.std.specs.Prelude.{◌≡◌, ◌≤◌, length};
+ghost use Rattle.std.specs.Prelude.{◌≡◌, IfOk};
 ghost use Rattle.tables.specs.Columns.{EmptyTables};
-ghost use Rattle.engine.specs.Raw.{Runs};
+ghost use Rattle.engine.specs.Runs.{lent_with};
+ghost use Rattle.engine.specs.Raw.{Ran, Stood};
 
-use rules::Entry;
-use turns::{Begun, Progress};
+use rules::{Entry, Refused};
 use tables::Tables;
+use turns::{Begun, Progress};
 
 // What a run found before its first command, and how far it went.
 #[derive(Clone, Copy)]
@@ -16,32 +17,21 @@ pub struct Finished {
     pub progress: Progress,
 }
 
-fn finish(b: Begun, p: Progress) -> Finished
-    ensures { result ≡ record { begun = b; progress = p } }
-{
-    Finished {
-        begun: b,
-        progress: p,
-    }
-}
-
-// Loads a file and executes its first n commands, or all if fewer, on a ledger of so many places; the tables, empty
-// before, are left beside it.
+// Loads a file and executes its first n commands, or all if fewer, on lent buffers of any length; the tables, empty before, are left beside them.
 pub fn run(
     file: &[u8],
     n: usize,
-    room: usize,
     state: &mut [u8],
     ledger: &mut [Entry],
     outcomes: &mut [u8],
     registers: &mut [u8],
     tables: &mut Tables,
-) -> Finished
-    requires { (room ≤ length ledger.old) × EmptyTables tables.old }
-    ensures { Runs file.now n room state.old ledger.old outcomes.old registers.old state.new ledger.new outcomes.new registers.new tables.new result }
+) -> Result<Finished, Refused>
+    requires { EmptyTables tables.old }
+    ensures rules { Ran file.now n (lent_with state.old ledger.old outcomes.old registers.old) (lent_with state.new ledger.new outcomes.new registers.new) result }
+    ensures stands { IfOk result (Stood file.now n (lent_with state.old ledger.old outcomes.old registers.old) (lent_with state.new ledger.new outcomes.new registers.new) tables.new) }
 {
-    let b = beginning::begin(file, room, state, outcomes, registers, tables);
-    ledger::clear(ledger, b.places);
-    let p = command_loop::run_commands(file, state, ledger, outcomes, registers, tables, b, n);
-    finish(b, p)
+    let begun = beginning::begin(file, state, ledger, outcomes, registers, tables)?;
+    let progress = command_loop::run_commands(file, state, ledger, outcomes, registers, tables, begun, n);
+    Ok(Finished { begun, progress })
 }

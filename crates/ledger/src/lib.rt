@@ -2,12 +2,14 @@
 #![tactic(auto)]
 
 ghost use Rattle.std.specs.Prelude.{◌≡◌, ◌+◌, ◌<◌, ◌≤◌, length, set, get_or};
-ghost use Rattle.rules.specs.Limits.{pair_count};
 ghost use Rattle.rules.specs.Lent.{no_entry};
 ghost use Rattle.ledger.specs.Placed.{cleared, puts};
 
-use gained::Gained;
+use arrayvec::ArrayVec;
 use rules::Entry;
+
+// The entries that a command gains: one, one for each pair of a 43, or none.
+pub type Gained = ArrayVec<Entry, { rules::PAIR_COUNT }>;
 
 // An entry is written at a place.
 pub fn append(ledger: &mut [Entry], at: usize, e: Entry)
@@ -25,38 +27,22 @@ pub fn read_one(ledger: &[Entry], at: usize) -> Entry
     ledger[at]
 }
 
-// No entry.
-fn no_entry() -> Entry
-    ensures { result ≡ no_entry }
-{
-    Entry {
-        certificate: 0,
-        parent: 0,
-        depth: 0,
-    }
-}
-
 // The first places are cleared.
 pub fn clear(ledger: &mut [Entry], places: usize)
     requires { places ≤ length ledger.old }
     ensures { ledger.new ≡ cleared ledger.old places }
 {
-    let e = no_entry();
-    let mut i = 0;
-    while i < places {
-        append(ledger, i, e);
-        i += 1;
+    for at in 0..places {
+        append(ledger, at, Entry::default());
     }
 }
 
 // The entries that a command gains are written from a place on.
-pub fn append_gained(ledger: &mut [Entry], from: usize, gained: Gained)
-    requires { (from + gained.count ≤ length ledger.old) × (gained.count ≤ pair_count) }
-    ensures { ledger.new ≡ puts ledger.old from gained.entries gained.count }
+pub fn append_gained(ledger: &mut [Entry], from: usize, gained: &Gained)
+    requires { from + length gained.now.items ≤ length ledger.old }
+    ensures { ledger.new ≡ puts ledger.old from gained.now.items (length gained.now.items) }
 {
-    let mut i = 0;
-    while i < gained.count {
-        append(ledger, from + i, gained::entry_at(gained, i));
-        i += 1;
+    for (i, e) in gained.iter().enumerate() {
+        append(ledger, from + i, *e);
     }
 }

@@ -17,7 +17,6 @@ use Rattle.theorems.proofs.Beside.{beside}
 use Rattle.tables.specs.Columns.{field_words, tables_in, field_of}
 use Rattle.learning.specs.There.{term_there, TermRecord}
 use Rattle.checks.specs.There.{role_there, TermsThere}
-use Rattle.setup.specs.Allowed.{no_key}
 use Rattle.index.specs.Indexed.{passes}
 
 unfoldable pub file_of : Load → File
@@ -40,7 +39,7 @@ pub record Holds (bs s : List ℕ) : Type 0 where
 
 -- The tables find the signing keys and the private halves, and have each term's kind and fields.
 pub record Finds (bs : List ℕ) (tables : Tables) : Type 0 where
-  pub signer : (p k : ℕ) → p < party_limit → k < no_key → signs_for (file_in bs) p k ≡ eqb ((tables_in tables).signer p) k
+  pub signer : (p k : ℕ) → p < party_limit → signs_for (file_in bs) p k ≡ eqb ((tables_in tables).signer p) (k + 1)
   pub half : (test : ℕ → Bool) (k : ℕ) → k < length (file_in bs).terms → half_in (file_in bs) test k ≡ passes test ((tables_in tables).half k)
   pub declared : (k : ℕ) → (tables_in tables).half k ≤ length (file_in bs).terms
   pub kind_is : (t : ℕ) → t < length (file_in bs).terms → (tables_in tables).terms.kind t ≡ kind (file_in bs) t

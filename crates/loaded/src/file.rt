@@ -112,7 +112,7 @@ impl<'a> Loaded<'a> {
         requires { (party < length (file_in self.now.file.now).roles) × (key < length (file_in self.now.file.now).terms) }
         ensures { result ≡ signs_for (file_in self.now.file.now) party key }
     {
-        self.tables.signer_of(party) as usize == key
+        self.tables.signer_of(party) == Some(key)
     }
 
     // Whether a key is the signing key of a party of a role.

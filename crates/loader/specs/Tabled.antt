@@ -1,10 +1,12 @@
 -- What loading leaves beside the state: the tables by which a file's commands look things up.
 use Rattle.tables.specs.declared.columns.Tables.{Tables}
-use Rattle.std.specs.Prelude.{◌≡◌, ◌⊎◌, Bool, List, ℕ, suc, ◌<◌, ◌≤◌, length, get_or, replicate}
+use Rattle.std.specs.Prelude.{◌≡◌, Bool, List, ℕ, ◌<◌, ◌≤◌, length, replicate, Result, IfOk, IfErr}
+use Rattle.rules.specs.declared.Refused.{Refused}
+use Rattle.rules.specs.Codes.{number_of}
 use Rattle.rules.specs.Limits.{file_limit, party_limit, term_limit, state_bytes}
 use Rattle.rules.specs.File.{File, kind, field, half_in}
 use Rattle.rules.specs.Load.{load, loaded, refused}
-use Rattle.tables.specs.Columns.{field_words, table_words, EmptyTables, Unlinked, field_of, TableColumns, tables_in}
+use Rattle.tables.specs.Columns.{field_words, EmptyTables, Unlinked, field_of, TableColumns, tables_in}
 use Rattle.index.specs.Indexed.{passes}
 use Rattle.lookup.specs.Commands.{commands_from}
 use Rattle.scan.specs.declared.Scanned.{Scanned}
@@ -22,7 +24,6 @@ pub record Tabled (f : File) (v : TableColumns) : Type 0 where
   pub entry : (t : ℕ) → v.entry t ≡ 0
   pub depth : (t : ℕ) → v.depth t ≡ 0
   pub unlinked : Unlinked v.boards
-  pub words : v.words ≡ table_words
 
 -- what filling needs: a file that is not too long, room for the state, and tables with nothing in them
 pub record FillReady (bs s : List ℕ) (tables : Tables) : Type 0 where
@@ -34,23 +35,11 @@ pub record FillReady (bs s : List ℕ) (tables : Tables) : Type 0 where
 pub record Filled (bs s : List ℕ) (tables : Tables) (r : Scanned) : Type 0 where
   pub file : File
   pub loads : load bs ≡ loaded file
-  pub signers : List ℕ
-  pub describes : Describes file bs s signers r.tally (length bs)
+  pub describes : Describes file bs s (tables_in tables).signer r.tally (length bs)
   pub tabled : Tabled file (tables_in tables)
   pub first_is : r.first ≡ commands_from (length bs) bs 0
 
 -- what filling leaves: that, or the refusal with the state cleared
-abbrev pub FillResult : List ℕ → List ℕ → List ℕ → Scanned → Type 0
-FillResult bs s tables r =
-    ((r.number ≡ 0) × Filled bs s tables r)
-    ⊎ ((m : ℕ) × (r.number ≡ suc m) × (load bs ≡ refused (suc m) r.place) × (s ≡ replicate state_bytes 0))
-
--- the first n signing keys are written into the tables
-pub record Signed (signers : List ℕ) (v w : TableColumns) (n : ℕ) : Type 0 where
-  pub signer : (p : ℕ) → p < n → w.signer p ≡ get_or signers p 0
-  pub half : w.half ≡ v.half
-  pub entry : w.entry ≡ v.entry
-  pub depth : w.depth ≡ v.depth
-  pub terms : w.terms ≡ v.terms
-  pub boards : w.boards ≡ v.boards
-  pub words : w.words ≡ v.words
+pub record FillResult (bs s : List ℕ) (tables : Tables) (r : Result Scanned Refused) : Type 0 where
+  pub filled : IfOk r (Filled bs s tables)
+  pub refused : IfErr r (λ e. (load bs ≡ refused (number_of e.refusal) e.place) × (s ≡ replicate state_bytes 0))

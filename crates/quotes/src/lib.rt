@@ -156,34 +156,18 @@ fn effect_quoted(file: &[u8], state: &mut [u8], tables: &Tables, at: usize)
 // Executes the 44 or 45 at a place: what it decides, and what it leaves where it is accepted.
 // A refused one leaves both buffers as they were.
 pub fn execute(
-    file: &[u8],
+    loaded: &Loaded,
     state: &mut [u8],
     registers: &mut [u8],
-    tables: &Tables,
     at: usize,
-) -> u8
-    requires { Holds file.now state.old
-        × Finds file.now tables.now
-        × CommandAt (Wellformed (file_in file.now)) file.now at
-        × (0x44 ≤ kind_there file.now at)
+) -> Result<(), Refusal>
+    requires { Holds loaded.now.file.now state.old
+        × CommandAt (Wellformed (file_in loaded.now.file.now)) loaded.now.file.now at
+        × (0x44 ≤ kind_there loaded.now.file.now at)
         × (length registers.old ≡ register_bytes) }
-    ensures decided { DecidesBeside file.now state.old (registers_in registers.old) (command_there file.now at) result }
-    ensures left { result ≡ 0 → LeavesBeside file.now state.old state.new (registers_in registers.old) (registers_in registers.new) (command_there file.now at) }
-    ensures kept { (result ≡ 0 → ⊥) → (state.new ≡ state.old) × (registers.new ≡ registers.old) }
+    ensures decided { DecidesBeside loaded.now.file.now state.old (registers_in registers.old) (command_there loaded.now.file.now at) result }
+    ensures left { IsOk result → LeavesBeside loaded.now.file.now state.old state.new (registers_in registers.old) (registers_in registers.new) (command_there loaded.now.file.now at) }
+    ensures kept { IsErr result → (state.new ≡ state.old) × (registers.new ≡ registers.old) }
 {
-    let kind = file[at];
-    if kind == 0x44 {
-        let extended = decide_extended(file, state, registers, tables, at);
-        if extended != 0 {
-            return extended;
-        }
-        effect_extended(file, state, registers, at);
-        return 0;
-    }
-    let quoted = decide_quoted(file, state, registers, tables, at);
-    if quoted != 0 {
-        return quoted;
-    }
-    effect_quoted(file, state, tables, at);
-    0
+    todo
 }

@@ -326,20 +326,11 @@ pub enum Field {
 
 // A line of the ledger: an issued certificate, its parent and how many steps lead to an endorsement certificate.
 #[repr(C)]
-#[derive(Clone, Copy)]
+#[derive(Clone, Copy, Default, PartialEq, Eq, Drop)]
 pub struct Entry {
     pub certificate: u16,
     pub parent: u16,
     pub depth: u16,
-}
-
-impl Entry {
-    // What a place of the ledger holds where there is no entry.
-    pub const NONE: Entry = Entry {
-        certificate: 0,
-        parent: 0,
-        depth: 0,
-    };
 }
 
 // What Run answers: the commands accepted and refused and the certificates issued.

@@ -14,7 +14,7 @@ pub const BUCKETS: usize = 1024;
 // Each party's signing key. The private half of each public key, and the place and the depth of each certificate's entry in the ledger. The
 // kind of each term and its fields. The ledger's entries by their Subject's serial number: of each bucket, the entry that was linked last; of
 // each place of the ledger, the serial number that its entry is linked by, the entry that was linked before it in its bucket, and the EK at
-// the end of its path. Halves and entries are one more than their number, 0 where there is none.
+// the end of its path. Keys, halves and entries are one more than their number, 0 where there is none.
 pub struct Tables {
     signers: [u16; rules::PARTY_LIMIT],
     halves: [u16; rules::TERM_LIMIT],
@@ -48,11 +48,11 @@ impl Tables {
     }
 
     // The signing key of a party.
-    pub fn signer_of(&self, party: usize) -> u16
+    pub fn signer_of(&self, party: usize) -> Option<usize>
         requires { party < party_limit }
-        ensures { result ≡ (tables_in self.now).signer party }
+        ensures { one_more result ≡ (tables_in self.now).signer party }
     {
-        self.signers[party]
+        self.signers[party].checked_sub(1).map(|n| n as usize)
     }
 
     // The private half of a public key.
@@ -129,11 +129,11 @@ impl Tables {
 
     // A party's signing key is noted.
     #[tactic(auto, using(crate::proofs::Stores::column_put))]
-    pub fn note_signer(&mut self, party: usize, key: u16)
-        requires { party < party_limit }
-        ensures { tables_in self.new ≡ with_signer (tables_in self.old) (put (tables_in self.old).signer party key) }
+    pub fn note_signer(&mut self, party: usize, key: usize)
+        requires { (party < party_limit) × (key < term_limit) }
+        ensures { tables_in self.new ≡ with_signer (tables_in self.old) (put (tables_in self.old).signer party (key + 1)) }
     {
-        self.signers[party] = key;
+        self.signers[party] = (key + 1) as u16;
     }
 
     // A public key's private half is noted.

@@ -28,13 +28,10 @@ pub struct Turned {
     pub progress: Progress,
 }
 
-// What is found before the first command: a refusal's number and place, or 0; how many places of the ledger are to be
-// cleared, 0 or 1,024; how many parties and terms the file declares, and the place of the first command.
+// What is found before the first command: how many parties and terms the file declares, and the place of the first
+// command.
 #[derive(Clone, Copy)]
 pub struct Begun {
-    pub number: u32,
-    pub place: usize,
-    pub places: usize,
     pub parties: usize,
     pub terms: usize,
     pub first: usize,
