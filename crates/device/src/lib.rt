@@ -586,8 +586,8 @@ fn effect_issued(file: &[u8], state: &mut [u8], tables: &Tables, at: usize)
 pub fn execute(loaded: &Loaded, state: &mut [u8], at: usize) -> Result<(), Refusal>
     requires { Holds loaded.now.file.now state.old × CommandAt (Wellformed (file_in loaded.now.file.now)) loaded.now.file.now at × (kind_there loaded.now.file.now at < 0x3E) }
     ensures decided { Decides loaded.now.file.now state.old (command_there loaded.now.file.now at) result }
-    ensures left { IsOk result → Leaves loaded.now.file.now state.old state.new (command_there loaded.now.file.now at) }
-    ensures kept { IsErr result → state.new ≡ state.old }
+    ensures left { OnOk result (Leaves loaded.now.file.now state.old state.new (command_there loaded.now.file.now at)) }
+    ensures kept { OnErr result (state.new ≡ state.old) }
 {
     todo
 }

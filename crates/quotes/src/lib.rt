@@ -166,8 +166,8 @@ pub fn execute(
         × (0x44 ≤ kind_there loaded.now.file.now at)
         × (length registers.old ≡ register_bytes) }
     ensures decided { DecidesBeside loaded.now.file.now state.old (registers_in registers.old) (command_there loaded.now.file.now at) result }
-    ensures left { IsOk result → LeavesBeside loaded.now.file.now state.old state.new (registers_in registers.old) (registers_in registers.new) (command_there loaded.now.file.now at) }
-    ensures kept { IsErr result → (state.new ≡ state.old) × (registers.new ≡ registers.old) }
+    ensures left { OnOk result (LeavesBeside loaded.now.file.now state.old state.new (registers_in registers.old) (registers_in registers.new) (command_there loaded.now.file.now at)) }
+    ensures kept { OnErr result ((state.new ≡ state.old) × (registers.new ≡ registers.old)) }
 {
     todo
 }

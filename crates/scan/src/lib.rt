@@ -22,11 +22,9 @@ pub struct Tally {
     pub commands: usize,
 }
 
-// What the scan of a file found: the refusal and its place, or 0; the place of the first command's record, or the file's end; and the counts.
+// What the scan of a file found: the place of the first command's record, or the file's end; and the counts.
 #[derive(Clone, Copy)]
 pub struct Scanned {
-    pub number: u8,
-    pub place: usize,
     pub first: usize,
     pub tally: Tally,
 }
