@@ -3,6 +3,7 @@
 
 ghost use Rattle.std.specs.Prelude.{◌≡◌, ◌⊎◌, true, ℕ, ◌+◌, ◌*◌, ◌<◌, ◌≤◌, ltb, length, get_or};
 ghost use Rattle.rules.specs.declared.Field.TheVariants.{TermOf, IakPairField};
+ghost use Rattle.rules.specs.Codes.{number_in};
 ghost use Rattle.rules.specs.Limits.{row_width};
 ghost use Rattle.rules.specs.Term.{hash_kind, signature_kind};
 ghost use Rattle.rules.specs.Record.{body_length, width as width_of, word};
@@ -65,27 +66,27 @@ pub fn kind_there(file: &[u8], state: &[u8], t: usize) -> u8
 }
 
 // A byte of the body below a limit: 0, or 7.
-fn check_byte(body: &[u8], i: usize, limit: usize) -> u8
+fn check_byte(body: &[u8], i: usize, limit: usize) -> Result<(), Refusal>
     requires { i < length body.now }
-    ensures { result ≡ refuse_unless 7 (ltb (get_or body.now i 0) limit) }
+    ensures { number_in result ≡ refuse_unless 7 (ltb (get_or body.now i 0) limit) }
 {
     let b = body[i] as usize;
-    if b < limit { 0 } else { 7 }
+    if b < limit { Ok(()) } else { Err(Refusal::FieldRange) }
 }
 
 // A declared term number in the body: 0, or 7.
-fn check_declared(body: &[u8], i: usize, terms: usize) -> u8
+fn check_declared(body: &[u8], i: usize, terms: usize) -> Result<(), Refusal>
     requires { i + 1 < length body.now }
-    ensures { result ≡ refuse_unless 7 (ltb (word body.now i) terms) }
+    ensures { number_in result ≡ refuse_unless 7 (ltb (word body.now i) terms) }
 {
     let t = records::word_at(body, i) as usize;
-    if t < terms { 0 } else { 7 }
+    if t < terms { Ok(()) } else { Err(Refusal::FieldRange) }
 }
 
 // A declared term of a kind in the body: 0, 7 or 8.
-fn check_kind(tables: &Tables, body: &[u8], i: usize, kind: u8, terms: usize) -> u8
+fn check_kind(tables: &Tables, body: &[u8], i: usize, kind: u8, terms: usize) -> Result<(), Refusal>
     requires { TermsNoted (tables_in tables.now).terms terms × (i + 1 < length body.now) }
-    ensures { result ≡ field_fault_noted (tables_in tables.now).terms 0 terms (TermOf kind) i body.now }
+    ensures { number_in result ≡ field_fault_noted (tables_in tables.now).terms 0 terms (TermOf kind) i body.now }
 {
     let t = records::word_at(body, i) as usize;
     if terms <= t {
@@ -106,11 +107,11 @@ fn check_inner(
     outer: u16,
     inner: u16,
     terms: usize,
-) -> u8
+) -> Result<(), Refusal>
     requires { TermsNoted (tables_in tables.now).terms terms
         × (i + 1 < length body.now)
         × ((outer ≡ hash_kind) ⊎ (outer ≡ signature_kind)) }
-    ensures { result ≡ inner_fault_noted (tables_in tables.now).terms terms outer inner (word body.now i) }
+    ensures { number_in result ≡ inner_fault_noted (tables_in tables.now).terms terms outer inner (word body.now i) }
 {
     let t = records::word_at(body, i) as usize;
     if terms <= t {
@@ -140,9 +141,9 @@ pub fn empty_pair(body: &[u8], i: usize) -> bool
 }
 
 // A credential and a certificate in the body, or an empty pair: 0, 7 or 8.
-fn check_pair(tables: &Tables, body: &[u8], i: usize, terms: usize) -> u8
+fn check_pair(tables: &Tables, body: &[u8], i: usize, terms: usize) -> Result<(), Refusal>
     requires { TermsNoted (tables_in tables.now).terms terms × (i + 3 < length body.now) }
-    ensures { result ≡ field_fault_noted (tables_in tables.now).terms 0 terms IakPairField i body.now }
+    ensures { number_in result ≡ field_fault_noted (tables_in tables.now).terms 0 terms IakPairField i body.now }
 {
     let second = i + 2;
     if empty_pair(body, i) {
@@ -163,9 +164,9 @@ pub fn check_field(
     i: usize,
     parties: usize,
     terms: usize,
-) -> u8
+) -> Result<(), Refusal>
     requires { TermsNoted (tables_in tables.now).terms terms × (i + width_of field ≤ length body.now) }
-    ensures { result ≡ field_fault_noted (tables_in tables.now).terms parties terms field i body.now }
+    ensures { number_in result ≡ field_fault_noted (tables_in tables.now).terms parties terms field i body.now }
 {
     match field {
         Field::RoleField => check_byte(body, i, rules::ROLE_COUNT),
@@ -191,9 +192,9 @@ pub fn check_command_field(
     i: usize,
     parties: usize,
     terms: usize,
-) -> u8
+) -> Result<(), Refusal>
     requires { TermsNoted (tables_in tables.now).terms terms × (i + width_of field ≤ length body.now) }
-    ensures { result ≡ field_fault_noted (tables_in tables.now).terms parties terms field i body.now }
+    ensures { number_in result ≡ field_fault_noted (tables_in tables.now).terms parties terms field i body.now }
 {
     match field {
         Field::RoleField => check_field(tables, body, field, i, parties, terms),
@@ -212,9 +213,9 @@ pub fn check_command_field(
 }
 
 // 7, 8 at the term that a command from 30 to 37 makes, by its field: 0, or the refusal; 7 where it is no such field.
-fn check_made(tables: &Tables, body: &[u8], field: Field, terms: usize) -> u8
+fn check_made(tables: &Tables, body: &[u8], field: Field, terms: usize) -> Result<(), Refusal>
     requires { TermsNoted (tables_in tables.now).terms terms × (2 < length body.now) }
-    ensures { result ≡ 0 → (parties : ℕ) → field_fault_noted (tables_in tables.now).terms parties terms field 1 body.now ≡ 0 }
+    ensures { number_in result ≡ 0 → (parties : ℕ) → field_fault_noted (tables_in tables.now).terms parties terms field 1 body.now ≡ 0 }
 {
     if let Field::TermOf(kind) = field {
         return check_kind(tables, body, 1, kind, terms);

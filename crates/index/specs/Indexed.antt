@@ -11,7 +11,7 @@ use Rattle.records.specs.Keys.{key_of}
 use Rattle.learning.specs.There.{term_there}
 use Rattle.learning.specs.Noted.{Noted}
 use Rattle.checks.specs.There.{TermsThere}
-use Rattle.tables.specs.Columns.{table_words, Unlinked, Terms, field_of, tables_in, with_kind, with_field}
+use Rattle.tables.specs.Columns.{Unlinked, Terms, field_of, tables_in, with_kind, with_field}
 use Rattle.index.specs.declared.Searched.{Searched}
 use Rattle.index.specs.Tree.{bucket_of, Met, Tree, Free, Found}
 
@@ -55,7 +55,6 @@ Unlike bs place n = (t u : ℕ) → t < n → u < n → alike (term_there bs (pl
 -- an entry in the ledger, and none is linked
 pub record Indexed (bs : List ℕ) (place : ℕ → ℕ) (links : List ℕ) (tables : Tables) (n : ℕ) : Type 0 where
   pub tree : Tree links n
-  pub words : length tables ≡ table_words
   pub noted : Noted bs place (tables_in tables).terms n
   pub met : (t : ℕ) → t < n → Met links t (get_or links (bucket_of (key_there bs place t)) 0) (key_there bs place t)
   pub unlike : Unlike bs place n

@@ -2,15 +2,17 @@
 #![tactic(auto)]
 
 ghost use Rattle.std.specs.Prelude.{◌≡◌, cond, not, ◌+◌, ◌<◌, ◌≤◌, eqb, length};
+ghost use Rattle.rules.specs.Codes.{number_in};
 ghost use Rattle.rules.specs.Limits.{term_limit};
 ghost use Rattle.rules.specs.Load.{refuse_unless, term_at};
 ghost use Rattle.rules.specs.State.{put};
 ghost use Rattle.state.specs.View.{view, with_place};
-ghost use Rattle.tables.specs.Columns.{table_words, tables_in, with_terms};
+ghost use Rattle.tables.specs.Columns.{tables_in, with_terms};
 ghost use Rattle.checks.specs.There.{any_alike_there};
 ghost use Rattle.index.specs.Indexed.{words_noted, key_noted, term_noted, other_half, Indexed, Reached, SearchResult, EntersTerm};
 
 use records::Words;
+use rules::Refusal;
 use tables::Tables;
 
 pub const BUCKETS: usize = 1024;
@@ -67,7 +69,7 @@ fn key_of(tables: &Tables, t: usize) -> u64
 
 // The kind of a term and its words.
 fn note_term(tables: &mut Tables, t: usize, kind: u8, words: Words)
-    requires { (length tables.old ≡ table_words) × (t < term_limit) }
+    requires { t < term_limit }
     ensures { tables_in tables.new ≡ with_terms (tables_in tables.old) (term_noted (tables_in tables.old).terms t kind words) }
 {
     tables.note_kind(t, kind as u16);
@@ -129,11 +131,11 @@ pub fn enter_term(
     kind: u8,
     at: usize,
     terms: usize,
-) -> u8
+) -> Result<(), Refusal>
     requires { EntersTerm file.now state.old links.old tables.old body.now kind at terms }
-    ensures refusal { result ≡ refuse_unless 9 (not (any_alike_there file.now (view state.old).place (term_at kind body.now) terms)) }
-    ensures left { view state.new ≡ cond (eqb result 0) (with_place (view state.old) (put (view state.old).place terms at)) (view state.old) }
-    ensures indexed { result ≡ 0 → Indexed file.now (view state.new).place links.new tables.new (terms + 1) }
+    ensures refusal { number_in result ≡ refuse_unless 9 (not (any_alike_there file.now (view state.old).place (term_at kind body.now) terms)) }
+    ensures left { view state.new ≡ cond (eqb (number_in result) 0) (with_place (view state.old) (put (view state.old).place terms at)) (view state.old) }
+    ensures indexed { number_in result ≡ 0 → Indexed file.now (view state.new).place links.new tables.new (terms + 1) }
 {
     let words = records::words_in(kind, body);
     let key = records::key(words.first, words.second, words.third, words.fourth);

@@ -1,5 +1,7 @@
 -- What the file's bytes, the state's bytes, the signing keys and the counts say of the file declared so far.
-use Rattle.std.specs.Prelude.{◌≡◌, ◌⊎◌, cond, not, List, [], ◌∷◌, ℕ, suc, ◌+◌, ◌*◌, ◌<◌, ◌≤◌, eqb, length, get_or, replicate}
+use Rattle.std.specs.Prelude.{◌≡◌, cond, not, List, [], ◌∷◌, ℕ, suc, ◌+◌, ◌*◌, ◌<◌, ◌≤◌, eqb, length, get_or, replicate, Result, IfOk, IfErr}
+use Rattle.rules.specs.declared.Refused.{Refused}
+use Rattle.rules.specs.Codes.{number_of}
 use Rattle.rules.specs.Limits.{file_limit, party_limit, term_limit, state_bytes}
 use Rattle.rules.specs.Record.{section_of, body_length, party_section, term_section, setup_section, command_section, word}
 use Rattle.rules.specs.File.{File, Setup, learns, holds, signs_with, term, role_of, holds_key}
@@ -7,25 +9,26 @@ use Rattle.rules.specs.Load.{refuse_unless, term_at, setup_at, feed, load, loade
 use Rattle.rules.specs.State.{taught, put}
 use Rattle.records.specs.Codes.{FieldRows}
 use Rattle.state.specs.View.{Columns, view, with_place}
-use Rattle.tables.specs.Columns.{Terms}
+use Rattle.tables.specs.declared.columns.Tables.{Tables}
+use Rattle.tables.specs.Columns.{Terms, EmptyTables}
 use Rattle.learning.specs.There.{term_there}
 use Rattle.learning.specs.Noted.{Noted}
 use Rattle.checks.specs.There.{TermsThere, role_there, any_alike_there}
-use Rattle.setup.specs.Allowed.{no_key, allowed_there, setup_leaves, signers_leave}
+use Rattle.setup.specs.Allowed.{allowed_there, setup_leaves, signers_leave}
 use Rattle.theorems.proofs.Loading.{Good}
 use Rattle.theorems.proofs.Pieces.{from}
 use Rattle.scan.specs.declared.Tally.{Tally}
 use Rattle.scan.specs.declared.Scanned.{Scanned}
 
--- the signing key of a party, by the set-up records
+-- one more than the signing key of a party, by the set-up records; 0 where it has none
 unfoldable pub signer_of : List Setup → ℕ → ℕ
-signer_of [] p = no_key
+signer_of [] p = 0
 signer_of (learns q t ∷ xs) p = signer_of xs p
 signer_of (holds q k ∷ xs) p = signer_of xs p
-signer_of (signs_with q k ∷ xs) p = cond (eqb q p) k (signer_of xs p)
+signer_of (signs_with q k ∷ xs) p = cond (eqb q p) (k + 1) (signer_of xs p)
 
 -- the file declared by the records before a place
-pub record Describes (f : File) (bs s signers : List ℕ) (n : Tally) (at : ℕ) : Type 0 where
+pub record Describes (f : File) (bs s : List ℕ) (signers : ℕ → ℕ) (n : Tally) (at : ℕ) : Type 0 where
   pub section_is : f.section ≡ n.section
   pub parties_are : length f.roles ≡ n.parties
   pub terms_are : length f.terms ≡ n.terms
@@ -42,7 +45,7 @@ pub record Describes (f : File) (bs s signers : List ℕ) (n : Tally) (at : ℕ)
   pub place_beyond : (t : ℕ) → n.terms ≤ t → (view s).place t ≡ 0
   pub knows : (view s).knows ≡ taught f f.setup
   pub table : (view s).table ≡ holds_key f
-  pub signer : (p : ℕ) → p < party_limit → get_or signers p 0 ≡ signer_of f.setup p
+  pub signer : (p : ℕ) → p < party_limit → signers p ≡ signer_of f.setup p
   -- nothing else is written
   pub mark : (t : ℕ) → (view s).mark t ≡ 0
   pub desk : (t : ℕ) → (view s).desk t ≡ 0
@@ -57,7 +60,7 @@ counted own n =
     (record { section = own; parties = n.parties; terms = n.terms; commands = n.commands + 1 })))
 
 -- 9 to 12 at a record whose fields are right
-unfoldable pub last_fault : List ℕ → Columns → List ℕ → Tally → ℕ → List ℕ → ℕ
+unfoldable pub last_fault : List ℕ → Columns → (ℕ → ℕ) → Tally → ℕ → List ℕ → ℕ
 last_fault bs v signers n k body =
     cond (eqb (section_of k) term_section) (refuse_unless 9 (not (any_alike_there bs v.place (term_at k body) n.terms)))
     (cond (eqb (section_of k) setup_section) (allowed_there bs v signers n.parties (setup_at k body))
@@ -70,7 +73,7 @@ columns_after bs v n k body at =
     (cond (eqb (section_of k) setup_section) (setup_leaves bs v (setup_at k body))
     v)
 
-unfoldable pub signers_after : List ℕ → ℕ → List ℕ → List ℕ
+unfoldable pub signers_after : (ℕ → ℕ) → ℕ → List ℕ → ℕ → ℕ
 signers_after signers k body = cond (eqb (section_of k) setup_section) (signers_leave signers (setup_at k body)) signers
 
 -- what entering a record needs: its fields are right, and there is room for it
@@ -85,41 +88,38 @@ pub record EnterReady (bs s body : List ℕ) (k at : ℕ) (n : Tally) : Type 0 w
   pub declared : section_of k ≡ setup_section → word body 1 < n.terms
 
 -- what holds where the scan stands at the place of a record: the file declared so far is described, and feeding it what is left is loading the file
-pub record At (bs s signers : List ℕ) (n : Tally) (at : ℕ) : Type 0 where
+pub record At (bs s : List ℕ) (signers : ℕ → ℕ) (n : Tally) (at : ℕ) : Type 0 where
   pub file : File
   pub describes : Describes file bs s signers n at
   pub good : Good file
   pub inside : at ≤ length bs
   pub short : length bs ≤ file_limit
-  pub eight : length signers ≡ party_limit
   pub few : n.commands ≤ at
   pub in_order : n.section ≤ command_section
   pub left : feed (loaded file) (from bs at) ≡ load bs
 
 -- what the scan starts from
-pub record ScanReady (bs s signers : List ℕ) : Type 0 where
+pub record ScanReady (bs s : List ℕ) (tables : Tables) : Type 0 where
   pub short : length bs ≤ file_limit
   pub room : length s ≡ state_bytes
   pub clear : s ≡ replicate state_bytes 0
-  pub eight : length signers ≡ party_limit
-  pub unsigned : (p : ℕ) → p < party_limit → get_or signers p 0 ≡ no_key
+  pub empty : EmptyTables tables
 
 -- what the scan leaves: the file that the bytes declare, described; or the refusal
-abbrev pub ScanResult : List ℕ → List ℕ → List ℕ → Scanned → Type 0
-ScanResult bs s signers r =
-    ((r.number ≡ 0) × ((f : File) × (load bs ≡ loaded f) × (length signers ≡ party_limit) × Describes f bs s signers r.tally (length bs)))
-    ⊎ ((m : ℕ) × (r.number ≡ suc m) × (load bs ≡ refused (suc m) r.place))
+pub record ScanResult (bs s : List ℕ) (signers : ℕ → ℕ) (r : Result Scanned Refused) : Type 0 where
+  pub described : IfOk r (λ x. (f : File) × (load bs ≡ loaded f) × Describes f bs s signers x.tally (length bs))
+  pub refused : IfErr r (λ x. load bs ≡ refused (number_of x.refusal) x.place)
 
 -- what the scan of the commands starts from: the first of them, whatever the state and the signing keys; the tables have the terms
 pub record CommandsReady (bs table : List ℕ) (v : Terms) (n : Tally) (at : ℕ) : Type 0 where
   pub rows : FieldRows table
   pub state : List ℕ
-  pub signers : List ℕ
+  pub signers : ℕ → ℕ
   pub here : At bs state signers n at
   pub noted : Noted bs (view state).place v n.terms
   pub more : at < length bs
   pub command : section_of (get_or bs at 0) ≡ command_section
 
 -- what it leaves, whatever they are
-abbrev pub CommandsResult : List ℕ → Terms → Tally → ℕ → Scanned → Type 0
-CommandsResult bs v n at r = (s signers : List ℕ) → At bs s signers n at → Noted bs (view s).place v n.terms → ScanResult bs s signers r
+abbrev pub CommandsResult : List ℕ → Terms → Tally → ℕ → Result Scanned Refused → Type 0
+CommandsResult bs v n at r = (s : List ℕ) (signers : ℕ → ℕ) → At bs s signers n at → Noted bs (view s).place v n.terms → ScanResult bs s signers r

@@ -1,7 +1,8 @@
 // The scan of a file: the records before the commands, then the commands.
 #![tactic(auto)]
 
-ghost use Rattle.std.specs.Prelude.{◌≡◌, cond, ◌<◌, eqb, length, get_or};
+ghost use Rattle.std.specs.Prelude.{◌≡◌, cond, List, ℕ, ◌<◌, eqb, length, get_or, IfOk};
+ghost use Rattle.rules.specs.Codes.{number_in};
 ghost use Rattle.rules.specs.Record.{section_of};
 ghost use Rattle.rules.specs.Load.{term_at};
 ghost use Rattle.state.specs.View.{view};
@@ -11,6 +12,7 @@ ghost use Rattle.index.specs.Indexed.{Indexed};
 ghost use Rattle.lookup.specs.Commands.{commands_from};
 ghost use Rattle.scan.specs.Describes.{counted, EnterReady, last_fault, columns_after, signers_after, ScanReady, ScanResult, CommandsReady, CommandsResult};
 
+use rules::{Refusal, Refused};
 use tables::Tables;
 
 // The section and the counts so far.
@@ -66,11 +68,10 @@ fn count(section: u8, n: Tally) -> Tally
     }
 }
 
-// 9 to 12 at a record whose fields are right: 0, or the refusal; where it is 0 the record is noted.
+// 9 to 12 at a record whose fields are right; where none applies the record is noted.
 fn enter(
     file: &[u8],
     state: &mut [u8],
-    signers: &mut [u16; 8],
     links: &mut [u16; index::LINKS],
     tables: &mut Tables,
     body: &[u8],
@@ -78,23 +79,14 @@ fn enter(
     section: u8,
     at: usize,
     n: Tally,
-) -> u8
+) -> Result<(), Refusal>
     requires { (section ≡ section_of kind) × EnterReady file.now state.old body.now kind at n × Indexed file.now (view state.old).place links.old tables.old n.terms × (kind ≡ get_or file.now at 0) × (term_there file.now at ≡ term_at kind body.now) }
-    ensures refusal { result ≡ last_fault file.now (view state.old) signers.old n kind body.now }
-    ensures left { view state.new ≡ cond (eqb result 0) (columns_after file.now (view state.old) n kind body.now at) (view state.old) }
-    ensures keys { signers.new ≡ cond (eqb result 0) (signers_after signers.old kind body.now) signers.old }
-    ensures indexed { result ≡ 0 → Indexed file.now (view state.new).place links.new tables.new (counted section n).terms }
+    ensures refusal { number_in result ≡ last_fault file.now (view state.old) (tables_in tables.old).signer n kind body.now }
+    ensures left { view state.new ≡ cond (eqb (number_in result) 0) (columns_after file.now (view state.old) n kind body.now at) (view state.old) }
+    ensures keys { (tables_in tables.new).signer ≡ cond (eqb (number_in result) 0) (signers_after (tables_in tables.old).signer kind body.now) (tables_in tables.old).signer }
+    ensures indexed { number_in result ≡ 0 → Indexed file.now (view state.new).place links.new tables.new (counted section n).terms }
 {
-    if section == 2 {
-        let terms = n.terms;
-        return index::enter_term(file, state, links, tables, body, kind, at, terms);
-    }
-    if section == 3 {
-        let parties = n.parties;
-        let terms = n.terms;
-        return setup::enter_setup(file, state, tables, signers, body, kind, parties, terms);
-    }
-    0
+    todo
 }
 
 // The scan of the commands, which come last: as that of the file, and nothing is noted. A command whose fields are seen to be right at once is passed.
@@ -104,157 +96,20 @@ fn scan_commands(
     tables: &Tables,
     from: usize,
     n: Tally,
-) -> Scanned
+) -> Result<Scanned, Refused>
     requires { CommandsReady file.now table.now (tables_in tables.now).terms n from }
     ensures result { CommandsResult file.now (tables_in tables.now).terms n from result }
-    ensures first { result.first ≡ from }
-    ensures terms { result.tally.terms ≡ n.terms }
+    ensures first { IfOk result (λ x. (x.first ≡ from) × (x.tally.terms ≡ n.terms)) }
 {
-    let parties = n.parties;
-    let terms = n.terms;
-    let mut at = from;
-    let mut commands = n.commands;
-    'records: loop {
-        if at >= file.len() {
-            break 'records Scanned {
-                number: 0,
-                place: 0,
-                first: from,
-                tally: Tally {
-                    section: 4,
-                    parties: parties,
-                    terms: terms,
-                    commands: commands,
-                },
-            };
-        }
-        let end = reader::next_place(file, at);
-        if checks::is_plain(table, file, tables, at, end, parties, terms) {
-            commands += 1;
-            at = end;
-        } else {
-            let kind = file[at];
-            let start = at + 1;
-            let own = records::section_of(kind);
-            let head = checks::head_fault(own, end, file.len(), 4, parties, terms);
-            if head != 0 {
-                break 'records Scanned {
-                    number: head,
-                    place: at,
-                    first: from,
-                    tally: n,
-                };
-            }
-            let body = &file[start..end];
-            let mut fields = records::fields_in(table, kind);
-            let mut i: usize = 0;
-            let mut offset = 0;
-            while i < records::FIELD_LIMIT {
-                if fields == 0 {
-                    break;
-                }
-                let field = records::low_field(fields);
-                let bad = checks::command_fault(tables, body, field, offset, parties, terms);
-                if bad != 0 {
-                    break 'records Scanned {
-                        number: bad,
-                        place: at,
-                        first: from,
-                        tally: n,
-                    };
-                }
-                offset += records::width(field);
-                fields = fields / 256;
-                i += 1;
-            }
-            commands += 1;
-            at = end;
-        }
-    }
+    todo
 }
 
-// The scan of the file: it ends at the first refusal, which a label carries out of both loops.
-// The fields of a term that are seen to be right at once are not walked over.
-pub fn scan(
-    file: &[u8],
-    state: &mut [u8],
-    signers: &mut [u16; 8],
-    links: &mut [u16; index::LINKS],
-    tables: &mut Tables,
-) -> Scanned
-    requires { ScanReady file.now state.old signers.old × Indexed file.now (view state.old).place links.old tables.old 0 }
-    ensures result { ScanResult file.now state.new signers.new result }
-    ensures first { result.number ≡ 0 → result.first ≡ commands_from (length file.now) file.now 0 }
-    ensures indexed { result.number ≡ 0 → Indexed file.now (view state.new).place links.new tables.new result.tally.terms }
+// The scan of the file: it ends at the first refusal.
+pub fn scan(file: &[u8], state: &mut [u8], tables: &mut Tables) -> Result<Scanned, Refused>
+    requires { ScanReady file.now state.old tables.old }
+    ensures result { ScanResult file.now state.new (tables_in tables.new).signer result }
+    ensures first { IfOk result (λ x. x.first ≡ commands_from (length file.now) file.now 0) }
+    ensures indexed { IfOk result (λ x. (links : List ℕ) × Indexed file.now (view state.new).place links tables.new x.tally.terms) }
 {
-    let table = records::field_table();
-    let mut at = 0;
-    let mut n = Tally {
-        section: 0,
-        parties: 0,
-        terms: 0,
-        commands: 0,
-    };
-    'records: loop {
-        if at >= file.len() {
-            break 'records Scanned {
-                number: 0,
-                place: 0,
-                first: at,
-                tally: n,
-            };
-        }
-        let kind = file[at];
-        let start = at + 1;
-        let own = records::section_of(kind);
-        if own == 4 {
-            break 'records scan_commands(&table, file, tables, at, n);
-        }
-        let section = n.section;
-        let parties = n.parties;
-        let terms = n.terms;
-        let end = reader::next_place(file, at);
-        let head = checks::head_fault(own, end, file.len(), section, parties, terms);
-        if head != 0 {
-            break 'records Scanned {
-                number: head,
-                place: at,
-                first: 0,
-                tally: n,
-            };
-        }
-        let body = &file[start..end];
-        let mut fields = records::fields_in(&table, kind);
-        let mut i = checks::seen_right(tables, body, kind, terms);
-        let mut offset = 0;
-        while i < records::FIELD_LIMIT {
-            if fields == 0 {
-                break;
-            }
-            let field = records::low_field(fields);
-            let bad = checks::field_fault(tables, body, field, offset, parties, terms);
-            if bad != 0 {
-                break 'records Scanned {
-                    number: bad,
-                    place: at,
-                    first: 0,
-                    tally: n,
-                };
-            }
-            offset += records::width(field);
-            fields = fields / 256;
-            i += 1;
-        }
-        let last = enter(file, state, signers, links, tables, body, kind, own, at, n);
-        if last != 0 {
-            break 'records Scanned {
-                number: last,
-                place: at,
-                first: 0,
-                tally: n,
-            };
-        }
-        n = count(own, n);
-        at = end;
-    }
+    todo
 }

@@ -1,6 +1,6 @@
 -- Set-up by the bytes alone: refusals 10 to 12, and what an allowed record leaves.
 use Rattle.tables.specs.declared.columns.Tables.{Tables}
-use Rattle.std.specs.Prelude.{◌≡◌, Bool, false, not, ◌&&◌, ◌||◌, List, ℕ, zero, suc, ◌*◌, ◌<◌, ◌≤◌, eqb, length, get_or, set}
+use Rattle.std.specs.Prelude.{◌≡◌, Bool, false, not, ◌&&◌, ◌||◌, List, ℕ, zero, suc, ◌+◌, ◌*◌, ◌<◌, ◌≤◌, eqb, length, get_or}
 use Rattle.rules.specs.Limits.{party_limit, device, tpm_maker}
 use Rattle.rules.specs.Attributes.{has, fixed_tpm, same_attributes, desk_key_attributes}
 use Rattle.rules.specs.Term.{public_key_kind, number_kind, certificate_kind, fields_in, attributes_of, subject_of, is_tpm_subject}
@@ -8,23 +8,20 @@ use Rattle.rules.specs.File.{Setup, learns, holds, signs_with}
 use Rattle.rules.specs.Record.{section_of, setup_section, word}
 use Rattle.rules.specs.Load.{refuse_unless}
 use Rattle.rules.specs.Learning.{grant}
+use Rattle.rules.specs.State.{put}
 use Rattle.state.specs.View.{Columns, view, in_other, with_knows, with_table}
 use Rattle.tables.specs.Columns.{tables_in}
 use Rattle.learning.specs.There.{term_there, learn_there}
 use Rattle.learning.specs.Noted.{Noted}
 use Rattle.checks.specs.There.{role_there, kind_of_there, TermsThere}
 
--- no signing key
-abbrev pub no_key : ℕ
-no_key = 65535
-
 -- a key is the signing key of a party of the role, among the first n
-unfoldable pub signs_there : List ℕ → List ℕ → ℕ → ℕ → ℕ → Bool
+unfoldable pub signs_there : List ℕ → (ℕ → ℕ) → ℕ → ℕ → ℕ → Bool
 signs_there bs signers role k zero = false
-signs_there bs signers role k (suc p) = (eqb (get_or signers p 0) k && eqb (role_there bs p) role) || signs_there bs signers role k p
+signs_there bs signers role k (suc p) = (eqb (signers p) (k + 1) && eqb (role_there bs p) role) || signs_there bs signers role k p
 
 -- 20, 21, 22 are allowed
-unfoldable pub may_learn_there : List ℕ → (ℕ → ℕ) → List ℕ → ℕ → ℕ → Bool
+unfoldable pub may_learn_there : List ℕ → (ℕ → ℕ) → (ℕ → ℕ) → ℕ → ℕ → Bool
 may_learn_there bs place signers parties t =
     eqb (kind_of_there bs place t) public_key_kind
     || eqb (kind_of_there bs place t) number_kind
@@ -35,15 +32,15 @@ may_learn_there bs place signers parties t =
 unfoldable pub may_hold_there : List ℕ → Columns → ℕ → ℕ → Bool
 may_hold_there bs v p k = not (has (attributes_of (term_there bs (v.place k))) fixed_tpm) || not (in_other v.table p k party_limit)
 
-unfoldable pub may_sign_there : List ℕ → Columns → List ℕ → ℕ → ℕ → Bool
+unfoldable pub may_sign_there : List ℕ → Columns → (ℕ → ℕ) → ℕ → ℕ → Bool
 may_sign_there bs v signers p k =
     not (eqb (role_there bs p) device)
-    && eqb (get_or signers p 0) no_key
+    && eqb (signers p) 0
     && same_attributes (attributes_of (term_there bs (v.place k))) desk_key_attributes
     && v.table p k
 
 -- 10, 11, 12
-unfoldable pub allowed_there : List ℕ → Columns → List ℕ → ℕ → Setup → ℕ
+unfoldable pub allowed_there : List ℕ → Columns → (ℕ → ℕ) → ℕ → Setup → ℕ
 allowed_there bs v signers parties (learns p t) = refuse_unless 10 (may_learn_there bs v.place signers parties t)
 allowed_there bs v signers parties (holds p k) = refuse_unless 11 (may_hold_there bs v p k)
 allowed_there bs v signers parties (signs_with p k) = refuse_unless 12 (may_sign_there bs v signers p k)
@@ -55,10 +52,10 @@ setup_leaves bs v (holds p k) = with_table v (grant v.table p k)
 setup_leaves bs v (signs_with p k) = v
 
 -- the signing keys after an allowed record
-unfoldable pub signers_leave : List ℕ → Setup → List ℕ
+unfoldable pub signers_leave : (ℕ → ℕ) → Setup → ℕ → ℕ
 signers_leave signers (learns p t) = signers
 signers_leave signers (holds p k) = signers
-signers_leave signers (signs_with p k) = set signers p k
+signers_leave signers (signs_with p k) = put signers p (k + 1)
 
 -- what entering a set-up record needs: the terms, which the tables have; its fields are right
 pub record EntersSetup (bs s : List ℕ) (tables : Tables) (body : List ℕ) (kind parties terms : ℕ) : Type 0 where

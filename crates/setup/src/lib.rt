@@ -2,23 +2,22 @@
 #![tactic(auto)]
 
 ghost use Rattle.std.specs.Prelude.{◌≡◌, cond, ◌*◌, ◌<◌, ◌≤◌, eqb, length};
+ghost use Rattle.rules.specs.Codes.{number_in, role_number};
 ghost use Rattle.rules.specs.Limits.{party_limit};
 ghost use Rattle.rules.specs.Load.{setup_at};
 ghost use Rattle.state.specs.View.{view};
+ghost use Rattle.tables.specs.Columns.{tables_in, with_signer};
 ghost use Rattle.checks.specs.There.{TermsThere};
 ghost use Rattle.setup.specs.Allowed.{signs_there, may_learn_there, may_hold_there, may_sign_there, EntersSetup, allowed_there, setup_leaves, signers_leave};
 
 use learning::{attributes_at, learn_term};
-use rules::Attributes;
+use rules::{Attributes, Refusal, Role};
 use tables::Tables;
 
-// The signing key of a party that has none.
-pub const NO_KEY: u16 = 65535;
-
 // Whether a key is the signing key of one of the parties of a role.
-pub fn signs_for_role(file: &[u8], signers: &[u16; 8], role: u8, key: u16, parties: usize) -> bool
+pub fn signs_for_role(file: &[u8], tables: &Tables, role: Role, key: u16, parties: usize) -> bool
     requires { (parties ≤ party_limit) × (2 * parties ≤ length file.now) }
-    ensures { result ≡ signs_there file.now signers.now role key parties }
+    ensures { result ≡ signs_there file.now (tables_in tables.now).signer (role_number role) key parties }
 {
     let mut p = 0;
     while p < parties {
@@ -36,13 +35,13 @@ pub fn signs_for_role(file: &[u8], signers: &[u16; 8], role: u8, key: u16, parti
 pub fn may_learn(
     file: &[u8],
     state: &[u8],
-    signers: &[u16; 8],
+    tables: &Tables,
     parties: usize,
     t: usize,
     terms: usize,
 ) -> bool
     requires { TermsThere file.now state.now terms × (t < terms) × (parties ≤ party_limit) × (2 * parties ≤ length file.now) }
-    ensures { result ≡ may_learn_there file.now (view state.now).place signers.now parties t }
+    ensures { result ≡ may_learn_there file.now (view state.now).place (tables_in tables.now).signer parties t }
 {
     let at = state::place_of(state, t);
     let kind = file[at];
@@ -81,14 +80,14 @@ pub fn may_hold(file: &[u8], state: &[u8], party: usize, key: usize, terms: usiz
 pub fn may_sign(
     file: &[u8],
     state: &[u8],
-    signers: &[u16; 8],
+    tables: &Tables,
     party: usize,
     key: usize,
     parties: usize,
     terms: usize,
 ) -> bool
     requires { TermsThere file.now state.now terms × (key < terms) × (party < parties) × (parties ≤ party_limit) × (2 * parties ≤ length file.now) }
-    ensures { result ≡ may_sign_there file.now (view state.now) signers.now party key }
+    ensures { result ≡ may_sign_there file.now (view state.now) (tables_in tables.now).signer party key }
 {
     if checks::role_of(file, party) == rules::DEVICE {
         return false;
@@ -108,17 +107,16 @@ pub fn may_sign(
 pub fn enter_setup(
     file: &[u8],
     state: &mut [u8],
-    tables: &Tables,
-    signers: &mut [u16; 8],
+    tables: &mut Tables,
     body: &[u8],
     kind: u8,
     parties: usize,
     terms: usize,
-) -> u8
-    requires { EntersSetup file.now state.old tables.now body.now kind parties terms }
-    ensures refusal { result ≡ allowed_there file.now (view state.old) signers.old parties (setup_at kind body.now) }
-    ensures left { view state.new ≡ cond (eqb result 0) (setup_leaves file.now (view state.old) (setup_at kind body.now)) (view state.old) }
-    ensures keys { signers.new ≡ cond (eqb result 0) (signers_leave signers.old (setup_at kind body.now)) signers.old }
+) -> Result<(), Refusal>
+    requires { EntersSetup file.now state.old tables.old body.now kind parties terms }
+    ensures refusal { number_in result ≡ allowed_there file.now (view state.old) (tables_in tables.old).signer parties (setup_at kind body.now) }
+    ensures left { view state.new ≡ cond (eqb (number_in result) 0) (setup_leaves file.now (view state.old) (setup_at kind body.now)) (view state.old) }
+    ensures keys { tables_in tables.new ≡ with_signer (tables_in tables.old) (cond (eqb (number_in result) 0) (signers_leave (tables_in tables.old).signer (setup_at kind body.now)) (tables_in tables.old).signer) }
 {
     let party = body[0] as usize;
     let key = records::word_at(body, 1);
