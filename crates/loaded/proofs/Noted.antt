@@ -1,5 +1,4 @@
 -- The terms of a file as the tables have them.
---     term-noted                       a declared term
 --     finds-kept                       what the tables have, where only the columns of entries change
 --     key-attributes, no-attributes    the attributes of a key are its second field; another term has none
 --     request-term, certificate-term   an IDevID request and a certificate, by their four fields
@@ -7,7 +6,7 @@
 use Rattle.tables.specs.declared.columns.Tables.{Tables}
 use mathlib.Core.Path.{◌≡◌, refl, sym, ap, subst⁻¹, ◌∙◌}
 use mathlib.Core.List.{List}
-use Prim.Native.Nat.{ℕ, ◌<◌, ◌≤◌}
+use Prim.Native.Nat.{ℕ, ◌+◌, ◌<◌, ◌≤◌}
 use native.Mathlib.Omega.{arith}
 use lib.Dec.{eqb}
 use lib.ListN.{length, get_or}
@@ -20,21 +19,17 @@ use Rattle.rules.specs.File.{File, term, kind, field, attributes}
 use Rattle.tables.specs.Columns.{Terms, tables_in, field_of}
 use Rattle.records.specs.declared.Words.{Words}
 use Rattle.index.specs.Indexed.{passes, words_noted}
-use Rattle.loaded.specs.Loaded.{file_in, Finds, TermNoted, subject_by}
+use Rattle.loaded.specs.Loaded.{file_in, Finds, subject_by}
 use Rattle.loaded.specs.Entries.{SameKeys}
-
-pub term_noted_lem : {bs : List ℕ} {tables : Tables} {t : ℕ} → Finds bs tables → t < length (file_in bs).terms → TermNoted bs tables t
-term_noted_lem {t = t} d l = record { few = omega (arith, d.few); kind_is = d.kind_is t l; field_is = λ i m. d.field_is t i l m }
 
 pub finds_kept : {bs : List ℕ} {tables tables' : Tables} → Finds bs tables → SameKeys (tables_in tables) (tables_in tables') → Finds bs tables'
 finds_kept {bs} d k = record {
-  signer = λ p j l m. d.signer p j l m ∙ ap (λ (c : ℕ → ℕ). eqb (c p) j) (sym k.signer);
+  signer = λ p j l. d.signer p j l ∙ ap (λ (c : ℕ → ℕ). eqb (c p) (j + 1)) (sym k.signer);
   half = λ test j l. d.half test j l ∙ ap (λ (c : ℕ → ℕ). passes test (c j)) (sym k.half);
   declared = λ j. subst⁻¹ (λ (c : ℕ → ℕ). c j ≤ length (file_in bs).terms) k.half (d.declared j);
   kind_is = λ t l. ap (λ (v : Terms). v.kind t) k.terms ∙ d.kind_is t l;
   field_is = λ t i l m. ap (λ (v : Terms). field_of v t i) k.terms ∙ d.field_is t i l m;
   few = d.few;
-  words = k.words ∙ d.words;
 }
 
 key_bits_lem : (x : Term) → kind_of x ≤ 0x11 → get_or (fields_in x) 1 0 ≡ (attributes_of x).bits
@@ -116,11 +111,11 @@ certificate_fields (Register i) e = absurd (omega arith)
 certificate_fields (Quote i t n) e = absurd (omega arith)
 
 -- what was read of its words, for both
-module _ {bs : List ℕ} {tables : Tables} {t : ℕ} (noted : TermNoted bs tables t) {s : Subject} {w : Words} (read : w ≡ words_noted (tables_in tables).terms t) where
+module _ {bs : List ℕ} {tables : Tables} {t : ℕ} (noted : Finds bs tables) (l : t < length (file_in bs).terms) {s : Subject} {w : Words} (read : w ≡ words_noted (tables_in tables).terms t) where
   pub request_term : kind (file_in bs) t ≡ idevid_request_kind → s ≡ subject_by w.first w.second → IdevidRequest s w.third w.fourth ≡ term (file_in bs) t
   unfolding kind field
-  request_term k e = rw (e, read, noted.field_is 0 (omega arith), noted.field_is 1 (omega arith), noted.field_is 2 (omega arith), noted.field_is 3 (omega arith)) (request_fields (term (file_in bs) t) k)
+  request_term k e = rw (e, read, noted.field_is t 0 l (omega arith), noted.field_is t 1 l (omega arith), noted.field_is t 2 l (omega arith), noted.field_is t 3 l (omega arith)) (request_fields (term (file_in bs) t) k)
 
   pub certificate_term : kind (file_in bs) t ≡ certificate_kind → s ≡ subject_by w.second w.third → Certificate w.first s w.fourth ≡ term (file_in bs) t
   unfolding kind field
-  certificate_term k e = rw (e, read, noted.field_is 0 (omega arith), noted.field_is 1 (omega arith), noted.field_is 2 (omega arith), noted.field_is 3 (omega arith)) (certificate_fields (term (file_in bs) t) k)
+  certificate_term k e = rw (e, read, noted.field_is t 0 l (omega arith), noted.field_is t 1 l (omega arith), noted.field_is t 2 l (omega arith), noted.field_is t 3 l (omega arith)) (certificate_fields (term (file_in bs) t) k)

@@ -5,16 +5,14 @@ use mathlib.Core.List.{List, Memᴰ}
 use Prim.Native.Nat.{ℕ, ◌<◌}
 use native.Mathlib.Omega.{arith}
 use lib.ListN.{length, get_or}
+use Rattle.tables.specs.declared.columns.Tables.{Tables}
 use Rattle.rules.specs.Term.{hash_kind, fields_in}
 use Rattle.rules.specs.File.{kind}
 use Rattle.state.specs.View.{view}
 use Rattle.learning.specs.There.{kind_there, term_there, TermRecord, parts_there}
 use Rattle.theorems.proofs.Loading.{Checked, checked}
 use Rattle.theorems.proofs.Terms.{declared}
-use Rattle.loaded.specs.Loaded.{file_in, Holds, PartyHere, TermHere}
-
-pub party_here : {bs s : List ℕ} {p : ℕ} → Holds bs s → p < length (file_in bs).roles → PartyHere bs p
-party_here {p = p} h l = record { inside = omega (arith, h.parties_whole); same = h.role p l }
+use Rattle.loaded.specs.Loaded.{file_in, Holds, Reads, Finds, TermHere}
 
 -- a term of another kind than 12 is declared
 pub kind_declared : (bs : List ℕ) {t k : ℕ} → kind (file_in bs) t ≡ k → (k ≡ hash_kind → ⊥) → t < length (file_in bs).terms
@@ -27,6 +25,13 @@ module _ {bs s : List ℕ} (h : Holds bs s) where
 module _ {bs s : List ℕ} {t : ℕ} (h : Holds bs s) (l : t < length (file_in bs).terms) where
   pub term_here : TermHere bs s t
   term_here = record { row = omega (arith, l, h.there.few, h.there.room); whole = h.there.whole t l; same = h.term_is t l }
+
+-- what the code keeps of the file, with the tables
+pub reads_here : {bs s : List ℕ} {tables : Tables} {parties : ℕ} → Holds bs s → Finds bs tables → parties ≡ length (file_in bs).roles → Reads bs tables parties
+reads_here h d e = record { loads = h.loads; few_parties = h.parties; parties_whole = h.parties_whole; role = h.role; parties_are = e; finds = d }
+
+pub checked_reads : {bs : List ℕ} {tables : Tables} {parties : ℕ} → Reads bs tables parties → Checked (file_in bs)
+checked_reads {bs} r = checked bs (file_in bs) r.loads
 
 -- a command keeps all of it: it writes no place
 pub holds_kept : {bs s s' : List ℕ} → Holds bs s → length s' ≡ length s → (view s').place ≡ (view s).place → Holds bs s'
