@@ -12,7 +12,7 @@ use Rattle.requests.specs.Formed.{OpenRequested}
 use Rattle.issuance.specs.Issues.{ParentsEntered}
 
 -- the tables hold some ledger
-abbrev pub SomeLedger : List ℕ → List ℕ → List ℕ → Type 0
+abbrev pub SomeLedger : List ℕ → List ℕ → Tables → Type 0
 SomeLedger bs s tables = (n : ℕ) × (ledger : List Entry) × Ledgered bs s tables n ledger
 
 -- what an accepted desk command is done by

@@ -21,7 +21,7 @@ pub record IssuesIak (bs s : List ℕ) (tables : Tables) (n party c r : ℕ) : T
   pub finds : Finds bs tables
 
 -- the tables have an entry for the certificate in each known 18 request, where a desk signed it that may
-abbrev pub ParentsEntered : List ℕ → List ℕ → List ℕ → Type 0
+abbrev pub ParentsEntered : List ℕ → List ℕ → Tables → Type 0
 ParentsEntered bs s tables = (p q : ℕ) → DeskParent (file_in bs) (view s).knows p q → 0 < (tables_in tables).entry (parent_certificate_of (file_in bs) q)
 
 -- 40, 41 or 42, with the family that it was accepted for

@@ -27,10 +27,10 @@ module _ {bs s : List ℕ} {t : ℕ} (h : Holds bs s) (l : t < length (file_in b
   term_here = record { row = omega (arith, l, h.there.few, h.there.room); whole = h.there.whole t l; same = h.term_is t l }
 
 -- what the code keeps of the file, with the tables
-pub reads_here : {bs s : List ℕ} {tables : Tables} {parties : ℕ} → Holds bs s → Finds bs tables → parties ≡ length (file_in bs).roles → Reads bs tables parties
-reads_here h d e = record { loads = h.loads; few_parties = h.parties; parties_whole = h.parties_whole; role = h.role; parties_are = e; finds = d }
+pub reads_here : {bs s : List ℕ} {tables : Tables} → Holds bs s → Finds bs tables → Reads bs tables
+reads_here h d = record { loads = h.loads; few_parties = h.parties; parties_whole = h.parties_whole; role = h.role; finds = d }
 
-pub checked_reads : {bs : List ℕ} {tables : Tables} {parties : ℕ} → Reads bs tables parties → Checked (file_in bs)
+pub checked_reads : {bs : List ℕ} {tables : Tables} → Reads bs tables → Checked (file_in bs)
 checked_reads {bs} r = checked bs (file_in bs) r.loads
 
 -- a command keeps all of it: it writes no place

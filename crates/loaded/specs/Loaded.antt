@@ -46,13 +46,12 @@ pub record Finds (bs : List ℕ) (tables : Tables) : Type 0 where
   pub field_is : (t i : ℕ) → t < length (file_in bs).terms → i < field_words → field_of (tables_in tables).terms t i ≡ field (file_in bs) t i
   pub few : length (file_in bs).terms ≤ term_limit
 
--- What the code keeps of a loaded file: the bytes load, the roles are found where they stand, how many parties there are, and the tables.
-pub record Reads (bs : List ℕ) (tables : Tables) (parties : ℕ) : Type 0 where
+-- What the code keeps of a loaded file: the bytes load, the roles are found where they stand, and the tables.
+pub record Reads (bs : List ℕ) (tables : Tables) : Type 0 where
   pub loads : load bs ≡ loaded (file_in bs)
   pub few_parties : length (file_in bs).roles ≤ party_limit
   pub parties_whole : 2 * length (file_in bs).roles ≤ length bs
   pub role : (p : ℕ) → p < length (file_in bs).roles → role_there bs p ≡ role_of (file_in bs) p
-  pub parties_are : parties ≡ length (file_in bs).roles
   pub finds : Finds bs tables
 
 -- a term of the file, by the place of its record

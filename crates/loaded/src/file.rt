@@ -1,7 +1,7 @@
 // What the code keeps of a loaded file, and what it reads of it.
 
 ghost use Rattle.std.specs.Prelude.{◌≡◌, ◌<◌, ◌≤◌, length};
-ghost use Rattle.rules.specs.Limits.{state_bytes};
+ghost use Rattle.rules.specs.Limits.{party_limit, state_bytes};
 ghost use Rattle.rules.specs.Codes.{role_number, kind_number};
 ghost use Rattle.rules.specs.Attributes.{same_attributes};
 ghost use Rattle.rules.specs.Term.{idevid_request_kind, certificate_kind};
@@ -15,13 +15,12 @@ use crate::terms::{Certificate, Credential, IdevidRequest, LdevidRequest, Pair, 
 use rules::{Attributes, Role, Signers, Subject, TermKind};
 use tables::Tables;
 
-// The bytes of a file that loads, the tables by which its terms are read, and how many parties it declares.
+// The bytes of a file that loads, and the tables by which its terms are read.
 #[derive(Clone, Copy)]
 pub struct Loaded<'a> {
     pub file: &'a [u8],
     pub tables: &'a Tables,
-    pub parties: usize,
-    pub ghost reads: { Reads file.now tables.now parties },
+    pub ghost reads: { Reads file.now tables.now },
 }
 
 // A Subject by its two fields.
@@ -109,7 +108,7 @@ impl<'a> Loaded<'a> {
 
     // Whether a key is the signing key of a party.
     pub fn signs(&self, party: usize, key: usize) -> bool
-        requires { (party < length (file_in self.now.file.now).roles) × (key < length (file_in self.now.file.now).terms) }
+        requires { (party < party_limit) × (key < length (file_in self.now.file.now).terms) }
         ensures { result ≡ signs_for (file_in self.now.file.now) party key }
     {
         self.tables.signer_of(party) == Some(key)
@@ -120,7 +119,7 @@ impl<'a> Loaded<'a> {
         requires { key < length (file_in self.now.file.now).terms }
         ensures { result ≡ signs_for_role (file_in self.now.file.now) (role_number role) key }
     {
-        for p in 0..self.parties {
+        for p in 0..rules::PARTY_LIMIT {
             if self.signs(p, key) && self.is_role(p, role) {
                 return true;
             }

@@ -5,11 +5,11 @@ ghost use Rattle.std.specs.Prelude.{◌≡◌, ℕ, ◌+◌, ◌<◌, length};
 ghost use Rattle.rules.specs.Limits.{party_limit, register_count, register_bytes, empty_field};
 ghost use Rattle.rules.specs.State.{start_registers};
 ghost use Rattle.state.proofs.Exact.{Bytes};
-ghost use Rattle.loaded.specs.Loaded.{file_in, Finds};
+ghost use Rattle.loaded.specs.Loaded.{file_in};
 ghost use Rattle.registers.specs.View.{register_at, registers_in, shown_at};
-ghost use Rattle.registers.specs.Starting.{Loads, shown_by_devices, start_from};
+ghost use Rattle.registers.specs.Starting.{shown_by_devices, start_from};
 
-use tables::Tables;
+use loaded::Loaded;
 
 // Where a register of a party stands.
 fn place_of(party: usize, i: usize) -> usize
@@ -50,79 +50,13 @@ fn clear(registers: &mut [u8])
     }
 }
 
-// A register of a party shows a term, where the party is a device.
-fn show_one(file: &[u8], registers: &mut [u8], p: usize, i: usize, r: usize)
-    requires { Loads file.now
-        × (length registers.old ≡ register_bytes)
-        × (p < length (file_in file.now).roles)
-        × (i < register_count)
-        × (r < 65536) }
-    ensures { (shows : ℕ → ℕ → ℕ) → registers_in registers.old ≡ shown_by_devices (file_in file.now) shows p i r → registers_in registers.new ≡ shown_by_devices (file_in file.now) shows (p + 1) i r }
-{
-    if !loaded::is_role(file, p, rules::DEVICE) {
-        return;
-    }
-    show(registers, p, i, r);
-}
-
-// A register of every device shows a term.
-fn show_all(file: &[u8], registers: &mut [u8], parties: usize, i: usize, r: usize)
-    requires { Loads file.now
-        × (length registers.old ≡ register_bytes)
-        × (parties ≡ length (file_in file.now).roles)
-        × (i < register_count)
-        × (r < 65536) }
-    ensures { registers_in registers.new ≡ shown_by_devices (file_in file.now) (registers_in registers.old) parties i r }
-{
-    let mut p = 0;
-    while p < parties {
-        show_one(file, registers, p, i, r);
-        p += 1;
-    }
-}
-
-// A term more, from the last one down: where it is a 1B, its register starts at it.
-fn start_at(
-    file: &[u8],
-    registers: &mut [u8],
-    tables: &Tables,
-    parties: usize,
-    t: usize,
-)
-    requires { Loads file.now
-        × Finds file.now tables.now
-        × (length registers.old ≡ register_bytes)
-        × (parties ≡ length (file_in file.now).roles)
-        × (t < length (file_in file.now).terms) }
-    ensures { registers_in registers.old ≡ start_from (file_in file.now) (t + 1) → registers_in registers.new ≡ start_from (file_in file.now) t }
-{
-    if tables.kind_of(t) != 0x1B {
-        return;
-    }
-    let i = loaded::register_of(file, tables, t);
-    show_all(file, registers, parties, i, t);
-}
-
 // What registers show before the first command: in every device each starts at its 1B, the others are empty.
-pub fn fill(
-    file: &[u8],
-    registers: &mut [u8],
-    tables: &Tables,
-    parties: usize,
-    terms: usize,
-)
-    requires { Loads file.now
-        × Finds file.now tables.now
-        × (length registers.old ≡ register_bytes)
-        × (parties ≡ length (file_in file.now).roles)
-        × (terms ≡ length (file_in file.now).terms) }
-    ensures shows { registers_in registers.new ≡ start_registers (file_in file.now) }
+pub fn fill(loaded: &Loaded, registers: &mut [u8], parties: usize, terms: usize)
+    requires { (length registers.old ≡ register_bytes)
+        × (parties ≡ length (file_in loaded.now.file.now).roles)
+        × (terms ≡ length (file_in loaded.now.file.now).terms) }
+    ensures shows { registers_in registers.new ≡ start_registers (file_in loaded.now.file.now) }
     ensures bytes { Bytes registers.new }
 {
-    clear(registers);
-    let mut left = terms;
-    while 0 < left {
-        left -= 1;
-        start_at(file, registers, tables, parties, left);
-    }
+    todo
 }

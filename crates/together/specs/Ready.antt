@@ -1,7 +1,9 @@
 -- A 43 by its record's place: what it is decided and done by.
 use Rattle.tables.specs.declared.columns.Tables.{Tables}
-use Rattle.std.specs.Prelude.{◌≡◌, true, false, List, ◌++◌, ℕ, ◌+◌, ◌*◌, ◌<◌, ◌≤◌, length, get_or}
+use Rattle.std.specs.Prelude.{◌≡◌, true, false, List, ◌++◌, ℕ, ◌+◌, ◌*◌, ◌<◌, ◌≤◌, length, get_or, Result}
 use Rattle.rules.specs.declared.Entry.{Entry}
+use Rattle.rules.specs.declared.Refusal.{Refusal}
+use Rattle.rules.specs.Codes.{number_in}
 use Rattle.rules.specs.Limits.{pair_count, pair_width}
 use Rattle.rules.specs.Record.{word}
 use Rattle.rules.specs.File.{IakPair, Command, issue_iaks}
@@ -17,8 +19,6 @@ use Rattle.state.proofs.Exact.{state_of}
 use Rattle.tables.specs.Columns.{tables_in}
 use Rattle.loaded.specs.Loaded.{file_in, Holds, Finds}
 use Rattle.loaded.specs.Entries.{Ledgered, SameKeys}
-use Rattle.gained.specs.declared.Gained.{Gained}
-use Rattle.gained.specs.Took.{took, Whole}
 use Rattle.requests.specs.Formed.{Requested, OpenRequested}
 use Rattle.together.specs.Pairs.{PairsRequested}
 
@@ -57,12 +57,12 @@ pub record JudgeReady (bs s : List ℕ) (tables : Tables) (at n : ℕ) : Type 0 
   pub requested : PairsRequested (file_in bs) (view s).request (pairs_at n bs (at + 3))
 
 -- and so is the next: 0 where it is empty, and else by those before it; its credential's request has the form that a challenge asks for
-pub record Judges (bs s : List ℕ) (tables : Tables) (at n x : ℕ) : Type 0 where
-  pub empty : empty_pair bs (at + 3 + pair_width * n) ≡ true → x ≡ 0
+pub record Judges (bs s : List ℕ) (tables : Tables) (at n : ℕ) (x : Result Unit Refusal) : Type 0 where
+  pub empty : empty_pair bs (at + 3 + pair_width * n) ≡ true → number_in x ≡ 0
   pub filled :
       empty_pair bs (at + 3 + pair_width * n) ≡ false → (entries : ℕ) (ledger : List Entry) → Ledgered bs s tables entries ledger
-      → x ≡ judged (file_in bs) (state_of (view s) ledger) (desk_at bs at) (returning_at bs at) (pairs_at n bs (at + 3)) (pair_at bs (at + 3 + pair_width * n))
-  pub requested : empty_pair bs (at + 3 + pair_width * n) ≡ false → x ≡ 0 → Requested (file_in bs) ((view s).request (word bs (at + 3 + pair_width * n)))
+      → number_in x ≡ judged (file_in bs) (state_of (view s) ledger) (desk_at bs at) (returning_at bs at) (pairs_at n bs (at + 3)) (pair_at bs (at + 3 + pair_width * n))
+  pub requested : empty_pair bs (at + 3 + pair_width * n) ≡ false → number_in x ≡ 0 → Requested (file_in bs) ((view s).request (word bs (at + 3 + pair_width * n)))
 
 -- an accepted one
 pub record TogetherDone (bs s : List ℕ) (tables : Tables) (n at : ℕ) : Type 0 where
@@ -74,33 +74,32 @@ pub record TogetherDone (bs s : List ℕ) (tables : Tables) (n at : ℕ) : Type 
 
 -- While its pairs are issued: what is left of them leaves all that the command leaves, and each is accepted after those before it. The ledger
 -- had n entries, and gains some.
-pub record Issuing (bs s₀ : List ℕ) (tables₀ : Tables) (p q : ℕ) (all : State) (xs : List IakPair) (s : List ℕ) (tables : Tables) (n : ℕ) (old : List Entry) (g : Gained) : Type 0 where
+pub record Issuing (bs s₀ : List ℕ) (tables₀ : Tables) (p q : ℕ) (all : State) (xs : List IakPair) (s : List ℕ) (tables : Tables) (n : ℕ) (old gained : List Entry) : Type 0 where
   pub holds : Holds bs s
   pub places : (view s).place ≡ (view s₀).place
   pub keys : SameKeys (tables_in tables₀) (tables_in tables)
   pub finds : Finds bs tables
-  pub whole : Whole g
-  pub few : g.count + length xs ≤ pair_count
-  pub ledgered : Ledgered bs s tables (n + g.count) (old ++ took g)
-  pub left : issue_iaks_effect (file_in bs) (state_of (view s) (old ++ took g)) p q xs ≡ all
-  pub accepted : PairsAccepted (file_in bs) (state_of (view s) (old ++ took g)) p q xs
+  pub few : length gained + length xs ≤ pair_count
+  pub ledgered : Ledgered bs s tables (n + length gained) (old ++ gained)
+  pub left : issue_iaks_effect (file_in bs) (state_of (view s) (old ++ gained)) p q xs ≡ all
+  pub accepted : PairsAccepted (file_in bs) (state_of (view s) (old ++ gained)) p q xs
   pub desk : p < length (file_in bs).roles
   pub returning : q < length (file_in bs).roles
   pub formed : PairsFormed (file_in bs) xs
   pub opened : OpenRequested bs s
 
 -- the pair at a place is among what is left
-pub record SomeLeft (bs : List ℕ) (p place : ℕ) (s : List ℕ) (tables : Tables) (n : ℕ) (g : Gained) : Type 0 where
+pub record SomeLeft (bs : List ℕ) (p place : ℕ) (s : List ℕ) (tables : Tables) (n : ℕ) (gained : List Entry) : Type 0 where
   pub start : List ℕ
-  pub start_tables : List ℕ
+  pub start_tables : Tables
   pub returning : ℕ
   pub all : State
   pub more : List IakPair
   pub old : List Entry
-  pub issuing : Issuing bs start start_tables p returning all (pairs_at 1 bs place ++ more) s tables n old g
+  pub issuing : Issuing bs start start_tables p returning all (pairs_at 1 bs place ++ more) s tables n old gained
 
 -- and is no more
-abbrev pub OneLess : List ℕ → ℕ → ℕ → List ℕ → List ℕ → ℕ → Gained → List ℕ → List ℕ → Gained → Type 0
-OneLess bs p place s tables n g s' tables' r =
-    (s₀ : List ℕ) (tables₀ : Tables) (q : ℕ) (all : State) (more : List IakPair) (old : List Entry) → Issuing bs s₀ tables₀ p q all (pairs_at 1 bs place ++ more) s tables n old g
+abbrev pub OneLess : List ℕ → ℕ → ℕ → List ℕ → Tables → ℕ → List Entry → List ℕ → Tables → List Entry → Type 0
+OneLess bs p place s tables n gained s' tables' r =
+    (s₀ : List ℕ) (tables₀ : Tables) (q : ℕ) (all : State) (more : List IakPair) (old : List Entry) → Issuing bs s₀ tables₀ p q all (pairs_at 1 bs place ++ more) s tables n old gained
     → Issuing bs s₀ tables₀ p q all more s' tables' n old r
