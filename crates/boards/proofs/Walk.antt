@@ -5,7 +5,7 @@
 --     falls-more                          room for one more
 --     found_none                          empty lists
 -- Assumes nothing.
-use mathlib.Core.Path.{◌≡◌, refl, sym, ap, ◌∙◌}
+use mathlib.Core.Path.{◌≡◌, refl, sym, ap, subst, ◌∙◌}
 use mathlib.Core.Bool.{Bool, true, false, cond}
 use Prim.Native.Nat.{ℕ, zero, suc, ◌+◌, ◌-◌, ◌≤◌}
 use native.Mathlib.Omega.{arith}
@@ -47,6 +47,16 @@ module _ (b : Boards) (n : ℕ) (f : Falls b n) (s : ℕ) where
       ap (λ (c : Bool). cond c 0 (cond (eqb (b.serial (suc e - 1)) s) (suc e) (walk b.serial b.earlier s e (b.earlier (suc e - 1))))) (ne_eqb (suc e) 0 z)
       ∙ ap (λ (c : Bool). cond c (suc e) (walk b.serial b.earlier s e (b.earlier (suc e - 1)))) (ne_eqb (b.serial (suc e - 1)) s h)
       ∙ enough e (b.earlier (suc e - 1)) (b.earlier (suc e - 1)) (omega (arith, f.earlier (suc e - 1))) (omega arith)
+
+  -- the same by the place of the entry
+  pub walk_found : (i e : ℕ) → e ≡ i + 1 → b.serial i ≡ s → walk b.serial b.earlier s e e ≡ e
+  walk_found i e q h = let p : e - 1 ≡ i = omega (arith, q) in walk_here e (omega (arith, q)) (ap b.serial p ∙ h)
+
+  pub walk_past : (i e : ℕ) → e ≡ i + 1 → (b.serial i ≡ s → ⊥) → walk b.serial b.earlier s e e ≡ walk b.serial b.earlier s (b.earlier i) (b.earlier i)
+  walk_past i e q n =
+      let p : e - 1 ≡ i = omega (arith, q) in
+      subst (λ (j : ℕ). walk b.serial b.earlier s e e ≡ walk b.serial b.earlier s (b.earlier j) (b.earlier j)) p
+      (walk_next e (omega (arith, q)) (λ h. n (ap b.serial (sym p) ∙ h)))
 
   -- what is found is an entry
   walk_most : (k e : ℕ) → walk b.serial b.earlier s k e ≤ e
