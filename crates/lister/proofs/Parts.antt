@@ -10,6 +10,7 @@ use Prim.Native.Nat.{ℕ, suc, ◌+◌, ◌*◌, ◌<◌, ◌≤◌}
 use native.Mathlib.Omega.{arith}
 use lib.Dec.{eqb}
 use lib.ListN.{length, get_or, take}
+use borrow.Author.Tests.{eq-eqb, ne_eqb}
 use lib.Seq.{take-suc, length-take-le}
 use Rattle.rules.specs.declared.Entry.{Entry}
 use Rattle.rules.specs.Listing.{line, refusal_lines, entry_lines}
@@ -18,6 +19,15 @@ use Rattle.rules.specs.Lent.{no_entry}
 use Rattle.lister.specs.Parts.{outcome_line, entry_line}
 use Rattle.decimal.proofs.Writing.{written_none, written_then, written_length}
 use Rattle.lister.specs.Text.{entry_bytes}
+
+-- an accepted command has no line
+pub no_line : (i x : ℕ) → x ≡ 0 → outcome_line i x ≡ []
+unfolding outcome_line
+no_line i x e = rw (eq-eqb x 0 e) refl
+
+pub some_line : (i x : ℕ) → (x ≡ 0 → ⊥) → outcome_line i x ≡ line 0x52 (i ∷ x ∷ [])
+unfolding outcome_line
+some_line i x n = rw (ne_eqb x 0 n) refl
 
 refusals_append : (xs ys : List ℕ) (i : ℕ) → refusal_lines i (xs ++ ys) ≡ refusal_lines i xs ++ refusal_lines (i + length xs) ys
 unfolding refusal_lines

@@ -1,19 +1,20 @@
 -- How many bytes the lines take.
---     letter-room, number-room, end-room, letter-then, number-then     the parts of a line that has room
+--     rest_of, last_of     the rest of a line
 --     refusal-short, entry-short, total-short, fault-short     the longest lines
 --     listed     a text that fits, written from the start on
 -- Assumes nothing.
-use mathlib.Core.Path.{◌≡◌, ap, ◌∙◌}
+use mathlib.Core.Path.{◌≡◌, ap, subst, ◌∙◌}
 use mathlib.Core.List.{List, [], ◌∷◌, ◌++◌}
 use Prim.Native.Nat.{ℕ, ◌+◌, ◌^◌, ◌<◌, ◌≤◌}
 use native.Mathlib.Omega.{arith}
-use lib.ListN.{length, take, drop, length-append}
-use lib.Seq.{sets-eq, take_at, drop_at}
+use Rattle.std.proofs.Common.{add-one}
+use lib.ListN.{length, get_or, take, drop, length-append, drop_of_length-le}
+use lib.Seq.{sets-eq, take_at, drop_at, drop-cons}
 use Rattle.rules.specs.Limits.{command_limit, term_limit}
 use Rattle.rules.specs.Listing.{decimal, line, numbers}
-use Rattle.decimal.specs.Text.{Room, Written}
+use Rattle.decimal.specs.Text.{Written}
 use Rattle.lister.specs.Text.{refusal_bytes, entry_bytes, total_bytes, fault_bytes, listing_bytes, Listed}
-use Rattle.decimal.proofs.Writing.{written_length}
+use Rattle.decimal.proofs.Writing.{Rest}
 use Rattle.decimal.proofs.Spelling.{decimal_width}
 
 line_two : (letter a b : ℕ) → length (line letter (a ∷ b ∷ [])) ≡ 4 + length (decimal a) + length (decimal b)
@@ -24,28 +25,17 @@ line_three : (letter a b c : ℕ) → length (line letter (a ∷ b ∷ c ∷ [])
 unfolding line numbers
 line_three letter a b c = simp length-append (omega arith)
 
--- a line has room: so have its letter and, behind it, its numbers
-module _ {out : List ℕ} {at : ℕ} where
-  pub letter_room : (letter : ℕ) (xs : List ℕ) → Room out at (line letter xs) → at < length out
-  unfolding line
-  letter_room letter xs r = omega (arith, r.fits)
-
-  pub number_room : (x : ℕ) (xs : List ℕ) → Room out at (numbers (x ∷ xs)) → Room out at (32 ∷ decimal x)
+-- what is still to be written of a line, where a number is next, and where none is
+module _ {out₀ : List ℕ} {at : ℕ} {text out : List ℕ} {next : ℕ} (xs : List ℕ) (i : ℕ) where
+  pub rest_of : i < length xs → Rest out₀ at text out next (numbers (drop i xs)) → Rest out₀ at text out next ((32 ∷ decimal (get_or xs i 0)) ++ numbers (drop (i + 1) xs))
   unfolding numbers
-  number_room x xs r = record { fits = omega (arith, r.fits, length-append (decimal x) (numbers xs)) }
+  rest_of h w =
+      let e : drop i xs ≡ get_or xs i 0 ∷ drop (i + 1) xs = rw add-one (drop-cons xs i 0 h) in
+      subst (λ (ys : List ℕ). Rest out₀ at text out next (numbers ys)) e w
 
-  pub end_room : Room out at (numbers []) → at < length out
+  pub last_of : length xs ≤ i → Rest out₀ at text out next (numbers (drop i xs)) → Rest out₀ at text out next (10 ∷ [])
   unfolding numbers
-  end_room r = omega (arith, r.fits)
-
-  module _ {out' : List ℕ} {next : ℕ} where
-    pub letter_then : (letter : ℕ) (xs : List ℕ) → Room out at (line letter xs) → Written out at (letter ∷ []) out' next → Room out' next (numbers xs)
-    unfolding line
-    letter_then letter xs r w = record { fits = omega (arith, r.fits, w.place, written_length w) }
-
-    pub number_then : (x : ℕ) (xs : List ℕ) → Room out at (numbers (x ∷ xs)) → Written out at (32 ∷ decimal x) out' next → Room out' next (numbers xs)
-    unfolding numbers
-    number_then x xs r w = record { fits = omega (arith, r.fits, w.place, written_length w, length-append (decimal x) (numbers xs)) }
+  last_of h w = subst (λ (ys : List ℕ). Rest out₀ at text out next (numbers ys)) (drop_of_length-le xs h) w
 
 pub refusal_short : (i x : ℕ) → i < command_limit → x < 2 ^ 8 → length (line 0x52 (i ∷ x ∷ [])) ≤ refusal_bytes
 refusal_short i x h k = omega (arith, line_two 0x52 i x, decimal_width 4 i (omega arith) (omega arith) (omega arith), decimal_width 3 x (omega arith) (omega arith) (omega arith))

@@ -22,80 +22,70 @@ fn number_into(out: &mut [u8], at: usize, x: u64) -> usize
     decimal::decimal_into(out, next, x)
 }
 
-// A line: its letter and two numbers.
-fn line_of_two(out: &mut [u8], at: usize, letter: u8, a: u64, b: u64) -> usize
-    requires { Room out.old at (line letter (a ∷ b ∷ [])) }
-    ensures { Written out.old at (line letter (a ∷ b ∷ [])) out.new result }
+// A line: its letter and its numbers.
+fn line_into(out: &mut [u8], at: usize, letter: u8, numbers: &[u64]) -> usize
+    requires { Room out.old at (line letter numbers.now) }
+    ensures { Written out.old at (line letter numbers.now) out.new result }
 {
-    let first = decimal::byte_into(out, at, letter);
-    let second = number_into(out, first, a);
-    let end = number_into(out, second, b);
-    decimal::byte_into(out, end, b'\n')
-}
-
-// A line: its letter and three numbers.
-fn line_of_three(out: &mut [u8], at: usize, letter: u8, a: u64, b: u64, c: u64) -> usize
-    requires { Room out.old at (line letter (a ∷ b ∷ c ∷ [])) }
-    ensures { Written out.old at (line letter (a ∷ b ∷ c ∷ [])) out.new result }
-{
-    let first = decimal::byte_into(out, at, letter);
-    let second = number_into(out, first, a);
-    let third = number_into(out, second, b);
-    let end = number_into(out, third, c);
-    decimal::byte_into(out, end, b'\n')
+    let mut next = decimal::byte_into(out, at, letter);
+    for x in numbers {
+        next = number_into(out, next, *x);
+    }
+    decimal::byte_into(out, next, b'\n')
 }
 
 // "R ordinal number".
+#[tactic(auto, using(crate::proofs::Room::refusal_short))]
 fn refusal_line(out: &mut [u8], at: usize, ordinal: usize, number: u8) -> usize
     requires { (ordinal < command_limit) × (at + refusal_bytes ≤ length out.old) }
     ensures written { Written out.old at (line 0x52 (ordinal ∷ number ∷ [])) out.new result }
     ensures upper_bound { result ≤ at + refusal_bytes }
 {
-    line_of_two(out, at, b'R', ordinal as u64, number as u64)
+    line_into(out, at, b'R', &[ordinal as u64, number as u64])
 }
 
 // "I certificate parent depth".
-fn entry_line(out: &mut [u8], at: usize, certificate: u16, parent: u16, depth: u16) -> usize
+#[tactic(auto, using(crate::proofs::Room::entry_short))]
+fn entry_line(out: &mut [u8], at: usize, e: Entry) -> usize
     requires { at + entry_bytes ≤ length out.old }
-    ensures written { Written out.old at (line 0x49 (certificate ∷ parent ∷ depth ∷ [])) out.new result }
+    ensures written { Written out.old at (entry_line e) out.new result }
     ensures upper_bound { result ≤ at + entry_bytes }
 {
-    line_of_three(
+    line_into(
         out,
         at,
         b'I',
-        certificate as u64,
-        parent as u64,
-        depth as u64,
+        &[e.certificate as u64, e.parent as u64, e.depth as u64],
     )
 }
 
 // "T accepted refused issued".
+#[tactic(auto, using(crate::proofs::Room::total_short))]
 pub fn total_line(out: &mut [u8], at: usize, accepted: u32, refused: u32, issued: usize) -> usize
     requires { (issued ≤ term_limit) × (at + total_bytes ≤ length out.old) }
     ensures written { Written out.old at (line 0x54 (accepted ∷ refused ∷ issued ∷ [])) out.new result }
     ensures upper_bound { result ≤ at + total_bytes }
 {
-    line_of_three(
+    line_into(
         out,
         at,
         b'T',
-        accepted as u64,
-        refused as u64,
-        issued as u64,
+        &[accepted as u64, refused as u64, issued as u64],
     )
 }
 
 // "F number place".
+#[tactic(auto, using(crate::proofs::Room::fault_short))]
 pub fn fault_line(out: &mut [u8], at: usize, number: u32, place: u32) -> usize
     requires { at + fault_bytes ≤ length out.old }
     ensures written { Written out.old at (line 0x46 (number ∷ place ∷ [])) out.new result }
     ensures upper_bound { result ≤ at + fault_bytes }
 {
-    line_of_two(out, at, b'F', number as u64, place as u64)
+    line_into(out, at, b'F', &[number as u64, place as u64])
 }
 
 // The line of a command's outcome, if it was refused.
+#[tactic(auto, using(crate::proofs::Parts::no_line, crate::proofs::Parts::some_line))]
 fn outcome_line(out: &mut [u8], at: usize, ordinal: usize, number: u8) -> usize
     requires { (ordinal < command_limit) × (at + refusal_bytes ≤ length out.old) }
     ensures written { Written out.old at (outcome_line ordinal number) out.new result }
@@ -114,20 +104,10 @@ pub fn refusals_into(out: &mut [u8], at: usize, outcomes: &[u8], n: usize) -> us
     ensures upper_bound { result ≤ at + refusal_bytes * n }
 {
     let mut next = at;
-    let mut i: usize = 0;
-    while i < n {
-        next = outcome_line(out, next, i, outcomes[i]);
-        i += 1;
+    for (i, number) in outcomes[..n].iter().enumerate() {
+        next = outcome_line(out, next, i, *number);
     }
     next
-}
-
-// The line of an entry.
-pub fn ledger_line(out: &mut [u8], at: usize, e: Entry) -> usize
-    requires { at + entry_bytes ≤ length out.old }
-    ensures { Written out.old at (entry_line e) out.new result × (result ≤ at + entry_bytes) }
-{
-    entry_line(out, at, e.certificate, e.parent, e.depth)
 }
 
 // The lines of the first entries of a ledger.
@@ -136,11 +116,8 @@ pub fn entries_into(ledger: &[Entry], out: &mut [u8], at: usize, issued: usize) 
     ensures { Written out.old at (entry_lines (take issued ledger.now)) out.new result × (result ≤ at + entry_bytes * issued) }
 {
     let mut next = at;
-    let mut i = 0;
-    while i < issued {
-        let e = ledger::read_one(ledger, i);
-        next = ledger_line(out, next, e);
-        i += 1;
+    for i in 0..issued {
+        next = entry_line(out, next, ledger::read_one(ledger, i));
     }
     next
 }
