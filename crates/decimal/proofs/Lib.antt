@@ -1,3 +1,4 @@
 pub mod Writing
+pub mod Powers
 pub mod Taking
 pub mod Spelling

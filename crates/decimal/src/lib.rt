@@ -18,46 +18,49 @@ pub fn byte_into(out: &mut [u8], at: usize, b: u8) -> usize
     at + 1
 }
 
+// The powers of ten, from 10 ^ 0 on.
+static POWERS: [u64; DIGITS] = [
+    1,
+    10,
+    100,
+    1_000,
+    10_000,
+    100_000,
+    1_000_000,
+    10_000_000,
+    100_000_000,
+    1_000_000_000,
+    10_000_000_000,
+    100_000_000_000,
+    1_000_000_000_000,
+    10_000_000_000_000,
+    100_000_000_000_000,
+    1_000_000_000_000_000,
+    10_000_000_000_000_000,
+    100_000_000_000_000_000,
+    1_000_000_000_000_000_000,
+    10_000_000_000_000_000_000,
+];
+
 // A power of ten, from the first to the 19th.
+#[tactic(auto, using(crate::proofs::Powers::power_is))]
 fn power_of_ten(k: usize) -> u64
     requires { (0 < k) × (k < digit_limit) }
     ensures { result ≡ 10 ^ k }
 {
-    match k {
-        1 => 10,
-        2 => 100,
-        3 => 1_000,
-        4 => 10_000,
-        5 => 100_000,
-        6 => 1_000_000,
-        7 => 10_000_000,
-        8 => 100_000_000,
-        9 => 1_000_000_000,
-        10 => 10_000_000_000,
-        11 => 100_000_000_000,
-        12 => 1_000_000_000_000,
-        13 => 10_000_000_000_000,
-        14 => 100_000_000_000_000,
-        15 => 1_000_000_000_000_000,
-        16 => 10_000_000_000_000_000,
-        17 => 100_000_000_000_000_000,
-        18 => 1_000_000_000_000_000_000,
-        _ => 10_000_000_000_000_000_000,
-    }
+    POWERS[k]
 }
 
 // How many digits a number has.
 fn digit_count(x: u64) -> usize
     ensures { result ≡ length (decimal x) }
 {
-    let mut n = 1;
-    while n < DIGITS {
+    for n in 1..DIGITS {
         if x < power_of_ten(n) {
             return n;
         }
-        n += 1;
     }
-    n
+    DIGITS
 }
 
 // How often a power was taken away, and what is left.
@@ -88,9 +91,7 @@ pub fn decimal_into(out: &mut [u8], at: usize, x: u64) -> usize
 {
     let mut left = x;
     let mut next = at;
-    let mut n = digit_count(x);
-    while n > 1 {
-        n -= 1;
+    for n in (1..digit_count(x)).rev() {
         let taken = take_away(left, power_of_ten(n));
         left = taken.left;
         next = byte_into(out, next, b'0' + taken.times);

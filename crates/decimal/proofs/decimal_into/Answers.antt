@@ -2,29 +2,15 @@ use native.Mathlib.Omega.{arith}
 use Rattle.decimal.proofs.Spelling.{decimal_short, spelling_start, spelling_below, spelling_digit, spelling_room, spelling_next, spelling_last}
 use Rattle.decimal.proofs.decimal_into.Goals as goal
 
-pub digit_count-n-requires : goal.digit_count-n-requires
-digit_count-n-requires c = tt
-
 pub loop-n-init : goal.loop-n-init
 loop-n-init c =
     let e = c.digit_count-n.ensures in
     (omega (arith, decimal_short c.args.x (omega arith)), spelling_start _ _ _ _ (omega arith) e)
 
-pub power_of_ten-requires : goal.power_of_ten-requires
-power_of_ten-requires c = (omega arith, omega (arith, c.loop-n.invariant.1.most))
-
 pub take_away-taken-requires : goal.take_away-taken-requires
 take_away-taken-requires c =
     let w = c.loop-n.invariant in
     omega (arith, spelling_below w.1 w.0, c.power_of_ten.ensures)
-
-pub overflow_add-taken : goal.overflow_add-taken
-overflow_add-taken c = omega (arith, c.take_away-taken.ensures.digit)
-
-pub byte_into-next-requires : goal.byte_into-next-requires
-byte_into-next-requires c =
-    let w = c.loop-n.invariant in
-    spelling_room w.1 w.0 c.requires
 
 pub loop-n-preserved : goal.loop-n-preserved
 loop-n-preserved c =
@@ -42,11 +28,6 @@ pub overflow_add-left : goal.overflow_add-left
 overflow_add-left c =
     let w = c.loop-n.invariant in
     omega (arith, spelling_digit w.1 w.0 (omega arith))
-
-pub byte_into-requires : goal.byte_into-requires
-byte_into-requires c =
-    let w = c.loop-n.invariant in
-    spelling_room w.1 w.0 c.requires
 
 pub returns : goal.returns
 returns c =

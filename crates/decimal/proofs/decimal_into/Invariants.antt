@@ -3,7 +3,4 @@ use Rattle.decimal.proofs.Spelling.{Spelling}
 use Rattle.decimal.proofs.decimal_into.Given as goal
 
 abbrev pub invariant-loop-n : goal.invariant-loop-n
-invariant-loop-n l = (0 < l.n) × Spelling l.initial.out l.at l.x l.out l.left l.n l.next
-
-abbrev pub decreases-loop-n : goal.decreases-loop-n
-decreases-loop-n l = l.n
+invariant-loop-n l = (0 < l.n) × Spelling l.fn.out l.at l.x l.out l.left l.n l.next
