@@ -1,15 +1,15 @@
 -- A ledger's places, one by one.
---     length-cleared, clear-begin, clear_next     places cleared
---     cleared-first                               the rules' first part, of entries on cleared places
---     length-puts, puts-begin, puts-next          entries written from a place on
---     puts-onto                                   after others
---     same_end                                    where a loop over places ends
+--     length_cleared, filled_cleared      places cleared
+--     cleared_first                       the rules' first part, of entries on cleared places
+--     length_puts, puts_none, puts_more   entries written from a place on
+--     puts_onto                           after others
 -- Assumes nothing.
 use mathlib.Core.Path.{◌≡◌, refl, sym, ◌∙◌, ap}
 use mathlib.Core.List.{List, [], ◌∷◌, ◌++◌}
 use Prim.Native.Nat.{ℕ, zero, suc, ◌+◌, ◌-◌, ◌<◌, ◌≤◌}
 use native.Mathlib.Omega.{arith}
 use lib.ListN.{length, get_or, set, take, drop, replicate, length-set, length-append}
+use lib.Seq.{length-take-le}
 use Rattle.rules.specs.declared.Entry.{Entry}
 use Rattle.rules.specs.Lent.{no_entry, first_part}
 use Rattle.ledger.specs.Placed.{cleared, puts}
@@ -65,43 +65,24 @@ puts_onto es xs l (suc k) h g =
     ∙ one_more (length es + k) (es ++ xs) l (omega (arith, h, length-append es xs)) (omega (arith, g))
     ∙ ap (λ (m : ℕ). take m (es ++ xs) ++ drop m l) (past_one (length es) k)
 
--- ---- where a loop over places ends
-pub same_end : {i n : ℕ} → i ≤ n → n ≤ i → i ≡ n
-same_end h g = omega (arith, h, g)
-
 -- ---- the entries gained, one by one
 pub length_puts : (l : List Entry) (from : ℕ) (xs : List Entry) (k : ℕ) → length (puts l from xs k) ≡ length l
 unfolding puts
 length_puts l from xs zero = refl
 length_puts l from xs (suc k) = length-set (puts l from xs k) (from + k) (get_or xs k no_entry) ∙ length_puts l from xs k
 
-pub puts_begin : (l : List Entry) (from : ℕ) (xs : List Entry) → l ≡ puts l from xs 0
+pub puts_none : (l : List Entry) (from : ℕ) (xs : List Entry) → puts l from xs 0 ≡ l
 unfolding puts
-puts_begin l from xs = refl
+puts_none l from xs = refl
 
-one_on : (i : ℕ) → suc i ≡ i + 1
-one_on i = omega arith
-
-pub puts_next : (l : List Entry) (from : ℕ) (xs : List Entry) (i : ℕ) {m z : List Entry} {e : Entry} → m ≡ puts l from xs i → e ≡ get_or xs i no_entry → z ≡ set m (from + i) e → z ≡ puts l from xs (i + 1)
-puts_next l from xs i {m} {z} {e} was made put =
-    put ∙ ap (λ (d : Entry). set m (from + i) d) made ∙ ap (λ (k : List Entry). set k (from + i) (get_or xs i no_entry)) was ∙ sym (puts_suc l from xs i) ∙ ap (puts l from xs) (one_on i)
+pub puts_more : (l : List Entry) (from : ℕ) (xs : List Entry) (i : ℕ) → puts l from xs (i + 1) ≡ set (puts l from xs i) (from + i) (get_or xs i no_entry)
+puts_more l from xs i = let e : i + 1 ≡ suc i = omega arith in ap (puts l from xs) e ∙ puts_suc l from xs i
 
 -- ---- places cleared
 pub length_cleared : (l : List Entry) (k : ℕ) → length (cleared l k) ≡ length l
 unfolding cleared
 length_cleared l zero = refl
 length_cleared l (suc k) = length-set (cleared l k) k no_entry ∙ length_cleared l k
-
-pub clear_begin : (l : List Entry) → l ≡ cleared l 0
-unfolding cleared
-clear_begin l = refl
-
-clear_suc : (l : List Entry) (k : ℕ) → set (cleared l k) k no_entry ≡ cleared l (suc k)
-unfolding cleared
-clear_suc l k = refl
-
-pub clear_next : (l : List Entry) (i : ℕ) {m z : List Entry} {e : Entry} → m ≡ cleared l i → e ≡ no_entry → z ≡ set m i e → z ≡ cleared l (i + 1)
-clear_next l i {m} {z} {e} was made put = put ∙ ap (λ (d : Entry). set m i d) made ∙ ap (λ (k : List Entry). set k i no_entry) was ∙ clear_suc l i ∙ ap (cleared l) (one_on i)
 
 -- ---- entries on cleared places
 clear_suc_at : (l : List Entry) (k : ℕ) → k < length l → set (replicate k no_entry ++ drop k l) k no_entry ≡ replicate (suc k) no_entry ++ drop (suc k) l
@@ -113,6 +94,13 @@ cleared_is : (l : List Entry) (k : ℕ) → k ≤ length l → cleared l k ≡ r
 unfolding cleared
 cleared_is l zero h = refl
 cleared_is l (suc k) h = ap (λ (r : List Entry). set r k no_entry) (cleared_is l k (omega (arith, h))) ∙ clear_suc_at l k h
+
+-- a first part that is filled with the entry that says nothing
+pub filled_cleared : (l : List Entry) (k : ℕ) {e : Entry} {xs : List Entry} → k ≤ length l → (e.certificate ≡ 0) × ((e.parent ≡ 0) × (e.depth ≡ 0)) → xs ≡ replicate (length (take k l)) e
+    → xs ++ drop k l ≡ cleared l k
+filled_cleared l k {e} h q w =
+    ap (λ (r : List Entry). r ++ drop k l) (w ∙ (λ j. replicate (length-take-le k l h j) (record { certificate = q.0 j; parent = q.1.0 j; depth = q.1.1 j })))
+    ∙ sym (cleared_is l k h)
 
 drop_cleared : (m k : ℕ) (l : List Entry) → m ≤ k → drop m (replicate k no_entry ++ l) ≡ replicate (k - m) no_entry ++ l
 drop_cleared zero k l h = ap (λ (i : ℕ). replicate i no_entry ++ l) (let e : k ≡ k - 0 = omega arith in e)

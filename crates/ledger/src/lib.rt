@@ -32,12 +32,11 @@ pub fn clear(ledger: &mut [Entry], places: usize)
     requires { places ≤ length ledger.old }
     ensures { ledger.new ≡ cleared ledger.old places }
 {
-    for at in 0..places {
-        append(ledger, at, Entry::default());
-    }
+    ledger[..places].fill(Entry::default());
 }
 
 // The entries that a command gains are written from a place on.
+#[tactic(auto, using(crate::proofs::Placed::puts_none, crate::proofs::Placed::puts_more))]
 pub fn append_gained(ledger: &mut [Entry], from: usize, gained: &Gained)
     requires { from + length gained.now.items ≤ length ledger.old }
     ensures { ledger.new ≡ puts ledger.old from gained.now.items (length gained.now.items) }

@@ -1,9 +1,5 @@
-use Rattle.std.proofs.Common.{arith}
-use Rattle.ledger.proofs.Placed.{clear_begin, clear_next}
+use Rattle.ledger.proofs.Placed.{filled_cleared}
 use Rattle.ledger.proofs.clear.Goals as goal
 
-pub loop-i-init : goal.loop-i-init
-loop-i-init c = (omega arith, c.no_entry-e.ensures, clear_begin _)
-
-pub loop-i-preserved : goal.loop-i-preserved
-loop-i-preserved c = (omega arith, c.no_entry-e.ensures, clear_next _ _ c.loop-i.invariant.2 c.no_entry-e.ensures c.append.ensures)
+pub returns : goal.returns
+returns c = filled_cleared c.args.ledger.now c.args.places c.requires c.default.ensures (c.fill.ensures.after (λ y e. e))
