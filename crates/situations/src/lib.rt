@@ -1,6 +1,2 @@
-// The situations of document 01 stand in proofs/. The code is only what makes this a crate.
+// The situations of document 01 stand in proofs/.
 #![tactic(auto)]
-
-pub fn starred() -> u64 {
-    13
-}
