@@ -1,7 +1,7 @@
 // The values that the rules and the code both speak of (document 01, "Terms", "Run and Path").
 #![tactic(auto)]
 
-ghost use Rattle.std.specs.Prelude.{◌≡◌, true, false};
+ghost use Rattle.std.specs.Prelude.{◌≡◌, true, false, cond, OnOk, IfErr};
 ghost use Rattle.rules.specs.Codes.{number_of, number_in, role_number, kind_number};
 ghost use Rattle.rules.specs.Term.{kind_of};
 ghost use Rattle.rules.specs.Families.{family_of};
@@ -114,6 +114,15 @@ impl Refusal {
     {
         self as u8
     }
+}
+
+// A test that a command has to pass.
+pub fn ensure(passes: bool, refusal: Refusal) -> Result<(), Refusal>
+    ensures outcome { number_in result ≡ cond passes 0 (number_of refusal) }
+    ensures passed { OnOk result (passes ≡ true) }
+    ensures failed { IfErr result (λ r. (passes ≡ false) × (r ≡ refusal)) }
+{
+    if passes { Ok(()) } else { Err(refusal) }
 }
 
 // The outcome byte of a command: 0 where it was accepted.
