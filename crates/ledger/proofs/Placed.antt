@@ -1,5 +1,5 @@
 -- A ledger's places, one by one.
---     length_cleared, filled_cleared      places cleared
+--     length_cleared, cleared_none, cleared_more     places cleared
 --     cleared_first                       the rules' first part, of entries on cleared places
 --     length_puts, puts_none, puts_more   entries written from a place on
 --     puts_onto                           after others
@@ -9,7 +9,6 @@ use mathlib.Core.List.{List, [], ◌∷◌, ◌++◌}
 use Prim.Native.Nat.{ℕ, zero, suc, ◌+◌, ◌-◌, ◌<◌, ◌≤◌}
 use native.Mathlib.Omega.{arith}
 use lib.ListN.{length, get_or, set, take, drop, replicate, length-set, length-append}
-use lib.Seq.{length-take-le}
 use Rattle.rules.specs.declared.Entry.{Entry}
 use Rattle.rules.specs.Lent.{no_entry, first_part}
 use Rattle.ledger.specs.Placed.{cleared, puts}
@@ -96,11 +95,16 @@ cleared_is l zero h = refl
 cleared_is l (suc k) h = ap (λ (r : List Entry). set r k no_entry) (cleared_is l k (omega (arith, h))) ∙ clear_suc_at l k h
 
 -- a first part that is filled with the entry that says nothing
-pub filled_cleared : (l : List Entry) (k : ℕ) {e : Entry} {xs : List Entry} → k ≤ length l → (e.certificate ≡ 0) × ((e.parent ≡ 0) × (e.depth ≡ 0)) → xs ≡ replicate (length (take k l)) e
-    → xs ++ drop k l ≡ cleared l k
-filled_cleared l k {e} h q w =
-    ap (λ (r : List Entry). r ++ drop k l) (w ∙ (λ j. replicate (length-take-le k l h j) (record { certificate = q.0 j; parent = q.1.0 j; depth = q.1.1 j })))
-    ∙ sym (cleared_is l k h)
+pub cleared_none : (l : List Entry) → cleared l 0 ≡ l
+unfolding cleared
+cleared_none l = refl
+
+-- a place more, by an entry of zeros
+pub cleared_more : (l : List Entry) (k : ℕ) (e : Entry) → (e.certificate ≡ 0) × ((e.parent ≡ 0) × (e.depth ≡ 0)) → set (cleared l k) k e ≡ cleared l (k + 1)
+unfolding cleared
+cleared_more l k e q =
+    let n : suc k ≡ k + 1 = omega arith in
+    ap (λ (d : Entry). set (cleared l k) k d) (λ j. record { certificate = q.0 j; parent = q.1.0 j; depth = q.1.1 j }) ∙ ap (cleared l) n
 
 drop_cleared : (m k : ℕ) (l : List Entry) → m ≤ k → drop m (replicate k no_entry ++ l) ≡ replicate (k - m) no_entry ++ l
 drop_cleared zero k l h = ap (λ (i : ℕ). replicate i no_entry ++ l) (let e : k ≡ k - 0 = omega arith in e)

@@ -28,11 +28,14 @@ pub fn read_one(ledger: &[Entry], at: usize) -> Entry
 }
 
 // The first places are cleared.
+#[tactic(auto, using(crate::proofs::Placed::cleared_none, crate::proofs::Placed::cleared_more, crate::proofs::Placed::length_cleared))]
 pub fn clear(ledger: &mut [Entry], places: usize)
     requires { places ≤ length ledger.old }
     ensures { ledger.new ≡ cleared ledger.old places }
 {
-    ledger[..places].fill(Entry::default());
+    for at in 0..places {
+        append(ledger, at, Entry::default());
+    }
 }
 
 // The entries that a command gains are written from a place on.
