@@ -2,13 +2,13 @@
 #![tactic(auto)]
 
 ghost use Rattle.std.specs.Prelude.{◌≡◌, get_or};
-ghost use Rattle.rules.specs.Lent.{no_entry, Called, load_answer, load_leaves, run_answer, run_leaves, path_in_numbers, path_answer, path_buffers, path_leaves};
+ghost use Rattle.rules.specs.Lent.{no_entry, Called, load_in_numbers, load_answer, load_leaves, run_answer, run_leaves, path_in_numbers, path_answer, path_buffers, path_leaves};
 ghost use Rattle.rules.specs.Stock.{stock_answer, stock_leaves};
 ghost use Rattle.rules.specs.Questions.{ask_in_numbers};
 ghost use Rattle.engine.specs.Runs.{lent_with};
 ghost use Rattle.birdweekly.specs.Numbers.{numbers_of, load_numbers, run_numbers, path_numbers, stock_numbers};
 
-use rules::{AskAnswer, Entry, LoadAnswer, PathAnswer, Question};
+use rules::{Counts, Entry, Question, Refused, Told};
 
 // What loading answers: number 0 with the parties, terms and commands, or the refusal with its place.
 #[repr(C)]
@@ -27,26 +27,11 @@ pub extern "C" fn birdweekly_load(file: &[u8], state: &mut [u8]) -> LoadNumbers
     ensures answer { result ≡ load_numbers (load_answer file.now state.old) }
     ensures left { state.new ≡ load_leaves file.now state.old }
 {
-    let answer = loader::load(file, state);
-    match answer {
-        LoadAnswer::Loaded(parties, terms, commands) => LoadNumbers {
-            number: 0,
-            place: 0,
-            parties: parties,
-            terms: terms,
-            commands: commands,
-        },
-        LoadAnswer::Refused(number, place) => LoadNumbers {
-            number: number,
-            place: place,
-            parties: 0,
-            terms: 0,
-            commands: 0,
-        },
-    }
+    LoadNumbers::from(loader::load(file, state))
 }
 
-// What Run answers: number 0 with the commands accepted and refused and the certificates issued, or the refusal with its place.
+// What Run answers: number 0 with the commands accepted and refused and the certificates issued, or the refusal with its
+// place.
 #[repr(C)]
 #[derive(Clone, Copy)]
 pub struct RunNumbers {
@@ -66,7 +51,8 @@ pub struct PathNumbers {
     pub steps: u32,
 }
 
-// What the stock of numbers answers: number 0 with whole boards and the numbers left over, or the refusal with its place.
+// What the stock of numbers answers: number 0 with whole boards and the numbers left over, or the refusal with its
+// place.
 #[repr(C)]
 #[derive(Clone, Copy)]
 pub struct StockNumbers {
@@ -86,77 +72,112 @@ struct Numbers {
     third: u32,
 }
 
-fn in_numbers(answer: AskAnswer) -> Numbers
-    ensures { result ≡ numbers_of (ask_in_numbers answer) }
-{
-    match answer {
-        AskAnswer::Totals(accepted, refused, issued) => Numbers {
-            number: 0,
-            place: 0,
-            first: accepted,
-            second: refused,
-            third: issued,
-        },
-        AskAnswer::Boards(boards, rest) => Numbers {
-            number: 0,
-            place: 0,
-            first: boards,
-            second: rest,
-            third: 0,
-        },
-        AskAnswer::Refused(number, place) => Numbers {
-            number: number,
-            place: place,
-            first: 0,
-            second: 0,
-            third: 0,
-        },
+impl From<Result<Told, Refused>> for Numbers {
+    ghost from_gives = { λ x n. n ≡ numbers_of (ask_in_numbers x) };
+
+    #[tactic(auto, unfolding(rules::specs::Lent::in_numbers))]
+    fn from(answer: Result<Told, Refused>) -> Numbers {
+        match answer {
+            Ok(Told::Totals(totals)) => Numbers {
+                number: 0,
+                place: 0,
+                first: totals.accepted,
+                second: totals.refused,
+                third: totals.issued,
+            },
+            Ok(Told::Boards(left)) => Numbers {
+                number: 0,
+                place: 0,
+                first: left.boards,
+                second: left.rest,
+                third: 0,
+            },
+            Err(r) => Numbers {
+                number: r.refusal.number() as u32,
+                place: r.place,
+                first: 0,
+                second: 0,
+                third: 0,
+            },
+        }
     }
 }
 
-fn run_numbers(answer: AskAnswer) -> RunNumbers
-    ensures { result ≡ run_numbers (ask_in_numbers answer) }
-{
-    let n = in_numbers(answer);
-    RunNumbers {
-        number: n.number,
-        place: n.place,
-        accepted: n.first,
-        refused: n.second,
-        issued: n.third,
+impl From<Result<Told, Refused>> for RunNumbers {
+    ghost from_gives = { λ x n. n ≡ run_numbers (ask_in_numbers x) };
+
+    fn from(answer: Result<Told, Refused>) -> RunNumbers {
+        let n = Numbers::from(answer);
+        RunNumbers {
+            number: n.number,
+            place: n.place,
+            accepted: n.first,
+            refused: n.second,
+            issued: n.third,
+        }
     }
 }
 
-fn stock_numbers(answer: AskAnswer) -> StockNumbers
-    ensures { result ≡ stock_numbers (ask_in_numbers answer) }
-{
-    let n = in_numbers(answer);
-    StockNumbers {
-        number: n.number,
-        place: n.place,
-        boards: n.first,
-        rest: n.second,
+impl From<Result<Told, Refused>> for StockNumbers {
+    ghost from_gives = { λ x n. n ≡ stock_numbers (ask_in_numbers x) };
+
+    fn from(answer: Result<Told, Refused>) -> StockNumbers {
+        let n = Numbers::from(answer);
+        StockNumbers {
+            number: n.number,
+            place: n.place,
+            boards: n.first,
+            rest: n.second,
+        }
     }
 }
 
-fn path_numbers(answer: PathAnswer) -> PathNumbers
-    ensures { result ≡ path_numbers (path_in_numbers answer) }
-{
-    match answer {
-        PathAnswer::Steps(steps) => PathNumbers {
-            number: 0,
-            place: 0,
-            steps: steps,
-        },
-        PathAnswer::Refused(number, place) => PathNumbers {
-            number: number,
-            place: place,
-            steps: 0,
-        },
+impl From<Result<Counts, Refused>> for LoadNumbers {
+    ghost from_gives = { λ x n. n ≡ load_numbers (load_in_numbers x) };
+
+    #[tactic(auto, unfolding(rules::specs::Lent::in_numbers))]
+    fn from(answer: Result<Counts, Refused>) -> LoadNumbers {
+        match answer {
+            Ok(counts) => LoadNumbers {
+                number: 0,
+                place: 0,
+                parties: counts.parties,
+                terms: counts.terms,
+                commands: counts.commands,
+            },
+            Err(refused) => LoadNumbers {
+                number: refused.refusal.number() as u32,
+                place: refused.place,
+                parties: 0,
+                terms: 0,
+                commands: 0,
+            },
+        }
+    }
+}
+
+impl From<Result<u32, Refused>> for PathNumbers {
+    ghost from_gives = { λ x n. n ≡ path_numbers (path_in_numbers x) };
+
+    #[tactic(auto, unfolding(rules::specs::Lent::in_numbers))]
+    fn from(answer: Result<u32, Refused>) -> PathNumbers {
+        match answer {
+            Ok(steps) => PathNumbers {
+                number: 0,
+                place: 0,
+                steps,
+            },
+            Err(r) => PathNumbers {
+                number: r.refusal.number() as u32,
+                place: r.place,
+                steps: 0,
+            },
+        }
     }
 }
 
 // Runs a scenario file of any bytes on lent buffers of any length.
+#[tactic(auto, unfolding(rules::specs::Questions::answer_of, rules::specs::Questions::leaves_of))]
 #[unsafe(no_mangle)]
 pub extern "C" fn birdweekly_run(
     file: &[u8],
@@ -178,11 +199,12 @@ pub extern "C" fn birdweekly_run(
         outcomes,
         registers,
     );
-    run_numbers(answer)
+    RunNumbers::from(answer)
 }
 
-// Runs all commands of a scenario file of any bytes on lent buffers of any length, and answers how many boards the numbers in a party's stock are
-// enough for.
+// Runs all commands of a scenario file of any bytes on lent buffers of any length, and answers how many boards the
+// numbers in a party's stock are enough for.
+#[tactic(auto, unfolding(rules::specs::Questions::answer_of, rules::specs::Questions::leaves_of))]
 #[unsafe(no_mangle)]
 pub extern "C" fn birdweekly_stock(
     file: &[u8],
@@ -205,10 +227,11 @@ pub extern "C" fn birdweekly_stock(
         outcomes,
         registers,
     );
-    stock_numbers(answer)
+    StockNumbers::from(answer)
 }
 
-// Runs the first n commands of a scenario file of any bytes on lent buffers of any length, and gives the path of a certificate after them in a lent list.
+// Runs the first n commands of a scenario file of any bytes on lent buffers of any length, and gives the path of a
+// certificate after them in a lent list.
 #[unsafe(no_mangle)]
 pub extern "C" fn birdweekly_path(
     file: &[u8],
@@ -226,7 +249,7 @@ pub extern "C" fn birdweekly_path(
         × (list.new ≡ path_leaves file.now n (lent_with state.old ledger.old outcomes.old registers.old) term list.old) }
 {
     let answer = calls::path(file, n, state, ledger, outcomes, registers, term, list);
-    path_numbers(answer)
+    PathNumbers::from(answer)
 }
 
 // The entry at a place of a ledger of any length; zeros beyond its end.

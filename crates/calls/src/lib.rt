@@ -2,31 +2,15 @@
 #![tactic(auto)]
 
 ghost use Rattle.std.specs.Prelude.{◌≡◌, get_or};
-ghost use Rattle.std.proofs.lemmas.List.Edits.{sets};
 ghost use Rattle.rules.specs.Lent.{no_entry, Called, path_in_numbers, path_answer, path_buffers, path_leaves};
 ghost use Rattle.rules.specs.Questions.{ask_in_numbers, answer_of, leaves_of};
 ghost use Rattle.engine.specs.Runs.{lent_with};
-ghost use Rattle.path.specs.Climbing.{ClimbReady, climbed};
 
-use path::Stage;
-use rules::{AskAnswer, Entry, PathAnswer, Question};
+use rules::{Entry, Question, Refused, Told};
 use tables::Tables;
 
-// The steps of a path go to the list, an entry of the ledger read for each.
-fn climb(tables: &Tables, ledger: &[Entry], list: &mut [u16], start: Stage)
-    requires { ClimbReady tables.now ledger.now list.old start }
-    ensures { list.new ≡ sets list.old start.at (climbed tables.now ledger.now start.left start.certificate) }
-{
-    let mut s = start;
-    while s.left != 0 {
-        let e = ledger::read_one(ledger, s.place);
-        let next = path::step(tables, list, s, e);
-        s = next;
-    }
-}
-
-// Loads a file, executes the commands that a question is asked after, on lent buffers of any length, and answers it. Run is the question for the
-// totals of the first n commands.
+// Loads a file, executes the commands that a question is asked after, on lent buffers of any length, and answers it. Run is
+// the question for the totals of the first n commands.
 pub fn ask(
     file: &[u8],
     question: Question,
@@ -34,18 +18,16 @@ pub fn ask(
     ledger: &mut [Entry],
     outcomes: &mut [u8],
     registers: &mut [u8],
-) -> AskAnswer
+) -> Result<Told, Refused>
     ensures { Called (answer_of question file.now) (leaves_of question file.now)
         (lent_with state.old ledger.old outcomes.old registers.old)
         (lent_with state.new ledger.new outcomes.new registers.new) (ask_in_numbers result) }
 {
-    let room = ledger.len();
     let n = asking::count_of(question);
     let mut tables = Tables::new();
     let done = engine::run(
         file,
         n,
-        room,
         state,
         ledger,
         outcomes,
@@ -65,41 +47,35 @@ pub fn path(
     registers: &mut [u8],
     term: u16,
     list: &mut [u16],
-) -> PathAnswer
+) -> Result<u32, Refused>
     ensures { Called (λ lent. path_answer file.now n lent term list.old) (λ lent. path_buffers file.now n lent term list.old)
         (lent_with state.old ledger.old outcomes.old registers.old)
         (lent_with state.new ledger.new outcomes.new registers.new) (path_in_numbers result)
         × (list.new ≡ path_leaves file.now n (lent_with state.old ledger.old outcomes.old registers.old) term list.old) }
 {
-    let places = list.len();
-    let length = ledger.len();
-    let room = path::room_for(places, length);
+    path::check_room(list)?;
     let mut tables = Tables::new();
-    let done = engine::run(
+    engine::run(
         file,
         n,
-        room,
         state,
         ledger,
         outcomes,
         registers,
         &mut tables,
-    );
-    let stage = path::first(done, &tables, term);
-    climb(&tables, ledger, list, stage);
-    path::answer(done, stage, term)
+    )?;
+    let steps = path::steps_of(&tables, term)?;
+    path::climb(&tables, ledger, &mut list[..=steps as usize], term);
+    Ok(steps)
 }
 
 // The entry at a place of a ledger; zeros beyond its end.
 pub fn entry(ledger: &[Entry], i: usize) -> Entry
     ensures { result ≡ get_or ledger.now i no_entry }
 {
-    if i >= ledger.len() {
-        return Entry {
-            certificate: 0,
-            parent: 0,
-            depth: 0,
-        };
+    if i < ledger.len() {
+        ledger::read_one(ledger, i)
+    } else {
+        Entry::default()
     }
-    ledger::read_one(ledger, i)
 }

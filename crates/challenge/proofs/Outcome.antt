@@ -1,14 +1,13 @@
--- The outcome of a challenge as a chain of its tests, part by part, and what an accepted one leaves.
---     endorsement-goes, number-goes     parts that pass
---     challenge-chain                   the outcome, by what was read
---     challenge-left                    what is left
+-- The outcome of a challenge, part by part, and what an accepted one leaves.
+--     challenged         the outcome, by the results of the parts
+--     challenge_left     what is left
 -- Assumes nothing.
-use mathlib.Core.Path.{◌≡◌, refl, sym, ap, ◌∙◌}
+use mathlib.Core.Path.{◌≡◌, refl, ap, ◌∙◌}
+use mathlib.Core.Bool.{cond}
 use mathlib.Core.List.{List, ◌∷◌, ◌++◌}
 use Prim.Native.Nat.{ℕ}
-use Rattle.rules.specs.declared.Subject.{Subject}
 use Rattle.rules.specs.Limits.{oem_desk}
-use Rattle.rules.specs.Refusals.{Test, need}
+use Rattle.rules.specs.Refusals.{need}
 use Rattle.rules.specs.Term.{idevid_request_kind, is_device_subject}
 use Rattle.rules.specs.File.{File, challenge, is_role, credential_term, credential_number, credential_key, idevid_certificate, idevid_key, certified_key, signer, left_of, subject}
 use Rattle.rules.specs.State.{State, number_used, credential_open, put, learnt, opening}
@@ -17,26 +16,40 @@ use Rattle.rules.specs.Run.{tests_of, outcome, effect_of}
 use Rattle.state.specs.View.{Columns, view, with_mark, with_desk, with_request}
 use Rattle.state.proofs.Exact.{state_of}
 use Rattle.theorems.specs.Chain.{chain}
+use Rattle.theorems.proofs.Chain.{in_order_lem}
 use Rattle.loaded.specs.Loaded.{file_in, Learns, Leaves}
-use Rattle.theorems.proofs.Chain.{in_order_lem, chain_rest}
 use Rattle.requests.specs.Tests.{endorsement_tests, credential_tests}
+use Rattle.requests.proofs.Passing.{first, form_part, proof_part, endorsement_part, number_part, refuses}
+use Rattle.requests.proofs.Within.{within}
 
-module _ (f : File) (ys : List Test) {x : ℕ} (z : x ≡ 0) where
-  pub endorsement_goes : (n : Subject) (h i k : ℕ) → x ≡ chain (endorsement_tests f n h i k) → chain (endorsement_tests f n h i k ++ ys) ≡ chain ys
-  endorsement_goes n h i k e = chain_rest (endorsement_tests f n h i k) ys refl (sym e ∙ z)
+-- the IAK of a request, the certificate of the EK and the EK
+abbrev pub iak_at : File → ℕ → ℕ
+iak_at f q = idevid_key f (left_of f q)
 
-  pub number_goes : (s : State) (p n : ℕ) → x ≡ chain (number_tests s p n) → chain (number_tests s p n ++ ys) ≡ chain ys
-  unfolding number_tests
-  number_goes s p n e = chain_rest _ ys refl (sym e ∙ z)
+abbrev pub certificate_at : File → ℕ → ℕ
+certificate_at f q = idevid_certificate f (left_of f q)
 
--- 3E, by what was read
-pub challenge_chain :
-    (f : File) (s : State) (p q r : ℕ) {body certificate iak ek half number content key : ℕ} {asked named : Subject} → body ≡ left_of f q → asked ≡ subject f body → certificate ≡ idevid_certificate f body → iak ≡ idevid_key f body
-    → ek ≡ certified_key f certificate → named ≡ subject f certificate → half ≡ signer f certificate → content ≡ credential_term f r → number ≡ credential_number f r → key ≡ credential_key f r
-    → outcome f s (challenge p q r)
-    ≡ chain (need 13 (is_role f oem_desk p) ∷ need 14 (s.knows p q) ∷ (form_tests f idevid_request_kind q ++ (need 19 (is_device_subject asked) ∷ (proof_tests f q iak ++ (endorsement_tests f named half iak ek ++ (number_tests s p number ++ credential_tests f content key iak ek))))))
-unfolding outcome tests_of challenge_tests form_tests proof_tests number_tests request_body iak_of ek_certificate_of ek_of
-challenge_chain f s p q r b a c i e w h t n k = rw (k, n, t, h, w, e, i, c, a, b) (in_order_lem _ refl)
+abbrev pub ek_at : File → ℕ → ℕ
+ek_at f q = certified_key f (certificate_at f q)
+
+module _ (f : File) (s : State) (p q r : ℕ) where
+  chained :
+      outcome f s (challenge p q r)
+      ≡ chain (need 13 (is_role f oem_desk p) ∷ need 14 (s.knows p q) ∷ (form_tests f idevid_request_kind q
+      ++ (need 19 (is_device_subject (subject f (left_of f q))) ∷ (proof_tests f q (iak_at f q)
+      ++ (endorsement_tests f (subject f (certificate_at f q)) (signer f (certificate_at f q)) (iak_at f q) (ek_at f q)
+      ++ (number_tests s p (credential_number f r) ++ credential_tests f (credential_term f r) (credential_key f r) (iak_at f q) (ek_at f q)))))))
+  unfolding outcome tests_of challenge_tests form_tests proof_tests number_tests endorsement_tests credential_tests request_body iak_of ek_certificate_of ek_of
+  chained = in_order_lem _ refl
+
+  pub challenged :
+      outcome f s (challenge p q r)
+      ≡ cond (is_role f oem_desk p) (cond (s.knows p q) (first (chain (form_tests f idevid_request_kind q))
+      (cond (is_device_subject (subject f (left_of f q))) (first (chain (proof_tests f q (iak_at f q)))
+      (first (chain (endorsement_tests f (subject f (certificate_at f q)) (signer f (certificate_at f q)) (iak_at f q) (ek_at f q)))
+      (first (chain (number_tests s p (credential_number f r))) (chain (credential_tests f (credential_term f r) (credential_key f r) (iak_at f q) (ek_at f q)))))) 19)) 14) 13
+  unfolding chain
+  challenged = chained ∙ simp (form_part, proof_part, endorsement_part, number_part)
 
 -- the columns of an opened credential
 abbrev opened_with : Columns → ℕ → ℕ → ℕ → ℕ → Columns
@@ -65,3 +78,6 @@ challenge_left {bs} {s} {s₁} {s₅} {v₂} {v₃} {v₄} {p} {q} {r} {number} 
           ∙ ap (λ (m : ℕ). opening (learnt (file_in bs) (state_of (view s) ledger) p r) m r q p) n;
       places = ap (λ (v : Columns). v.place) opened ∙ w.places;
     }
+
+-- what a decision and an effect close by
+pub ruleset challenges = (challenged, refuses, within)

@@ -1,5 +1,4 @@
 pub mod Alike
 pub mod Records
-pub mod Tests
+pub mod Fields
 pub mod Plain
-pub mod Seen

@@ -1,2 +1,2 @@
 pub mod There
-pub mod Plain
+pub mod Fields

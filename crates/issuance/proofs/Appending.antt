@@ -111,7 +111,7 @@ module _ (tables tables₁ tables₂ tables' : Tables) (n certificate depth ek :
       depth = depths_next e q m h new;
       falls = subst⁻¹ (λ (b : Boards). Falls b (n + 1)) (ap (λ (v : TableColumns). v.boards) written) (falls_ek _ _ (n + 1) (falls_more _ n h.falls));
     };
-    keys = record { words = ap (λ (v : TableColumns). v.words) written; signer = ap (λ (v : TableColumns). v.signer) written; half = ap (λ (v : TableColumns). v.half) written; terms = ap (λ (v : TableColumns). v.terms) written };
+    keys = record { signer = ap (λ (v : TableColumns). v.signer) written; half = ap (λ (v : TableColumns). v.half) written; terms = ap (λ (v : TableColumns). v.terms) written };
     boards = ap (λ (v : TableColumns). v.boards) written;
   }
 
@@ -167,5 +167,5 @@ module _ (tables tables' : Tables) (n : ℕ) where
       keys (Device m) = go (eqb (entry_of (tables_in tables).boards m) 0)
         where
           go : (b : Bool) → SameKeys v (cond b (with_boards (tables_in tables) (linked (tables_in tables).boards n m)) (tables_in tables))
-          go true = record { words = h.words; signer = h.signer; half = h.half; terms = h.terms }
+          go true = record { signer = h.signer; half = h.half; terms = h.terms }
           go false = h

@@ -4,6 +4,9 @@
 --     iak-issued, request-issued  3F; 40, 41, 42
 -- Assumes nothing.
 use Rattle.tables.specs.declared.columns.Tables.{Tables}
+use Rattle.std.specs.Prelude.{Option, None, Some}
+use Rattle.std.specs.Option.{IsSome}
+use borrow.Author.Rules.{rules}
 use mathlib.Core.Path.{◌≡◌, refl, sym, ap, subst⁻¹, ◌∙◌}
 use mathlib.Core.Bool.{Bool, true, false, false≢true, cond}
 use mathlib.Core.List.{List, [], ◌∷◌, ◌++◌, Memᴰ}
@@ -17,7 +20,8 @@ use Rattle.rules.specs.declared.Subject.{Subject}
 use Rattle.rules.specs.declared.Subject.TheVariants.{Device}
 use Rattle.rules.specs.Limits.{term_limit, depth_limit}
 use Rattle.rules.specs.Families.{request_families}
-use Rattle.rules.specs.File.{File, issue_iak, issue, subject, certified_key, idevid_certificate, ldevid_certificate, left_of}
+use Rattle.rules.specs.Term.{certificate_kind}
+use Rattle.rules.specs.File.{File, issue_iak, issue, kind, subject, certified_key, idevid_certificate, ldevid_certificate, left_of}
 use Rattle.rules.specs.State.{State, credential_open, credential_closed, put, listed, depth_of, learnt, closing, entered}
 use Rattle.rules.specs.Desk.{request_body, form_tests, proof_tests, ek_certificate_of, parent_certificate_of, called_for, end_ek, issue_iak_tests, issue_iak_effect, issue_tests, issue_effect}
 use Rattle.rules.specs.Run.{tests_of, outcome, effect_of}
@@ -28,16 +32,17 @@ use Rattle.theorems.proofs.Invariant.{descends}
 use Rattle.theorems.proofs.Requests.{DeskParent}
 use Rattle.state.specs.View.{Columns, view, with_mark}
 use Rattle.state.proofs.Exact.{state_of}
-use Rattle.tables.specs.Columns.{Boards, TableColumns, tables_in, with_boards, with_ek, linked}
+use Rattle.tables.specs.Columns.{Boards, TableColumns, tables_in, one_more, with_boards, with_ek, linked}
 use Rattle.boards.specs.Linked.{Falls, entry_of}
-use Rattle.loaded.specs.Loaded.{file_in, Learns}
+use Rattle.loaded.specs.Loaded.{file_in, Holds, Learns}
+use Rattle.loaded.proofs.Standing.{checked_here, kind_declared}
 use Rattle.loaded.specs.Entries.{Boarded, DeskLeaves}
 use Rattle.loaded.proofs.Ledger.{ledger_length, entry_most, entry_listed}
 use Rattle.loaded.proofs.Boards.{found_ek, falls_ek, boarded_linked, boarded_known, boarded_below}
 use Rattle.issuance.specs.Appends.{Appends, linked_by}
-use Rattle.issuance.specs.Issues.{IssuesIak, IssuesOnRequest}
-use Rattle.requests.proofs.Read.{is_kind_kind_lem}
-use Rattle.issuance.proofs.IssueOnRequest.{parent_at, parent_noted}
+use Rattle.issuance.specs.Issues.{IssuesIak, ParentsEntered, IssuesOnRequest}
+use Rattle.requests.proofs.Within.{is_kind_kind_lem}
+use Rattle.issuance.proofs.IssueOnRequest.{parent_at}
 use Rattle.issuance.proofs.Appending.{enters_linked, keys_linked}
 
 -- an accepted 3F is of a certificate that is not listed
@@ -85,11 +90,30 @@ request_new f s family p q r e =
 pub request_accepted : {bs s : List ℕ} {tables : Tables} {n p q r : ℕ} (i : IssuesOnRequest bs s tables n p q r) → RequestPassed (file_in bs) (state_of (view s) i.accepts.ledger) p q r
 request_accepted {bs} {s} {p = p} {q} {r} i = request_passed (file_in bs) (state_of (view s) i.accepts.ledger) i.family p q r i.wellformed.3 i.accepts.accepted
 
+parent_noted : (bs s : List ℕ) (tables : Tables) (p q : ℕ) → ParentsEntered bs s tables → DeskParent (file_in bs) (view s).knows p q → 0 < (tables_in tables).entry (parent_at (file_in bs) q)
+unfolding parent_certificate_of request_body
+parent_noted bs s tables p q entered w = entered p q w
+
 -- the place of its parent's entry
 pub parent_place :
     {bs s : List ℕ} {tables : Tables} {n p q r : ℕ} → IssuesOnRequest bs s tables n p q r
     → (0 < (tables_in tables).entry (parent_at (file_in bs) q)) × ((tables_in tables).entry (parent_at (file_in bs) q) ≤ term_limit)
 parent_place {bs} {s} {tables} {p = p} {q} i = (parent_noted bs s tables p q i.parents (request_accepted i).parent, entry_most (parent_at (file_in bs) q) i.accepts.enters)
+
+-- a certificate's number, and that of the parent
+pub certificate_few : {bs s : List ℕ} {r : ℕ} → Holds bs s → kind (file_in bs) r ≡ certificate_kind → r < term_limit
+certificate_few {bs} h e = let l = kind_declared bs e (λ q. omega arith) in let few = (checked_here h).few_terms in omega arith
+
+pub parent_few : {bs s : List ℕ} {tables : Tables} {n p q r : ℕ} → Holds bs s → IssuesOnRequest bs s tables n p q r → parent_at (file_in bs) q < term_limit
+parent_few {q = q} h i = certificate_few h ((checked_here h).ldevid_certificate_kind _ (request_accepted i).parent.body)
+
+-- the tables have its entry
+pub parent_some : {bs s : List ℕ} {tables : Tables} {n p q r : ℕ} → IssuesOnRequest bs s tables n p q r → (o : Option ℕ) → one_more o ≡ (tables_in tables).entry (parent_at (file_in bs) q) → IsSome o
+parent_some i None e = let l = (parent_place i).0 in absurd (omega arith)
+parent_some i (Some n) e = search rules
+
+pub parent_at_place : {b : ℕ} (o : Option ℕ) (place : ℕ) → one_more o ≡ b → o ≡ Some place → place + 1 ≡ b
+parent_at_place o place e k = ap one_more (sym k) ∙ e
 
 -- an IAK certificate's entry, linked where its Subject finds none
 iak_boarded :

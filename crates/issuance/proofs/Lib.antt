@@ -1,6 +1,6 @@
-pub mod Called
+pub mod Listed
 pub mod IssueIak
 pub mod IssueOnRequest
-pub mod Appending
 pub mod Endorsement
+pub mod Appending
 pub mod Issued

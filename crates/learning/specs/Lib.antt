@@ -1,2 +1,3 @@
 pub mod There
+pub mod Parts
 pub mod Noted

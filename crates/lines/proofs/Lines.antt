@@ -1,64 +1,30 @@
 -- The listing by what a run leaves.
---     head_fault_lem, head_lines_lem, last_none, last_line_lem, entries_none, entries_some     the parts, by the run's number
---     head_ready, last_ready     what a run leaves can be listed
---     listed_whole     what a run of all commands leaves is listed as the rules say
+--     listed_run       what a run of all commands leaves is listed as the rules say
+--     listed_fault     so is a refusal of the run
 -- Assumes nothing.
-use Rattle.tables.specs.declared.columns.Tables.{Tables}
-use mathlib.Core.Path.{◌≡◌, refl, sym, ap, subst, ◌∙◌}
-use mathlib.Core.Bool.{Bool, true, false, cond}
-use mathlib.Core.List.{List, [], ◌∷◌, ◌++◌, append-nil}
-use Prim.Native.Nat.{ℕ, ◌+◌, ◌*◌, ◌<◌, ◌≤◌}
-use native.Mathlib.Omega.{arith}
-use native.Mathlib.Decide.{dec_lt}
-use lib.Dec.{eqb}
-use lib.ListN.{length, take}
+use Rattle.std.proofs.Common.{◌≡◌, refl, sym, ap, subst, ◌∙◌, true, List, [], ◌∷◌, ◌++◌, ℕ, ◌+◌, ◌*◌, ◌≤◌, arith, length, take, Result, Ok, Err}
 use lib.Seq.{take_at}
-use borrow.Author.Tests.{eq-eqb, ne_eqb, le-leb}
+use borrow.Author.Tests.{le-leb}
+use Rattle.tables.specs.declared.columns.Tables.{Tables}
 use Rattle.rules.specs.declared.Entry.{Entry}
+use Rattle.rules.specs.declared.Refused.{Refused}
+use Rattle.rules.specs.Codes.{number_of}
 use Rattle.rules.specs.Limits.{file_limit, term_limit, command_limit, state_bytes, register_bytes}
 use Rattle.rules.specs.File.{File, Command}
 use Rattle.rules.specs.Load.{Load, loaded, refused, load}
 use Rattle.rules.specs.State.{start}
 use Rattle.rules.specs.Run.{run, outcomes, first_commands, reached, outcomes_of, zeros, others, accepted, refusals, issued}
-use Rattle.rules.specs.Lent.{Answer, refusal, no_entry, Lent, long_enough, first_part, written, leaves, answered, run_answer, run_leaves}
+use Rattle.rules.specs.Lent.{Answer, refusal, in_numbers, no_entry, Lent, long_enough, first_part, written, leaves, answered, run_answer, run_leaves}
 use Rattle.rules.specs.Listing.{line, refusal_lines, entry_lines, lines, listing}
 use Rattle.theorems.proofs.Laws.{totals}
 use Rattle.loaded.specs.Loaded.{file_in}
 use Rattle.decimal.specs.Text.{Written}
-use Rattle.decimal.proofs.Writing.{written_none, written_then, written_length}
-use Rattle.lister.specs.Text.{refusal_bytes, entry_bytes, total_bytes, fault_bytes, Listed}
+use Rattle.decimal.proofs.Writing.{written_then, written_length}
+use Rattle.lister.specs.Text.{refusal_bytes, entry_bytes, total_bytes, fault_bytes, listing_bytes, Listed}
 use Rattle.lister.proofs.Room.{listed}
-use Rattle.engine.specs.Runs.{lent_with}
 use Rattle.engine.proofs.Few.{loaded_short, all_commands_lem}
 use Rattle.engine.specs.declared.Finished.{Finished}
-use Rattle.engine.specs.Raw.{ran_in, Runs, Stood}
-use Rattle.engine.proofs.Whole.{enough_is, run_left, run_stood, near_place}
-use Rattle.lines.specs.Lines.{head_lines, entries_of, last_line, HeadReady, Headed, LastReady, Ended, ListReady}
-
--- the parts
-module _ (r : Finished) where
-  pub head_fault_lem : (r.begun.number ≡ 0 → ⊥) → (os out' : List ℕ) → {out : List ℕ} {n : ℕ} → Written out 0 (line 0x46 (r.begun.number ∷ r.begun.place ∷ [])) out' n → n ≤ 0 + fault_bytes → Headed r os out out' n
-  head_fault_lem z os out' w h = (rw (ne_eqb r.begun.number 0 z) w, omega (arith, h))
-
-  pub head_lines_lem : r.begun.number ≡ 0 → (os out' : List ℕ) → {out : List ℕ} {n : ℕ} → Written out 0 (refusal_lines 0 (take (r.progress.accepted + r.progress.refused) os)) out' n
-      → n ≤ 0 + refusal_bytes * (r.progress.accepted + r.progress.refused) → r.progress.accepted + r.progress.refused ≤ command_limit → Headed r os out out' n
-  head_lines_lem z os out' w h f = (rw (eq-eqb r.begun.number 0 z) w, omega (arith, h, f))
-
-  pub last_none : (r.begun.number ≡ 0 → ⊥) → (out : List ℕ) (at : ℕ) → Ended r out at out at
-  last_none z out at = (rw (ne_eqb r.begun.number 0 z) (written_none out at), omega arith)
-
-  pub last_line_lem : r.begun.number ≡ 0 → (out' : List ℕ) → {out : List ℕ} {at n : ℕ} → Written out at (line 0x54 (r.progress.accepted ∷ r.progress.refused ∷ r.progress.issued ∷ [])) out' n → n ≤ at + total_bytes → Ended r out at out' n
-  last_line_lem z out' w h = (rw (eq-eqb r.begun.number 0 z) w, h)
-
-  pub entries_none : (r.begun.number ≡ 0 → ⊥) → 0 ≡ entries_of r
-  entries_none z = rw (ne_eqb r.begun.number 0 z) refl
-
-  pub entries_some : r.begun.number ≡ 0 → r.progress.issued ≡ entries_of r
-  entries_some z = rw (eq-eqb r.begun.number 0 z) refl
-
-no_lines : entry_lines [] ≡ []
-unfolding entry_lines
-no_lines = refl
+use Rattle.engine.specs.Raw.{ran_in, Ran, Stood}
 
 -- the lines of a file that loads, by any run of all its commands
 lines_of : (f : File) (n : ℕ) → first_commands f n ≡ first_commands f (length f.commands)
@@ -99,77 +65,46 @@ entries_front : (es old : List Entry) {l : List Entry} → l ≡ first_part term
 unfolding first_part
 entries_front es old e {k} h = ap (take k) e ∙ take_at es _ k h
 
-module _ (bs : List ℕ) (s : List ℕ) (l : List Entry) (out g : List ℕ) (text s' : List ℕ) {l' : List Entry} {out' g' before : List ℕ} {tables : Tables} {r : Finished} (el : length l ≡ term_limit) (ready : ListReady s out g before text) (w : Runs bs (length bs) term_limit s l out g s' l' out' g' tables r) (ls : length s' ≡ length s) where
-  abbrev lent : Lent
-  lent = lent_with s l out g
+enough : (lent : Lent) → state_bytes ≤ length lent.state → term_limit ≤ length lent.ledger → command_limit ≤ length lent.outcomes → register_bytes ≤ length lent.registers → long_enough lent ≡ true
+unfolding long_enough
+enough lent s l o g = rw (le-leb state_bytes (length lent.state) s, le-leb term_limit (length lent.ledger) l, le-leb command_limit (length lent.outcomes) o, le-leb register_bytes (length lent.registers) g) refl
 
-  abbrev after : Lent
-  after = lent_with s' l' out' g'
-
+module _ (bs : List ℕ) (lent : Lent) {after : Lent} where
   abbrev n : ℕ
   n = length bs
 
-  long_enough_lem : long_enough lent ≡ true
-  long_enough_lem =
-      enough_is s out g l
-      ∙ rw (le-leb state_bytes (length s) ready.state, le-leb term_limit (length l) (omega (arith, el)), le-leb command_limit (length out) ready.outcomes, le-leb register_bytes (length g) ready.registers) refl
+  -- the lines of a run
+  text_is : {tables : Tables} (r : Finished) → Ran bs n lent after (Ok r) → Stood bs n lent after tables r
+      → refusal_lines 0 (take (r.progress.accepted + r.progress.refused) after.outcomes) ++ (entry_lines (take r.progress.issued after.ledger) ++ line 0x54 (r.progress.accepted ∷ r.progress.refused ∷ r.progress.issued ∷ [])) ≡ listing bs
+  text_is r run st =
+      let file = file_in bs in
+      let a = r.progress.accepted in
+      let b = r.progress.refused in
+      let i = r.progress.issued in
+      let loads : load bs ≡ loaded file = st.stands.holds.loads in
+      let m : length (outcomes_of file n) ≡ a + b = omega (arith, (totals file n).0, st.accepted, st.refused) in
+      let ea = st.accepted in
+      let eb = st.refused in
+      let ei = st.issued in
+      ap (λ (xs : List ℕ). refusal_lines 0 xs ++ (entry_lines (take i after.ledger) ++ line 0x54 (a ∷ b ∷ i ∷ []))) (outcomes_front bs n lent file loads st.enough (ap (λ (y : Lent). y.outcomes) run.buffers) m)
+      ∙ ap (λ (es : List Entry). refusal_lines 0 (outcomes_of file n) ++ (entry_lines es ++ line 0x54 (a ∷ b ∷ i ∷ []))) (entries_front (reached file n).ledger lent.ledger st.ledger st.stands.enters.count)
+      ∙ (λ j. refusal_lines 0 (outcomes_of file n) ++ (entry_lines (reached file n).ledger ++ line 0x54 (ea j ∷ eb j ∷ ei j ∷ [])))
+      ∙ lines_of file n (all_commands_lem bs file loads)
+      ∙ listing_by bs (loaded file) loads
 
-  whole : Runs bs n (length l) s l out g s' l' out' g' tables r
-  whole = subst (λ (m : ℕ). Runs bs n m s l out g s' l' out' g' tables r) (sym el) w
+  pub listed_run : {tables : Tables} (r : Finished) → Ran bs n lent after (Ok r) → Stood bs n lent after tables r → {t₀ t₁ t₂ t₃ : List ℕ} {at next end : ℕ} → listing_bytes ≤ length t₀
+      → Written t₀ 0 (refusal_lines 0 (take (r.progress.accepted + r.progress.refused) after.outcomes)) t₁ at → at ≤ 0 + refusal_bytes * (r.progress.accepted + r.progress.refused)
+      → Written t₁ at (entry_lines (take r.progress.issued after.ledger)) t₂ next × (next ≤ at + entry_bytes * r.progress.issued)
+      → Written t₂ next (line 0x54 (r.progress.accepted ∷ r.progress.refused ∷ r.progress.issued ∷ [])) t₃ end → end ≤ next + total_bytes
+      → Listed (listing bs) t₀ t₃ end
+  listed_run r run st {t₀} {t₁} {t₂} {t₃} {at} {next} {end} room head short mid last few =
+      listed (subst (λ (t : List ℕ). Written t₀ 0 t t₃ end) (text_is r run st) (written_then head (written_then mid.0 last)))
+      (omega (arith, short, mid.1, few, st.few, st.stands.enters.few)) room
 
-  stood : r.begun.number ≡ 0 → Stood bs n lent after tables r
-  stood z = run_stood bs n s l out g s' whole z ls
-
-  pub head_ready : length out' ≡ length out → HeadReady r out' text
-  head_ready lo = record { few = λ z. (stood z).few; recorded = omega (arith, lo, ready.outcomes); near = near_place bs n term_limit s l out g s' w; room = ready.room }
-
-  few_entries : entries_of r ≤ term_limit
-  few_entries = go (dec_lt 0 r.begun.number)
-    where
-      go : Dec (0 < r.begun.number) → entries_of r ≤ term_limit
-      go (yes h) = let q = entries_none r (λ z. omega (arith, h, z)) in omega (arith, q)
-      go (no h) = let z : r.begun.number ≡ 0 = omega (arith, h) in let q = entries_some r z in omega (arith, q, (stood z).stands.enters.few)
-
-  module _ {t₁ : List ℕ} {at : ℕ} (head : Headed r out' text t₁ at) {k : ℕ} (counted : k ≡ entries_of r) where
-    module _ {t₂ : List ℕ} {next : ℕ} (mid : Written t₁ at (entry_lines (take k l')) t₂ next × (next ≤ at + entry_bytes * k)) where
-      pub last_ready : LastReady r t₂ next
-      last_ready = record { few = λ z. (stood z).few; entries = λ z. (stood z).stands.enters.few; room = omega (arith, head.1, counted, few_entries, mid.1, written_length head.0, written_length mid.0, ready.room) }
-
-      text_is : head_lines r out' ++ (entry_lines (take k l') ++ last_line r) ≡ listing bs
-      text_is = go (dec_lt 0 r.begun.number)
-        where
-          go : Dec (0 < r.begun.number) → head_lines r out' ++ (entry_lines (take k l') ++ last_line r) ≡ listing bs
-          go (yes h) =
-              let z : r.begun.number ≡ 0 → ⊥ = λ e. omega (arith, h, e) in
-              let f : eqb r.begun.number 0 ≡ false = ne_eqb r.begun.number 0 z in
-              let number = r.begun.number in
-              let place = r.begun.place in
-              let q : refusal number place ≡ run_answer bs n lent = sym (let e : ran_in r ≡ refusal number place = rw f refl in e) ∙ (run_left bs n s l out g s' whole).answer in
-              ap (λ (b : Bool). cond b (refusal_lines 0 (take (r.progress.accepted + r.progress.refused) out')) (line 0x46 (number ∷ place ∷ [])) ++ (entry_lines (take k l') ++ cond b (line 0x54 (r.progress.accepted ∷ r.progress.refused ∷ r.progress.issued ∷ [])) [])) f
-              ∙ ap (λ (m : ℕ). line 0x46 (number ∷ place ∷ []) ++ (entry_lines (take m l') ++ [])) (counted ∙ sym (entries_none r z))
-              ∙ ap (λ (ys : List ℕ). line 0x46 (number ∷ place ∷ []) ++ (ys ++ [])) no_lines
-              ∙ append-nil (line 0x46 (number ∷ place ∷ []))
-              ∙ lines_refused number place ∙ listing_by bs (refused number place) (answered_refusal n (load bs) number place (q ∙ run_by bs n lent long_enough_lem))
-          go (no h) =
-              let z : r.begun.number ≡ 0 = omega (arith, h) in
-              let f : eqb r.begun.number 0 ≡ true = eq-eqb r.begun.number 0 z in
-              let st = stood z in
-              let file = file_in bs in
-              let a = r.progress.accepted in
-              let b = r.progress.refused in
-              let i = r.progress.issued in
-              let loads : load bs ≡ loaded file = st.stands.holds.loads in
-              let m : length (outcomes_of file n) ≡ a + b = omega (arith, (totals file n).0, st.accepted, st.refused) in
-              let e : length (reached file n).ledger ≡ k = st.stands.enters.count ∙ entries_some r z ∙ sym counted in
-              let ea = st.accepted in
-              let eb = st.refused in
-              let ei = st.issued in
-              ap (λ (t : Bool). cond t (refusal_lines 0 (take (a + b) out')) (line 0x46 (r.begun.number ∷ r.begun.place ∷ [])) ++ (entry_lines (take k l') ++ cond t (line 0x54 (a ∷ b ∷ i ∷ [])) [])) f
-              ∙ ap (λ (xs : List ℕ). refusal_lines 0 xs ++ (entry_lines (take k l') ++ line 0x54 (a ∷ b ∷ i ∷ []))) (outcomes_front bs n lent file loads long_enough_lem (ap (λ (y : Lent). y.outcomes) (run_left bs n s l out g s' whole).buffers) m)
-              ∙ ap (λ (es : List Entry). refusal_lines 0 (outcomes_of file n) ++ (entry_lines es ++ line 0x54 (a ∷ b ∷ i ∷ []))) (entries_front (reached file n).ledger l st.ledger e)
-              ∙ (λ j. refusal_lines 0 (outcomes_of file n) ++ (entry_lines (reached file n).ledger ++ line 0x54 (ea j ∷ eb j ∷ ei j ∷ [])))
-              ∙ lines_of file n (all_commands_lem bs file loads)
-              ∙ listing_by bs (loaded file) loads
-
-      pub listed_whole : {t₃ : List ℕ} {end : ℕ} → Ended r t₂ next t₃ end → Listed (listing bs) text t₃ end
-      listed_whole {t₃} {end} e = listed (subst (λ (t : List ℕ). Written text 0 t t₃ end) text_is (written_then head.0 (written_then mid.0 e.0))) (omega (arith, head.1, counted, few_entries, mid.1, e.1)) ready.room
+  pub listed_fault : (r : Refused) → Ran bs n lent after (Err r) → long_enough lent ≡ true → {t t' : List ℕ} {end : ℕ} → listing_bytes ≤ length t
+      → Written t 0 (line 0x46 (number_of r.refusal ∷ r.place ∷ [])) t' end → end ≤ 0 + fault_bytes → Listed (listing bs) t t' end
+  unfolding in_numbers
+  listed_fault r run long {t} {t'} {end} room only few =
+      let number = number_of r.refusal in
+      let e : load bs ≡ refused number r.place = answered_refusal n (load bs) number r.place (run.answer ∙ run_by bs n lent long) in
+      listed (subst (λ (xs : List ℕ). Written t 0 xs t' end) (lines_refused number r.place ∙ listing_by bs (refused number r.place) e) only) (omega (arith, few)) room

@@ -4,7 +4,7 @@
 use std::io;
 
 fn main(rt: HostRuntime) -> io::Result<()> {
-    let mut file = [0u8; 32769];
+    let mut file = [0u8; rules::FILE_LIMIT + 1];
     let n = lines::read(&mut rt.stdin(), &mut file)?;
     lines::list(&file[..n], &mut rt.stdout())
 }

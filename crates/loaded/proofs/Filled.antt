@@ -4,7 +4,7 @@ use Rattle.tables.specs.declared.columns.Tables.{Tables}
 use mathlib.Core.Path.{◌≡◌, refl, sym, ap, subst⁻¹, ◌∙◌}
 use mathlib.Core.Bool.{Bool}
 use mathlib.Core.List.{List}
-use Prim.Native.Nat.{ℕ, ◌*◌, ◌<◌, ◌≤◌}
+use Prim.Native.Nat.{ℕ, ◌+◌, ◌*◌, ◌<◌, ◌≤◌}
 use native.Mathlib.Omega.{arith}
 use lib.Dec.{eqb}
 use lib.ListN.{length}
@@ -15,12 +15,12 @@ use Rattle.state.specs.View.{view}
 use Rattle.tables.specs.Columns.{field_words, tables_in, field_of}
 use Rattle.learning.specs.There.{term_there}
 use Rattle.checks.specs.There.{role_there, TermsThere}
-use Rattle.setup.specs.Allowed.{no_key}
 use Rattle.index.specs.Indexed.{passes}
 use Rattle.scan.specs.declared.Scanned.{Scanned}
 use Rattle.loader.specs.Tabled.{Filled}
 use Rattle.loader.proofs.Signing.{signs_for_table}
-use Rattle.loaded.specs.Loaded.{file_of, file_in, Holds, Finds}
+use Rattle.loaded.specs.Loaded.{file_of, file_in, Holds, Finds, Reads}
+use Rattle.loaded.proofs.Standing.{reads_here}
 
 module _ {bs s : List ℕ} {tables : Tables} {r : Scanned} (w : Filled bs s tables r) where
   -- the file is the one that the bytes declare
@@ -46,8 +46,11 @@ module _ {bs s : List ℕ} {tables : Tables} {r : Scanned} (w : Filled bs s tabl
     kind_is = subst⁻¹ (λ (f : File). (t : ℕ) → t < length f.terms → (tables_in tables).terms.kind t ≡ kind f t) file_is w.tabled.kind_is;
     field_is = subst⁻¹ (λ (f : File). (t i : ℕ) → t < length f.terms → i < field_words → field_of (tables_in tables).terms t i ≡ field f t i) file_is w.tabled.field_is;
     few = subst⁻¹ (λ (f : File). length f.terms ≤ term_limit) file_is w.tabled.few;
-    signer = subst⁻¹ (λ (f : File). (p k : ℕ) → p < party_limit → k < no_key → signs_for f p k ≡ eqb ((tables_in tables).signer p) k) file_is (signs_for_table bs w.file (tables_in tables) w.loads w.tabled);
+    signer = subst⁻¹ (λ (f : File). (p k : ℕ) → p < party_limit → signs_for f p k ≡ eqb ((tables_in tables).signer p) (k + 1)) file_is (signs_for_table bs w.file (tables_in tables) w.loads w.tabled);
     half = subst⁻¹ (λ (f : File). (test : ℕ → Bool) (k : ℕ) → k < length f.terms → half_in f test k ≡ passes test ((tables_in tables).half k)) file_is w.tabled.half;
     declared = subst⁻¹ (λ (f : File). (k : ℕ) → (tables_in tables).half k ≤ length f.terms) file_is w.tabled.declared;
-    words = w.tabled.words;
   }
+
+  -- what the code keeps of it
+  pub filled_reads : length s ≡ state_bytes → Reads bs tables
+  filled_reads room = reads_here (filled_holds room) filled_finds

@@ -1,7 +1,6 @@
 pub mod Fields
 pub mod Declared
 pub mod Standing
-pub mod Filled
 pub mod Learning
 pub mod Halves
 pub mod Tested
@@ -9,3 +8,6 @@ pub mod Ledger
 pub mod Boards
 pub mod Room
 pub mod Noted
+pub mod Reading
+pub mod Here
+pub mod Filled

@@ -1,4 +1,5 @@
 // What the code keeps of a loaded file, and what it reads of it.
+#![tactic(auto, using(crate::proofs::Reading::field_read), unfolding(rules::specs::File::hashed_term, rules::specs::File::message, rules::specs::File::signing_key, rules::specs::File::attested_key, rules::specs::File::credential_term, rules::specs::File::credential_number, rules::specs::File::credential_key, rules::specs::File::idevid_certificate, rules::specs::File::idevid_key, rules::specs::File::ldevid_message, rules::specs::File::ldevid_certificate, rules::specs::File::certified_key, rules::specs::File::signer, rules::specs::File::left_of, rules::specs::File::right_of, rules::specs::File::register_of, rules::specs::File::quoted_value, rules::specs::File::quote_number))]
 
 ghost use Rattle.std.specs.Prelude.{◌≡◌, ◌<◌, ◌≤◌, length};
 ghost use Rattle.rules.specs.Limits.{party_limit, state_bytes};
@@ -24,6 +25,7 @@ pub struct Loaded<'a> {
 }
 
 // A Subject by its two fields.
+#[tactic(auto, unfolding(crate::specs::Loaded::subject_by))]
 fn subject_of(tag: u16, number: u16) -> Subject
     ensures { result ≡ subject_by tag number }
 {
@@ -36,6 +38,7 @@ fn subject_of(tag: u16, number: u16) -> Subject
 
 impl<'a> Loaded<'a> {
     // Whether a party has a role.
+    #[tactic(auto, using(crate::proofs::Reading::role_read, crate::proofs::Reading::role_room), unfolding(rules::specs::File::is_role))]
     pub fn is_role(&self, party: usize, role: Role) -> bool
         requires { party < length (file_in self.now.file.now).roles }
         ensures { result ≡ is_role (file_in self.now.file.now) (role_number role) party }
@@ -44,6 +47,7 @@ impl<'a> Loaded<'a> {
     }
 
     // Whether a term is of a kind.
+    #[tactic(auto, using(crate::proofs::Reading::kind_read))]
     pub fn is_kind(&self, t: usize, kind: TermKind) -> bool
         requires { t < length (file_in self.now.file.now).terms }
         ensures { result ≡ is_kind (file_in self.now.file.now) (kind_number kind) t }
@@ -60,6 +64,7 @@ impl<'a> Loaded<'a> {
     }
 
     // The attributes of a key, as a number; 0 of another term.
+    #[tactic(auto, using(crate::proofs::Reading::key_bits, crate::proofs::Reading::other_bits))]
     fn attribute_bits(&self, t: usize) -> u16
         requires { t < length (file_in self.now.file.now).terms }
         ensures { result ≡ (attributes (file_in self.now.file.now) t).bits }
@@ -72,6 +77,7 @@ impl<'a> Loaded<'a> {
     }
 
     // Whether a key has exactly these attributes.
+    #[tactic(auto, unfolding(rules::specs::Attributes::same_attributes))]
     pub fn has_attributes(&self, t: usize, wanted: Attributes) -> bool
         requires { t < length (file_in self.now.file.now).terms }
         ensures { result ≡ same_attributes (attributes (file_in self.now.file.now) t) wanted }
@@ -80,6 +86,7 @@ impl<'a> Loaded<'a> {
     }
 
     // Whether a key has one of the four attributes.
+    #[tactic(auto, unfolding(rules::specs::Device::key_has, rules::specs::Attributes::has))]
     pub fn key_has(&self, t: usize, flag: u8) -> bool
         requires { (t < length (file_in self.now.file.now).terms) × (0 < flag) }
         ensures { result ≡ key_has (file_in self.now.file.now) t flag }
@@ -88,6 +95,7 @@ impl<'a> Loaded<'a> {
     }
 
     // Whether a public and a private key are a pair.
+    #[tactic(auto, using(crate::proofs::Reading::pair_read, crate::proofs::Reading::some_is))]
     pub fn is_pair(&self, key: usize, half: usize) -> bool
         requires { (key < length (file_in self.now.file.now).terms) × (half < length (file_in self.now.file.now).terms) }
         ensures { result ≡ paired (file_in self.now.file.now) key half }
@@ -96,6 +104,7 @@ impl<'a> Loaded<'a> {
     }
 
     // Whether a party's TPM holds the private half of a public key.
+    #[tactic(auto, using(crate::proofs::Reading::halves))]
     pub fn holds_half(&self, state: &[u8], party: usize, key: usize) -> bool
         requires { (state_bytes ≤ length state.now) × (party < length (file_in self.now.file.now).roles) × (key < length (file_in self.now.file.now).terms) }
         ensures { result ≡ half_in (file_in self.now.file.now) ((view state.now).table party) key }
@@ -107,6 +116,7 @@ impl<'a> Loaded<'a> {
     }
 
     // Whether a key is the signing key of a party.
+    #[tactic(auto, using(crate::proofs::Reading::signs_read, crate::proofs::Reading::some_is))]
     pub fn signs(&self, party: usize, key: usize) -> bool
         requires { (party < party_limit) × (key < length (file_in self.now.file.now).terms) }
         ensures { result ≡ signs_for (file_in self.now.file.now) party key }
@@ -128,6 +138,7 @@ impl<'a> Loaded<'a> {
     }
 
     // Whether a key is the signing key of one who may sign.
+    #[tactic(auto, unfolding(rules::specs::File::signs_for_some))]
     pub fn signs_for_some(&self, who: Signers, key: usize) -> bool
         requires { key < length (file_in self.now.file.now).terms }
         ensures { result ≡ signs_for_some (file_in self.now.file.now) who key }
@@ -180,6 +191,7 @@ impl<'a> Loaded<'a> {
     }
 
     // An IDevID request.
+    #[tactic(auto, using(crate::proofs::Reading::requests), unfolding(rules::specs::File::idevid_certificate, rules::specs::File::idevid_key))]
     pub fn idevid_request(&self, t: usize) -> IdevidRequest
         requires { kind (file_in self.now.file.now) t ≡ idevid_request_kind }
         ensures subject { result.subject ≡ subject (file_in self.now.file.now) t }
@@ -206,6 +218,7 @@ impl<'a> Loaded<'a> {
     }
 
     // A certificate.
+    #[tactic(auto, using(crate::proofs::Reading::certificates), unfolding(rules::specs::File::certified_key, rules::specs::File::signer))]
     pub fn certificate(&self, t: usize) -> Certificate
         requires { kind (file_in self.now.file.now) t ≡ certificate_kind }
         ensures key { result.key ≡ certified_key (file_in self.now.file.now) t }

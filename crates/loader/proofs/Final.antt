@@ -1,9 +1,9 @@
 -- What the description of a whole file says of the state bytes and of the answer: they are those of loading.
---     final-state                                                  the state bytes of a described whole file
---     final-leaves, refused-leaves, short-leaves, long-leaves      the buffer after loading
---     final-answer, refused-answer, short-answer, long-answer      the answer
---     inside-lower                                                 what lies inside a term is not higher
---     unknown, unheld                                              at the start no term but a declared one is known, or in a table
+--     final_state                                                the state bytes of a described whole file
+--     final_leaves, refused_leaves, short_leaves, long_leaves    the buffer after loading
+--     final_answer, refused_answer, short_answer, long_answer    the answer
+--     inside_lower                                               what lies inside a term is not higher
+--     unknown, unheld                                            at the start no term but a declared one is known, or in a table
 -- Assumes nothing.
 use mathlib.Core.Path.{◌≡◌, refl, sym, ap, ◌∙◌}
 use mathlib.Core.Bool.{Bool, true, false, cond, ◌&&◌}
@@ -13,12 +13,15 @@ use native.Mathlib.Omega.{arith}
 use lib.Dec.{leb}
 use lib.ListN.{get_or, length, drop, replicate}
 use borrow.Author.Tests.{le-leb, lt-leb}
-use Rattle.rules.specs.declared.LoadAnswer.TheVariants.{Loaded, Refused}
+use Rattle.std.proofs.Common.{Ok, Err}
+use Rattle.rules.specs.declared.Refusal.TheVariants.{BufferShort, FileLong}
+use Rattle.rules.specs.declared.Refused.{Refused}
+use Rattle.rules.specs.Codes.{number_of}
 use Rattle.rules.specs.Limits.{file_limit, term_limit, row_width, state_bytes}
 use Rattle.rules.specs.File.{File, parts, holds_key}
 use Rattle.rules.specs.Load.{Load, load, loaded, refused}
 use Rattle.rules.specs.State.{start, taught}
-use Rattle.rules.specs.Lent.{success, load_in_numbers, rows, first_part, load_answered, load_answer, load_written, load_leaves}
+use Rattle.rules.specs.Lent.{success, in_numbers, load_in_numbers, rows, first_part, load_answered, load_answer, load_written, load_leaves}
 use Rattle.theorems.specs.Residency.{Inside, itself, in_part}
 use Rattle.theorems.proofs.Learning.{taught_only}
 use Rattle.theorems.proofs.Loading.{Checked, checked}
@@ -50,7 +53,7 @@ module _ (f : File) (c : Checked f) (p t : ℕ) (beyond : length f.terms ≤ t) 
 rows_of : (m k : ℕ) (s old new : List ℕ) → s ≡ old ++ replicate (m - k) 0 → old ≡ new → length new ≡ k → s ≡ new ++ replicate (m - length new) 0
 rows_of m k s old new e d l = e ∙ ap (λ (x : List ℕ). x ++ replicate (m - k) 0) d ∙ ap (λ (x : ℕ). new ++ replicate (m - x) 0) (sym l)
 
-module _ (bytes : List ℕ) (f : File) (s signers : List ℕ) (n : Tally) (e : load bytes ≡ loaded f) (d : Describes f bytes s signers n (length bytes)) where
+module _ (bytes : List ℕ) (f : File) (s : List ℕ) (signers : ℕ → ℕ) (n : Tally) (e : load bytes ≡ loaded f) (d : Describes f bytes s signers n (length bytes)) where
   zero_from : (t : ℕ) → length f.places ≤ t → ZeroAt (view s) t
   zero_from t h =
       let a = d.terms_are in
@@ -105,7 +108,7 @@ written_refused : (old : List ℕ) (r at : ℕ) → load_written old (refused r 
 unfolding load_written
 written_refused old r at = refl
 
-pub final_leaves : (bytes : List ℕ) (f : File) (s signers : List ℕ) (n : Tally) → load bytes ≡ loaded f → Describes f bytes s signers n (length bytes) → length s ≡ state_bytes → ((i : ℕ) → get_or s i 0 < 256)
+pub final_leaves : (bytes : List ℕ) (f : File) (s : List ℕ) (signers : ℕ → ℕ) (n : Tally) → load bytes ≡ loaded f → Describes f bytes s signers n (length bytes) → length s ≡ state_bytes → ((i : ℕ) → get_or s i 0 < 256)
     → (old : List ℕ) → state_bytes ≤ length old → length bytes ≤ file_limit → s ++ drop state_bytes old ≡ load_leaves bytes old
 final_leaves bytes f s signers n e d l b old r h =
     first_filled state_bytes s (rows (start f) 0 f.places) old (final_state bytes f s signers n e d l b)
@@ -132,23 +135,23 @@ answer_of_lem : (bytes old : List ℕ) (l : Load) → load bytes ≡ l → state
 unfolding load_answer
 answer_of_lem bytes old l e r = rw (le-leb state_bytes (length old) r, e) refl
 
-pub final_answer : (bytes : List ℕ) (f : File) (s signers : List ℕ) (n : Tally) → load bytes ≡ loaded f → Describes f bytes s signers n (length bytes)
-    → (old : List ℕ) → state_bytes ≤ length old → load_in_numbers (Loaded n.parties n.terms n.commands) ≡ load_answer bytes old
-unfolding load_answered load_in_numbers
+pub final_answer : (bytes : List ℕ) (f : File) (s : List ℕ) (signers : ℕ → ℕ) (n : Tally) → load bytes ≡ loaded f → Describes f bytes s signers n (length bytes)
+    → (old : List ℕ) → state_bytes ≤ length old → load_in_numbers (Ok (record { parties = n.parties; terms = n.terms; commands = n.commands })) ≡ load_answer bytes old
+unfolding load_answered in_numbers
 final_answer bytes f s signers n e d old r =
     sym (λ i. success (d.parties_are i ∷ d.terms_are i ∷ d.commands_are i ∷ [])) ∙ sym (answer_of_lem bytes old (loaded f) e r)
 
-pub refused_answer : (bytes old : List ℕ) (r at : ℕ) → load bytes ≡ refused r at → state_bytes ≤ length old → load_in_numbers (Refused r at) ≡ load_answer bytes old
-unfolding load_answered load_in_numbers
-refused_answer bytes old r at e room = sym (answer_of_lem bytes old (refused r at) e room)
+pub refused_answer : (bytes old : List ℕ) (r : Refused) → load bytes ≡ refused (number_of r.refusal) r.place → state_bytes ≤ length old → load_in_numbers (Err r) ≡ load_answer bytes old
+unfolding load_answered in_numbers
+refused_answer bytes old r e room = sym (answer_of_lem bytes old (refused (number_of r.refusal) r.place) e room)
 
-pub short_answer : (bytes old : List ℕ) → length old < state_bytes → load_in_numbers (Refused 1 0) ≡ load_answer bytes old
-unfolding load_answer load_in_numbers
+pub short_answer : (bytes old : List ℕ) → length old < state_bytes → load_in_numbers (Err (record { refusal = BufferShort; place = 0 })) ≡ load_answer bytes old
+unfolding load_answer in_numbers
 short_answer bytes old h = rw (lt-leb state_bytes (length old) h) refl
 
 too_long : (bytes : List ℕ) → file_limit < length bytes → load bytes ≡ refused 2 0
 unfolding load
 too_long bytes h = rw (lt-leb (length bytes) file_limit h) refl
 
-pub long_answer : (bytes old : List ℕ) → state_bytes ≤ length old → file_limit < length bytes → load_in_numbers (Refused 2 0) ≡ load_answer bytes old
-long_answer bytes old r h = refused_answer bytes old 2 0 (too_long bytes h) r
+pub long_answer : (bytes old : List ℕ) → state_bytes ≤ length old → file_limit < length bytes → load_in_numbers (Err (record { refusal = FileLong; place = 0 })) ≡ load_answer bytes old
+long_answer bytes old r h = refused_answer bytes old (record { refusal = FileLong; place = 0 }) (too_long bytes h) r

@@ -1,15 +1,14 @@
 -- The lengths of bodies and the numbers of their fields.
 use mathlib.Core.Path.{◌≡◌, refl, ap}
 use mathlib.Core.Bool.{Bool, true, false, cond, not}
-use Prim.Native.Nat.{ℕ, ◌<◌, ◌≤◌}
+use Prim.Native.Nat.{ℕ, ◌+◌, ◌*◌, ◌<◌, ◌≤◌}
 use native.Mathlib.Omega.{arith}
 use lib.Dec.{eqb, leb, ltb}
-use lib.ListN.{length}
 use borrow.Author.Tests.{leb-true, ltb-true, lt-ltb, eq-eqb, ne_eqb}
 use Rattle.rules.specs.Record.{kind_count, section_of, fields_of, term_section, command_section, body_length, width, widths}
 use Rattle.rules.specs.Term.{register_kind, quote_kind}
 use Rattle.theorems.proofs.LastArm.{NoneFrom, last_arm}
-use Rattle.records.specs.Codes.{field_limit, body_limit}
+use Rattle.rules.specs.Limits.{pair_count, pair_width}
 use Rattle.records.proofs.EachKind.{values, each_kind, each_number, section_past}
 
 -- sections are at most that of commands
@@ -21,13 +20,13 @@ pub fields_end : (k : ℕ) → widths (fields_of k) ≡ body_length k
 unfolding body_length
 fields_end k = refl
 
+-- the bytes of a body at most: those of a 43
+abbrev pub body_limit : ℕ
+body_limit = 2 + pair_count * pair_width
+
 pub body_small : (k : ℕ) → body_length k ≤ body_limit
 unfolding body_length widths width section_of fields_of
 body_small k = leb-true (body_length k) body_limit (each_kind (λ s fs. leb (widths fs) body_limit) (λ s fs. true) refl k)
-
-pub few_fields : (k : ℕ) → length (fields_of k) ≤ field_limit
-unfolding section_of fields_of
-few_fields k = leb-true (length (fields_of k)) field_limit (each_kind (λ s fs. leb (length fs) field_limit) (λ s fs. true) refl k)
 
 -- what a test asks where another holds
 when_true : (t u : Bool) → cond t u true ≡ true → t ≡ true → u ≡ true

@@ -1,3 +1,1 @@
-pub mod Codes
-pub mod Parts
 pub mod Keys

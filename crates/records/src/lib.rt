@@ -6,7 +6,6 @@ ghost use Rattle.rules.specs.Attributes.{has as hasFlag};
 ghost use Rattle.rules.specs.Term.{register_kind, quote_kind, subject_fields, fields_in};
 ghost use Rattle.rules.specs.Record.{last_kind, section_of, body_length, fields_of, width as width_of, term_section, word};
 ghost use Rattle.rules.specs.Load.{term_at, subject_at};
-ghost use Rattle.records.specs.Codes.{packed, low_field, FieldRows};
 ghost use Rattle.records.specs.Keys.{key_of, words_of};
 
 use rules::{Attributes, Field};
@@ -34,123 +33,54 @@ pub fn section_of(kind: u8) -> u8
     }
 }
 
-// The fields of a record at most.
-pub const FIELD_LIMIT: usize = 6;
-
-// The fields of each kind from 00 to 45, packed: a byte each (low_field), the first in the lowest.
-const FIELDS: [u64; rules::KIND_COUNT] = [
-    0,
-    // From 01 on.
-    0x01,
-    0,
-    0,
-    0,
-    0,
-    0,
-    0,
-    0,
-    0,
-    0,
-    0,
-    0,
-    0,
-    0,
-    0,
-    // From 10 on.
-    0x0302,
-    0x0302,
-    0x06,
-    0x1106,
-    0x10,
-    0x101606,
-    0x02,
-    0x101904,
-    0x1906,
-    0x110410,
-    0x0606,
-    0x09,
-    0x160609,
-    0,
-    0,
-    0,
-    // From 20 on.
-    0x0605,
-    0x1105,
-    0x1105,
-    0,
-    0,
-    0,
-    0,
-    0,
-    0,
-    0,
-    0,
-    0,
-    0,
-    0,
-    0,
-    0,
-    // From 30 on.
-    0x1205,
-    0x1305,
-    0x0705,
-    0x1505,
-    0x1505,
-    0x1705,
-    0x1805,
-    0x1A05,
-    0x061205,
-    0x101305,
-    0x101905,
-    0x031005,
-    0x060505,
-    0x1905,
-    0x150605,
-    0x19150505,
-    // From 40 on.
-    0x190605,
-    0x190605,
-    0x190605,
-    0x080808080505,
-    0x0A0905,
-    0x0B05,
-];
-
-// The packed fields of each kind, for a caller to keep: a constant is written anew wherever it stands.
-pub fn field_table() -> [u64; rules::KIND_COUNT]
-    ensures { FieldRows result }
+// The fields of a kind's body, in their order.
+#[tactic(auto, unfolding(rules::specs::Record::section_of, rules::specs::Record::fields_of))]
+pub fn fields_of(kind: u8) -> &'static [Field]
+    ensures { result.now ≡ fields_of kind }
 {
-    FIELDS
-}
-
-// The fields of a kind, packed, from the table that the caller keeps.
-pub fn fields_in(table: &[u64; rules::KIND_COUNT], kind: u8) -> u64
-    requires { FieldRows table.now }
-    ensures { result ≡ packed (fields_of kind) }
-{
-    let k = kind as usize;
-    if k <= rules::LAST_KIND { table[k] } else { 0 }
-}
-
-// The lowest of packed fields: a byte that is the kind of the terms that it takes, or a number below 0C.
-pub fn low_field(fields: u64) -> Field
-    ensures { result ≡ low_field fields }
-{
-    let code = (fields % 256) as u8;
-    match code {
-        0 => Field::AnyTerm,
-        1 => Field::RoleField,
-        2 => Field::IdentifierField,
-        3 => Field::AttributesField,
-        4 => Field::SubjectField,
-        5 => Field::PartyField,
-        6 => Field::AnyTerm,
-        7 => Field::SignedAttest,
-        8 => Field::IakPairField,
-        9 => Field::RegisterField,
-        0x0A => Field::HashedPair,
-        0x0B => Field::SignedQuote,
-        _ => Field::TermOf(code),
+    match kind {
+        0x01 => &[Field::RoleField],
+        0x10 | 0x11 => &[Field::IdentifierField, Field::AttributesField],
+        0x12 => &[Field::AnyTerm],
+        0x13 => &[Field::AnyTerm, Field::TermOf(0x11)],
+        0x14 => &[Field::TermOf(0x10)],
+        0x15 => &[Field::AnyTerm, Field::TermOf(0x16), Field::TermOf(0x10)],
+        0x16 => &[Field::IdentifierField],
+        0x17 => &[Field::SubjectField, Field::TermOf(0x19), Field::TermOf(0x10)],
+        0x18 => &[Field::AnyTerm, Field::TermOf(0x19)],
+        0x19 => &[Field::TermOf(0x10), Field::SubjectField, Field::TermOf(0x11)],
+        0x1A => &[Field::AnyTerm, Field::AnyTerm],
+        0x1B => &[Field::RegisterField],
+        0x1C => &[Field::RegisterField, Field::AnyTerm, Field::TermOf(0x16)],
+        0x20 => &[Field::PartyField, Field::AnyTerm],
+        0x21 | 0x22 => &[Field::PartyField, Field::TermOf(0x11)],
+        0x30 => &[Field::PartyField, Field::TermOf(0x12)],
+        0x31 => &[Field::PartyField, Field::TermOf(0x13)],
+        0x32 => &[Field::PartyField, Field::SignedAttest],
+        0x33 | 0x34 => &[Field::PartyField, Field::TermOf(0x15)],
+        0x35 => &[Field::PartyField, Field::TermOf(0x17)],
+        0x36 => &[Field::PartyField, Field::TermOf(0x18)],
+        0x37 => &[Field::PartyField, Field::TermOf(0x1A)],
+        0x38 => &[Field::PartyField, Field::TermOf(0x12), Field::AnyTerm],
+        0x39 => &[Field::PartyField, Field::TermOf(0x13), Field::TermOf(0x10)],
+        0x3A => &[Field::PartyField, Field::TermOf(0x19), Field::TermOf(0x10)],
+        0x3B => &[Field::PartyField, Field::TermOf(0x10), Field::AttributesField],
+        0x3C => &[Field::PartyField, Field::PartyField, Field::AnyTerm],
+        0x3D => &[Field::PartyField, Field::TermOf(0x19)],
+        0x3E => &[Field::PartyField, Field::AnyTerm, Field::TermOf(0x15)],
+        0x3F => &[Field::PartyField, Field::PartyField, Field::TermOf(0x15), Field::TermOf(0x19)],
+        0x40..=0x42 => &[Field::PartyField, Field::AnyTerm, Field::TermOf(0x19)],
+        0x43 => &[
+            Field::PartyField,
+            Field::PartyField,
+            Field::IakPairField,
+            Field::IakPairField,
+            Field::IakPairField,
+            Field::IakPairField,
+        ],
+        0x44 => &[Field::PartyField, Field::RegisterField, Field::HashedPair],
+        0x45 => &[Field::PartyField, Field::SignedQuote],
+        _ => &[],
     }
 }
 
@@ -343,14 +273,6 @@ pub fn words_in(kind: u8, body: &[u8]) -> Words
     } else {
         long_words_in(kind, body)
     }
-}
-
-// The parts of a term.
-#[derive(Clone, Copy)]
-pub enum Parts {
-    Nothing,
-    One(u16),
-    Two(u16, u16),
 }
 
 // Whether attributes have one of the four.

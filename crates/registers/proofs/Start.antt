@@ -1,16 +1,17 @@
 -- What registers show before the first command, as the code fills them.
---     all-empty                          bytes of 255 alone show nothing
+--     start-empty                        bytes of 255 alone show nothing
 --     devices-none, devices-next, devices-skip   a register of each device, party by party
---     start_none, start-skip, start-next         by the terms from the last one down
+--     start-skip, start-next             by the terms from the last one down
 --     start-all                                  by all of them, as the rules say it
 -- Assumes nothing.
 use mathlib.Core.Bool.{Bool, true, false, cond, ◌&&◌}
-use mathlib.Core.Path.{◌≡◌, refl, sym, ◌∙◌}
+use mathlib.Core.Path.{◌≡◌, refl, sym, ap, ◌∙◌}
 use mathlib.Core.List.{List, ◌∷◌}
 use Prim.Native.Nat.{ℕ, suc, ◌+◌, ◌*◌, ◌<◌, ◌≤◌}
 use native.Mathlib.Omega.{arith}
 use lib.Dec.{eqb, ltb}
-use lib.ListN.{length, get_or, drop, get_or-eq_default}
+use lib.ListN.{length, get_or, drop, replicate, get_or-eq_default}
+use Rattle.std.proofs.lemmas.List.{get_or-replicate}
 use lib.Seq.{drop-length, drop-cons}
 use borrow.Author.Tests.{eqb-true, eqb-false, eq-eqb, ne_eqb, ltb-true, ltb-false, lt-ltb, le-ltb}
 use Rattle.rules.specs.declared.Term.TheVariants.{Hash}
@@ -22,15 +23,23 @@ use Rattle.rules.specs.State.{starting_at, start_registers}
 use Rattle.registers.specs.View.{register_at, registers_in, shown_at}
 use Rattle.registers.specs.Starting.{shown_by_devices, start_from}
 
-pub all_empty_lem : (s : List ℕ) → ((j : ℕ) → j < register_bytes → get_or s j 0 ≡ 255) → registers_in s ≡ (λ (p i : ℕ). empty_field)
+-- the byte of an empty register
+abbrev byte : ℕ
+byte = 255
+
+all_empty : registers_in (replicate register_bytes byte) ≡ (λ (p i : ℕ). empty_field)
 unfolding registers_in word
-all_empty_lem s h = λ k p i. go p i (ltb p party_limit) (ltb i register_count) refl refl k
+all_empty = λ k p i. go p i (ltb p party_limit) (ltb i register_count) refl refl k
   where
-    go : (p i : ℕ) (a c : Bool) → ltb p party_limit ≡ a → ltb i register_count ≡ c → cond (a && c) (get_or s (register_at p i) 0 * 256 + get_or s (register_at p i + 1) 0) empty_field ≡ empty_field
+    at : (j : ℕ) → j < register_bytes → get_or (replicate register_bytes byte) j 0 ≡ byte
+    at j l = get_or-replicate register_bytes j byte 0 l
+
+    go : (p i : ℕ) (a c : Bool) → ltb p party_limit ≡ a → ltb i register_count ≡ c
+        → cond (a && c) (get_or (replicate register_bytes byte) (register_at p i) 0 * 256 + get_or (replicate register_bytes byte) (register_at p i + 1) 0) empty_field ≡ empty_field
     go p i true true e d =
         let x = ltb-true p party_limit e in
         let y = ltb-true i register_count d in
-        rw (h (register_at p i) (omega arith), h (register_at p i + 1) (omega arith)) refl
+        rw (at (register_at p i) (omega arith), at (register_at p i + 1) (omega arith)) refl
     go p i true false e d = refl
     go p i false c e d = refl
 
@@ -86,12 +95,16 @@ module _ (f : File) where
   none_there true = refl
   none_there false = refl
 
-  pub start_none : (n : ℕ) → n ≡ length f.terms → (λ (p i : ℕ). empty_field) ≡ start_from f n
+  start_none : (n : ℕ) → n ≡ length f.terms → (λ (p i : ℕ). empty_field) ≡ start_from f n
   unfolding start_from starting_at
   start_none n e = λ k p i. go p i k
     where
       go : (p i : ℕ) → empty_field ≡ cond (is_role f device p) (starting_at (drop n f.terms) i n) empty_field
       go p i = rw (e, drop-length f.terms) (sym (none_there (is_role f device p)))
+
+  -- bytes of 255 alone, before the last term
+  pub start_empty : (s : List ℕ) (n : ℕ) → s ≡ replicate register_bytes byte → n ≡ length f.terms → registers_in s ≡ start_from f n
+  start_empty s n e q = ap registers_in e ∙ all_empty ∙ start_none n q
 
   pub start_all : start_from f 0 ≡ start_registers f
   unfolding start_from start_registers
@@ -134,3 +147,5 @@ module _ (f : File) where
             ≡ cond (is_role f device q) (starting_at (drop t f.terms) j t) empty_field
         go q j true h = rw (one_more j, eq-eqb (kind f t) register_kind e, flip (register_of f t) j) (same (is_role f device q) (eqb (register_of f t) j) t _ _)
         go q j false h = rw (undeclared f q (ltb-false q (length f.roles) h)) refl
+
+pub ruleset devices = (devices_none, devices_next, devices_skip)

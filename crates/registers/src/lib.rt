@@ -2,7 +2,7 @@
 #![tactic(auto)]
 
 ghost use Rattle.std.specs.Prelude.{◌≡◌, ℕ, ◌+◌, ◌<◌, length};
-ghost use Rattle.rules.specs.Limits.{party_limit, register_count, register_bytes, empty_field};
+ghost use Rattle.rules.specs.Limits.{party_limit, register_count, register_bytes};
 ghost use Rattle.rules.specs.State.{start_registers};
 ghost use Rattle.state.proofs.Exact.{Bytes};
 ghost use Rattle.loaded.specs.Loaded.{file_in};
@@ -10,6 +10,7 @@ ghost use Rattle.registers.specs.View.{register_at, registers_in, shown_at};
 ghost use Rattle.registers.specs.Starting.{shown_by_devices, start_from};
 
 use loaded::Loaded;
+use rules::{Role, TermKind};
 
 // Where a register of a party stands.
 fn place_of(party: usize, i: usize) -> usize
@@ -20,6 +21,7 @@ fn place_of(party: usize, i: usize) -> usize
 }
 
 // What a register of a party shows.
+#[tactic(auto, using(crate::proofs::Bytes::shown_there))]
 pub fn shown(registers: &[u8], party: usize, i: usize) -> usize
     requires { (length registers.now ≡ register_bytes) × (party < party_limit) × (i < register_count) }
     ensures { result ≡ registers_in registers.now party i }
@@ -29,6 +31,7 @@ pub fn shown(registers: &[u8], party: usize, i: usize) -> usize
 }
 
 // A register of a party shows a term.
+#[tactic(auto, using(crate::proofs::Bytes::shown_put))]
 pub fn show(registers: &mut [u8], party: usize, i: usize, r: usize)
     requires { (length registers.old ≡ register_bytes) × (party < party_limit) × (i < register_count) × (r < 65536) }
     ensures { registers_in registers.new ≡ shown_at (registers_in registers.old) party i r }
@@ -38,15 +41,19 @@ pub fn show(registers: &mut [u8], party: usize, i: usize, r: usize)
     registers[at + 1] = (r % 256) as u8;
 }
 
-// No register shows anything.
-fn clear(registers: &mut [u8])
-    requires { length registers.old ≡ register_bytes }
-    ensures { registers_in registers.new ≡ (λ (p i : ℕ). empty_field) }
+// A register of every device shows a term.
+#[tactic(auto, using(crate::proofs::Start::devices))]
+fn show_all(loaded: &Loaded, registers: &mut [u8], parties: usize, i: usize, r: usize)
+    requires { (length registers.old ≡ register_bytes)
+        × (parties ≡ length (file_in loaded.now.file.now).roles)
+        × (i < register_count)
+        × (r < 65536) }
+    ensures { registers_in registers.new ≡ shown_by_devices (file_in loaded.now.file.now) (registers_in registers.old) parties i r }
 {
-    let mut i = 0;
-    while i < registers.len() {
-        registers[i] = 255;
-        i += 1;
+    for p in 0..parties {
+        if loaded.is_role(p, Role::Device) {
+            show(registers, p, i, r);
+        }
     }
 }
 
@@ -58,5 +65,10 @@ pub fn fill(loaded: &Loaded, registers: &mut [u8], parties: usize, terms: usize)
     ensures shows { registers_in registers.new ≡ start_registers (file_in loaded.now.file.now) }
     ensures bytes { Bytes registers.new }
 {
-    todo
+    registers.fill(255);
+    for t in (0..terms).rev() {
+        if loaded.is_kind(t, TermKind::Register) {
+            show_all(loaded, registers, parties, loaded.register(t), t);
+        }
+    }
 }

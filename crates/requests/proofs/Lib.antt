@@ -1,5 +1,2 @@
-pub mod Read
-pub mod Forms
-pub mod Signers
-pub mod Attests
+pub mod Within
 pub mod Passing

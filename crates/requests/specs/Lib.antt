@@ -1,4 +1,3 @@
-pub mod Search
 pub mod Names
 pub mod Tests
 pub mod Formed

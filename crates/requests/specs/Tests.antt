@@ -9,7 +9,7 @@ use Rattle.rules.specs.Term.{hash_kind, signature_kind, attest_kind, same_subjec
 use Rattle.rules.specs.File.{File, is_kind, hashed_term, message, certified_key, signer, subject, attributes, paired, signs_for, signs_for_role, signs_for_some}
 
 -- the Subject and the signer of the EK's certificate, and both keys
-abbrev pub endorsement_tests : File → Subject → ℕ → ℕ → ℕ → List Test
+unfoldable pub endorsement_tests : File → Subject → ℕ → ℕ → ℕ → List Test
 endorsement_tests f named half iak ek =
     need 21 (is_tpm_subject named)
     ∷ need 21 (signs_for_role f tpm_maker half)
@@ -18,7 +18,7 @@ endorsement_tests f named half iak ek =
     ∷ []
 
 -- what a credential is over and its key, and both keys
-abbrev pub credential_tests : File → ℕ → ℕ → ℕ → ℕ → List Test
+unfoldable pub credential_tests : File → ℕ → ℕ → ℕ → ℕ → List Test
 credential_tests f content key iak ek =
     need 27 (is_kind f hash_kind content)
     ∷ need 27 (eqb (hashed_term f content) iak)
@@ -26,7 +26,7 @@ credential_tests f content key iak ek =
     ∷ []
 
 -- "r is (key, Subject, the desk's key)", by the Subject
-abbrev pub called_tests : File → ℕ → ℕ → ℕ → Subject → List Test
+unfoldable pub called_tests : File → ℕ → ℕ → ℕ → Subject → List Test
 called_tests f desk r key wanted =
     need 27 (eqb (certified_key f r) key)
     ∷ need 27 (same_subject (subject f r) wanted)
@@ -34,14 +34,14 @@ called_tests f desk r key wanted =
     ∷ []
 
 -- a signature over an attest
-abbrev pub attest_tests : File → ℕ → List Test
+unfoldable pub attest_tests : File → ℕ → List Test
 attest_tests f signature =
     need 19 (is_kind f signature_kind signature)
     ∷ need 19 (is_kind f attest_kind (message f signature))
     ∷ []
 
 -- the family, the private key that signed an attest, the attested key, and the key and the signer of the parent's certificate
-abbrev pub parentage_tests : File → Family → ℕ → ℕ → ℕ → ℕ → List Test
+unfoldable pub parentage_tests : File → Family → ℕ → ℕ → ℕ → ℕ → List Test
 parentage_tests f family half new key by =
     need 20 (paired f key half)
     ∷ need 21 (signs_for_some f family.signers by)

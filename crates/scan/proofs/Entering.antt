@@ -1,8 +1,8 @@
 -- The description of the file declared so far holds of the empty file, and of a file with one record more.
---     described-empty      no record
---     described-next       one record more
---     enter-ready          what entering a record needs
---     learnt-declared      a term that a 20 teaches is declared
+--     described_empty      no record
+--     described_next       one record more
+--     enter_ready          what entering a record needs
+--     learnt_declared      a term that a 20 teaches is declared
 -- Assumes nothing.
 use mathlib.Core.Path.{◌≡◌, refl, sym, ap, subst, subst⁻¹, ◌∙◌}
 use mathlib.Core.Bool.{Bool, true, false, cond, ◌&&◌, ◌||◌}
@@ -12,8 +12,8 @@ use Prim.Native.Nat.{ℕ, suc, ◌+◌, ◌*◌, ◌<◌, ◌≤◌}
 use native.Mathlib.Omega.{arith}
 use native.Mathlib.Decide.{dec_lt}
 use lib.Dec.{eqb, leb}
-use lib.ListN.{get_or, length, drop, replicate, set, length-append, get_or-append}
-use lib.Seq.{get_or_at, get_or-take, get_or-drop, get_or-set_same, get_or-set_other}
+use lib.ListN.{get_or, length, drop, replicate, length-append, get_or-append}
+use lib.Seq.{get_or_at, get_or-take, get_or-drop}
 use borrow.Author.Tests.{eqb-true, eqb-false, eq-eqb, ne_eqb, ltb-true, leb-true}
 use Rattle.rules.specs.declared.Term.{Term}
 use Rattle.rules.specs.declared.Term.TheVariants.{Hash}
@@ -30,12 +30,15 @@ use Rattle.theorems.proofs.LoadingFields as fields
 use Rattle.theorems.proofs.LoadingSetup.{Learnable}
 use Rattle.theorems.proofs.Pieces.{body_at, body_length_lem}
 use Rattle.theorems.proofs.Terms.{declared}
+use Rattle.tables.specs.declared.columns.Tables.{Tables}
+use Rattle.tables.specs.Columns.{tables_in}
+use Rattle.tables.proofs.Stores.{zeros_at}
 use Rattle.state.specs.View.{Columns, view, with_knows, with_table, with_place}
 use Rattle.state.proofs.Exact.{view_zero}
 use Rattle.learning.specs.There.{kind_there, term_there, TermRecord, parts_there, learn_there}
 use Rattle.learning.proofs.Opening.{opened_same}
 use Rattle.checks.specs.There.{role_there, TermsThere}
-use Rattle.setup.specs.Allowed.{no_key, setup_leaves, signers_leave}
+use Rattle.setup.specs.Allowed.{setup_leaves, signers_leave}
 use Rattle.scan.specs.declared.Tally.{Tally}
 use Rattle.scan.specs.Describes.{signer_of, Describes, counted, columns_after, signers_after, EnterReady, ScanReady}
 
@@ -75,7 +78,7 @@ learnt_declared f c p t m = go (c.learns_allowed p t m)
     go (inr (inr w)) = let e = w.0 in declared f t (λ h. omega arith)
 
 -- no record
-empty_of : (m : ℕ) (bs s signers : List ℕ) → s ≡ replicate m 0 → length s ≡ m → row_width * term_limit ≤ m → ((p : ℕ) → p < party_limit → get_or signers p 0 ≡ no_key)
+empty_of : (m : ℕ) (bs s : List ℕ) (signers : ℕ → ℕ) → s ≡ replicate m 0 → length s ≡ m → row_width * term_limit ≤ m → ((p : ℕ) → p < party_limit → signers p ≡ 0)
     → Describes empty_file bs s signers (record { section = 0; parties = 0; terms = 0; commands = 0 }) 0
 unfolding empty_file taught nothing holds_key some_setup signer_of
 empty_of m bs s signers clear l room unsigned =
@@ -102,8 +105,8 @@ empty_of m bs s signers clear l room unsigned =
       request = λ t. ap (λ (c : Columns). c.request t) v;
     }
 
-pub described_empty : (bs s signers : List ℕ) → ScanReady bs s signers → Describes empty_file bs s signers (record { section = 0; parties = 0; terms = 0; commands = 0 }) 0
-described_empty bs s signers r = empty_of state_bytes bs s signers r.clear r.room (omega arith) r.unsigned
+pub described_empty : (bs s : List ℕ) (tables : Tables) → ScanReady bs s tables → Describes empty_file bs s (tables_in tables).signer (record { section = 0; parties = 0; terms = 0; commands = 0 }) 0
+described_empty bs s tables r = empty_of state_bytes bs s (tables_in tables).signer r.clear r.room (omega arith) (λ p _. rw r.empty.signers (zeros_at party_limit p))
 
 -- what the columns say of the terms is kept where the places are
 there_kept : (bs s s' : List ℕ) (n : ℕ) → length s' ≡ length s → (view s).place ≡ (view s').place → TermsThere bs s n → TermsThere bs s' n
@@ -124,14 +127,14 @@ record Steady (v w : Columns) : Type 0 where
   request : v.request ≡ w.request
 
 -- a record that declares no term
-module _ (f f' : File) (bs s s' signers signers' : List ℕ) (n n' : Tally) (at at' : ℕ) (d : Describes f bs s signers n at)
+module _ (f f' : File) (bs s s' : List ℕ) (signers signers' : ℕ → ℕ) (n n' : Tally) (at at' : ℕ) (d : Describes f bs s signers n at)
     (terms : f.terms ≡ f'.terms) (places : f.places ≡ f'.places) (count : n'.terms ≡ n.terms)
     (size : length s' ≡ length s) (same : Steady (view s) (view s')) where
   steady : f'.section ≡ n'.section → length f'.roles ≡ n'.parties → length f'.commands ≡ n'.commands → n'.parties ≤ party_limit → 2 * n'.parties ≤ at'
       → (n'.section ≤ party_section → at' ≡ 2 * n'.parties)
       → ((p : ℕ) → p < n'.parties → role_there bs p ≡ role_of f' p)
       → (view s').knows ≡ taught f' f'.setup → (view s').table ≡ holds_key f'
-      → ((p : ℕ) → p < party_limit → get_or signers' p 0 ≡ signer_of f'.setup p)
+      → ((p : ℕ) → p < party_limit → signers' p ≡ signer_of f'.setup p)
       → Describes f' bs s' signers' n' at'
   unfolding term
   steady section parties commands few whole first role knows table signer = record {
@@ -171,13 +174,13 @@ steady_of v w w' e h = subst⁻¹ (Steady v) e h
 steady_refl : (v : Columns) → Steady v v
 steady_refl v = record { place = refl; mark = refl; desk = refl; request = refl }
 
-module _ (f : File) (bs s s' signers signers' : List ℕ) (n : Tally) (at k : ℕ) (d : Describes f bs s signers n at) (size : length s' ≡ length s) where
+module _ (f : File) (bs s s' : List ℕ) (signers signers' : ℕ → ℕ) (n : Tally) (at k : ℕ) (d : Describes f bs s signers n at) (size : length s' ≡ length s) where
   -- a record at a place after all the parties
   after : 2 * n.parties ≤ at + 1 + body_length k
   after = omega (arith, d.parties_whole)
 
-  signer_kept : signers' ≡ signers → (p : ℕ) → p < party_limit → get_or signers' p 0 ≡ signer_of f.setup p
-  signer_kept e p h = ap (λ (l : List ℕ). get_or l p 0) e ∙ d.signer p h
+  signer_kept : signers' ≡ signers → (p : ℕ) → p < party_limit → signers' p ≡ signer_of f.setup p
+  signer_kept e p h = ap (λ (l : ℕ → ℕ). l p) e ∙ d.signer p h
 
   party_next : (role : ℕ) → section_of k ≡ party_section → f.section ≤ party_section → Checked (with_party f role) → get_or bs (at + 1) 0 ≡ role → view s' ≡ view s → signers' ≡ signers
       → Describes (with_party f role) bs s' signers' (record { section = section_of k; parties = n.parties + 1; terms = n.terms; commands = n.commands }) (at + 1 + body_length k)
@@ -221,7 +224,7 @@ module _ (f : File) (bs s s' signers signers' : List ℕ) (n : Tally) (at k : �
 
   setup_steady : (x : Setup) → section_of k ≡ setup_section → Steady (view s) (view s')
       → (view s').knows ≡ taught (with_setup f x) (x ∷ f.setup) → (view s').table ≡ holds_key (with_setup f x)
-      → ((p : ℕ) → p < party_limit → get_or signers' p 0 ≡ signer_of (x ∷ f.setup) p)
+      → ((p : ℕ) → p < party_limit → signers' p ≡ signer_of (x ∷ f.setup) p)
       → Describes (with_setup f x) bs s' signers' setup_counted (at + 1 + body_length k)
   unfolding with_setup role_of
   setup_steady x e same knows table signer =
@@ -253,26 +256,22 @@ module _ (f : File) (bs s s' signers signers' : List ℕ) (n : Tally) (at k : �
       (ap (λ (x : Columns). x.table) v ∙ (λ i q u. (eqb_swap q p i && eqb_swap u j i) || d.table i q u))
       (signer_kept g)
 
-  signs_next : (p j : ℕ) → section_of k ≡ setup_section → length signers ≡ party_limit → view s' ≡ setup_leaves bs (view s) (signs_with p j) → signers' ≡ set signers p j
+  signs_next : (p j : ℕ) → section_of k ≡ setup_section → view s' ≡ setup_leaves bs (view s) (signs_with p j) → signers' ≡ put signers p (j + 1)
       → Describes (with_setup f (signs_with p j)) bs s' signers' setup_counted (at + 1 + body_length k)
-  unfolding with_setup setup_leaves taught parts term holds_key some_setup is_hold signer_of
-  signs_next p j e eight v g =
+  unfolding with_setup setup_leaves taught parts term holds_key some_setup is_hold signer_of put
+  signs_next p j e v g =
       setup_steady (signs_with p j) e
       (steady_of (view s) (view s') (view s) v (steady_refl (view s)))
       (ap (λ (x : Columns). x.knows) v ∙ d.knows ∙ taught_parts f (with_setup f (signs_with p j)) refl f.setup)
       (ap (λ (x : Columns). x.table) v ∙ d.table)
-      (λ q h. ap (λ (l : List ℕ). get_or l q 0) g ∙ go q h (eqb p q) refl)
-    where
-      go : (q : ℕ) → q < party_limit → (b : Bool) → eqb p q ≡ b → get_or (set signers p j) q 0 ≡ cond b j (signer_of f.setup q)
-      go q h true a = let i : p ≡ q = eqb-true p q a in rw i (get_or-set_same signers q j 0 (omega arith))
-      go q h false a = let i = eqb-false p q a in get_or-set_other signers p q j 0 (λ z. i (sym z)) ∙ d.signer q h
+      (λ q h. ap (λ (l : ℕ → ℕ). l q) g ∙ rw (eqb_swap q p) (ap (cond (eqb p q) (j + 1)) (d.signer q h)))
 
-  setup_next : (x : Setup) → section_of k ≡ setup_section → length signers ≡ party_limit → Checked (with_setup f x) → view s' ≡ setup_leaves bs (view s) x → signers' ≡ signers_leave signers x
+  setup_next : (x : Setup) → section_of k ≡ setup_section → Checked (with_setup f x) → view s' ≡ setup_leaves bs (view s) x → signers' ≡ signers_leave signers x
       → Describes (with_setup f x) bs s' signers' setup_counted (at + 1 + body_length k)
   unfolding signers_leave
-  setup_next (learns p t) e eight c v g = learns_next p t e c v g
-  setup_next (holds p j) e eight c v g = holds_next p j e v g
-  setup_next (signs_with p j) e eight c v g = signs_next p j e eight v g
+  setup_next (learns p t) e c v g = learns_next p t e c v g
+  setup_next (holds p j) e c v g = holds_next p j e v g
+  setup_next (signs_with p j) e c v g = signs_next p j e v g
 
 put_same : (c : ℕ → ℕ) (t x u : ℕ) → u ≡ t → put c t x u ≡ x
 unfolding put
@@ -288,7 +287,7 @@ unfolding term_there term_at fields_in names_of
 hash_names bs at e = rw e (Memᴰ.head refl)
 
 -- a term record
-module _ (f : File) (bs s s' signers signers' : List ℕ) (n : Tally) (at : ℕ) (d : Describes f bs s signers n at) (size : length s' ≡ length s)
+module _ (f : File) (bs s s' : List ℕ) (signers signers' : ℕ → ℕ) (n : Tally) (at : ℕ) (d : Describes f bs s signers n at) (size : length s' ≡ length s)
     (first : at < length bs) (is_term : section_of (get_or bs at 0) ≡ term_section) (rest : at + 1 + body_length (get_or bs at 0) ≤ length bs)
     (c : Checked f) (c' : Checked (with_term f (term_at (get_or bs at 0) (body_at bs at)) at))
     (v : view s' ≡ with_place (view s) (put (view s).place n.terms at)) where
@@ -366,7 +365,7 @@ module _ (f : File) (bs s s' signers signers' : List ℕ) (n : Tally) (at : ℕ)
     place_beyond = λ t h. ap (λ (x : Columns). x.place t) v ∙ put_other (view s).place n.terms at t (omega arith) ∙ d.place_beyond t (omega arith);
     knows = knows_next;
     table = ap (λ (x : Columns). x.table) v ∙ d.table;
-    signer = λ p h. ap (λ (l : List ℕ). get_or l p 0) g ∙ d.signer p h;
+    signer = λ p h. ap (λ (l : ℕ → ℕ). l p) g ∙ d.signer p h;
     mark = λ t. ap (λ (x : Columns). x.mark t) v ∙ d.mark t;
     desk = λ t. ap (λ (x : Columns). x.desk t) v ∙ d.desk t;
     request = λ t. ap (λ (x : Columns). x.request t) v ∙ d.request t;
@@ -392,9 +391,9 @@ in_order_lem : (f : File) (k : ℕ) (body : List ℕ) → record_fault f k body 
 unfolding record_fault
 in_order_lem f k body e = section_right f k (first_zero _ _ e).0
 
-module _ (f : File) (bs s s' signers signers' : List ℕ) (n : Tally) (at : ℕ) (d : Describes f bs s signers n at) (g : Good f) (first : at < length bs)
+module _ (f : File) (bs s s' : List ℕ) (signers signers' : ℕ → ℕ) (n : Tally) (at : ℕ) (d : Describes f bs s signers n at) (g : Good f) (first : at < length bs)
     (known : 0 < section_of (get_or bs at 0)) (rest : at + 1 + body_length (get_or bs at 0) ≤ length bs)
-    (size : length s' ≡ length s) (eight : length signers ≡ party_limit) (order : f.section ≤ section_of (get_or bs at 0)) where
+    (size : length s' ≡ length s) (order : f.section ≤ section_of (get_or bs at 0)) where
   next_go : (a b c : Bool) → eqb (section_of (get_or bs at 0)) party_section ≡ a → eqb (section_of (get_or bs at 0)) term_section ≡ b → eqb (section_of (get_or bs at 0)) setup_section ≡ c
       → Checked (cond a (with_party f (get_or (body_at bs at) 0 0)) (cond b (with_term f (term_at (get_or bs at 0) (body_at bs at)) at) (cond c (with_setup f (setup_at (get_or bs at 0) (body_at bs at))) (with_command f (section_of (get_or bs at 0)) (command_at (get_or bs at 0) (body_at bs at))))))
       → view s' ≡ cond b (with_place (view s) (put (view s).place n.terms at)) (cond c (setup_leaves bs (view s) (setup_at (get_or bs at 0) (body_at bs at))) (view s))
@@ -415,7 +414,7 @@ module _ (f : File) (bs s s' signers signers' : List ℕ) (n : Tally) (at : ℕ)
   next_go false true false p q r h v w =
       term_next f bs s s' signers signers' n at d size first (eqb-true (section_of (get_or bs at 0)) term_section q) rest (good_checked f g) h v w
   next_go false false true p q r h v w =
-      setup_next f bs s s' signers signers' n at (get_or bs at 0) d size (setup_at (get_or bs at 0) (body_at bs at)) (eqb-true (section_of (get_or bs at 0)) setup_section r) eight h v w
+      setup_next f bs s s' signers signers' n at (get_or bs at 0) d size (setup_at (get_or bs at 0) (body_at bs at)) (eqb-true (section_of (get_or bs at 0)) setup_section r) h v w
   next_go false false false p q r h v w =
       let x = eqb-false (section_of (get_or bs at 0)) party_section p in
       let y = eqb-false (section_of (get_or bs at 0)) term_section q in
@@ -424,16 +423,16 @@ module _ (f : File) (bs s s' signers signers' : List ℕ) (n : Tally) (at : ℕ)
       command_next f bs s s' signers signers' n at (get_or bs at 0) d size (command_at (get_or bs at 0) (body_at bs at)) (omega arith) v w
 
 -- one record more
-pub described_next : (f : File) (bs s s' signers signers' : List ℕ) (n : Tally) (at : ℕ) → Describes f bs s signers n at → Good f → at < length bs → length bs ≤ file_limit
+pub described_next : (f : File) (bs s s' : List ℕ) (signers signers' : ℕ → ℕ) (n : Tally) (at : ℕ) → Describes f bs s signers n at → Good f → at < length bs → length bs ≤ file_limit
     → 0 < section_of (get_or bs at 0) → at + 1 + body_length (get_or bs at 0) ≤ length bs
     → record_fault f (get_or bs at 0) (body_at bs at) ≡ 0
-    → length s' ≡ length s → length signers' ≡ length signers → length signers ≡ party_limit
+    → length s' ≡ length s
     → view s' ≡ columns_after bs (view s) n (get_or bs at 0) (body_at bs at) at
     → signers' ≡ signers_after signers (get_or bs at 0) (body_at bs at)
     → Describes (enter f at (get_or bs at 0) (body_at bs at)) bs s' signers' (counted (section_of (get_or bs at 0)) n) (at + 1 + body_length (get_or bs at 0))
 unfolding enter counted columns_after signers_after
-described_next f bs s s' signers signers' n at d g first short known rest none size size' eight v w =
-    next_go f bs s s' signers signers' n at d g first known rest size eight (in_order_lem f (get_or bs at 0) (body_at bs at) none)
+described_next f bs s s' signers signers' n at d g first short known rest none size v w =
+    next_go f bs s s' signers signers' n at d g first known rest size (in_order_lem f (get_or bs at 0) (body_at bs at) none)
     (eqb (section_of (get_or bs at 0)) party_section) (eqb (section_of (get_or bs at 0)) term_section) (eqb (section_of (get_or bs at 0)) setup_section) refl refl refl
     (good_checked (enter f at (get_or bs at 0) (body_at bs at)) (entered f at (get_or bs at 0) (body_at bs at) g known none)) v w
 
@@ -463,7 +462,7 @@ unfolding count_fault
 room_for_term_lem f k none e = ltb-true (length f.terms) term_limit (refuse_zero 6 _ (omega arith) (rw e at none))
 
 -- what entering a record needs
-pub enter_ready : (f : File) (bs s signers : List ℕ) (n : Tally) (at : ℕ) → Describes f bs s signers n at → Good f → at < length bs → length bs ≤ file_limit
+pub enter_ready : (f : File) (bs s : List ℕ) (signers : ℕ → ℕ) (n : Tally) (at : ℕ) → Describes f bs s signers n at → Good f → at < length bs → length bs ≤ file_limit
     → 0 < section_of (get_or bs at 0) → at + 1 + body_length (get_or bs at 0) ≤ length bs
     → section_fault f (get_or bs at 0) ≡ 0 → count_fault f (get_or bs at 0) ≡ 0 → fields_fault f (fields_of (get_or bs at 0)) 0 (body_at bs at) ≡ 0
     → EnterReady bs s (body_at bs at) (get_or bs at 0) at n

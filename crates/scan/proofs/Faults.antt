@@ -1,9 +1,8 @@
 -- What is wrong with a record by the bytes is what the rules find wrong with it, where the bytes describe the file declared so far.
---     signer-is, signer-given                              the signing key of a party
---     field-same, allowed_same, alike_same, last-same      7 to 12, each by itself
---     head-zero, refuse-head                               3 to 6
---     fields-next, fields-stop                             7 and 8, one field after the other
---     refuse-fields, refuse-last, taken                    what loading makes of the record
+--     signer_is, signer_given                  the signing key of a party
+--     fields_same, allowed_same, alike_same    7 to 12, each by itself
+--     head_zero, refuse_head                   3 to 6
+--     refuse_fields, refuse_last, taken        what loading makes of the record
 -- Assumes nothing.
 use mathlib.Core.Path.{◌≡◌, refl, sym, ap, ap₂, ◌∙◌, subst}
 use mathlib.Core.Logic.{◌⊎◌, inl, inr}
@@ -32,7 +31,8 @@ use Rattle.tables.specs.Columns.{Terms, field_of}
 use Rattle.learning.specs.There.{term_there}
 use Rattle.learning.specs.Noted.{Noted}
 use Rattle.checks.specs.There.{head_fault, role_there, kind_fault_noted, inner_fault_noted, field_fault_noted, any_alike_there}
-use Rattle.setup.specs.Allowed.{no_key, signs_there, may_learn_there, may_hold_there, may_sign_there, allowed_there}
+use Rattle.checks.specs.Plain.{fields_fault_noted}
+use Rattle.setup.specs.Allowed.{signs_there, may_learn_there, may_hold_there, may_sign_there, allowed_there}
 use Rattle.theorems.proofs.LoadingFields.{SetupFields, first_zero, setup_passed}
 use Rattle.theorems.proofs.Loading.{Checked, Good, good_checked}
 use Rattle.theorems.proofs.Terms.{parts_signature, private_declared, setup_found, setup_finds, holds_given, given_holds, signs_role_given}
@@ -53,11 +53,6 @@ both : (a b : Bool) → a ≡ true → b ≡ true → (a && b) ≡ true
 both true true p q = refl
 both true false p q = q
 both false b p q = p
-
--- the last of three tests matters where the first passes
-last_of_three : (a b c e : Bool) → (a ≡ true → c ≡ e) → (a && b && c) ≡ (a && b && e)
-last_of_three true b c e h = rw (h refl)
-last_of_three false b c e h = refl
 
 -- some number below n passes a test
 some_below : (ℕ → Bool) → ℕ → Bool
@@ -87,7 +82,7 @@ unfolding any_alike_there some_below
 alike_below bs place x zero = refl
 alike_below bs place x (suc n) = rw (alike_below bs place x n)
 
-signs_below : (bs signers : List ℕ) (role k n : ℕ) → signs_there bs signers role k n ≡ some_below (λ p. eqb (get_or signers p 0) k && eqb (role_there bs p) role) n
+signs_below : (bs : List ℕ) (signers : ℕ → ℕ) (role k n : ℕ) → signs_there bs signers role k n ≡ some_below (λ p. eqb (signers p) (k + 1) && eqb (role_there bs p) role) n
 unfolding signs_there some_below
 signs_below bs signers role k zero = refl
 signs_below bs signers role k (suc n) = rw (signs_below bs signers role k n)
@@ -171,20 +166,14 @@ fault_parts : (f : File) (k : ℕ) (body : List ℕ)
 unfolding record_fault
 fault_parts f k body = sym (first_assoc _ _ _)
 
--- Fields.
-module _ (f : File) (xs : List Field) (i offset : ℕ) (body : List ℕ) (l : i < length xs) where
-  one_field : fields_fault f (drop i xs) offset body ≡ first (field_fault f (get_or xs i AnyTerm) offset body) (fields_fault f (drop (i + 1) xs) (offset + width (get_or xs i AnyTerm)) body)
-  unfolding fields_fault
-  one_field = rw (add-one, drop-cons xs i AnyTerm)
-
 -- Terms.
--- The signing key of a party: that of its 22, or none where it has none.
+-- One more than the signing key of a party: that of its 22, or 0 where it has none.
 abbrev Signer : List Setup → ℕ → ℕ → Type 0
-Signer xs p k = Memᴰ (signs_with p k) xs ⊎ ((k ≡ no_key) × ((j : ℕ) → Memᴰ (signs_with p j) xs → ⊥))
+Signer xs p x = ((k : ℕ) × (x ≡ k + 1) × Memᴰ (signs_with p k) xs) ⊎ ((x ≡ 0) × ((j : ℕ) → Memᴰ (signs_with p j) xs → ⊥))
 
-signer_skip : (x : Setup) (xs : List Setup) (p k : ℕ) → ((j : ℕ) → signs_with p j ≡ x → ⊥) → Signer xs p k → Signer (x ∷ xs) p k
-signer_skip x xs p k other (inl m) = inl (mathlib.Core.List.Memᴰ.tail m)
-signer_skip x xs p k other (inr h) = inr (h.0, λ j m. elim (mathlib.Core.List.Memᴰ.cases_cons m) [ inl e ↦ other j e | inr r ↦ h.1 j r ])
+signer_skip : (x : Setup) (xs : List Setup) (p y : ℕ) → ((j : ℕ) → signs_with p j ≡ x → ⊥) → Signer xs p y → Signer (x ∷ xs) p y
+signer_skip x xs p y other (inl (k, e, m)) = inl (k, e, mathlib.Core.List.Memᴰ.tail m)
+signer_skip x xs p y other (inr h) = inr (h.0, λ j m. elim (mathlib.Core.List.Memᴰ.cases_cons m) [ inl e ↦ other j e | inr r ↦ h.1 j r ])
 
 signer_cases : (xs : List Setup) (p : ℕ) → Signer xs p (signer_of xs p)
 unfolding signer_of
@@ -193,17 +182,17 @@ signer_cases (learns q t ∷ xs) p = signer_skip (learns q t) xs p _ (λ j e. le
 signer_cases (holds q t ∷ xs) p = signer_skip (holds q t) xs p _ (λ j e. let z : ◌≡◌ {A = ℕ} 0 1 = cc in omega arith) (signer_cases xs p)
 signer_cases (signs_with q t ∷ xs) p = go (eqb q p) refl (signer_cases xs p)
   where
-    go : (b : Bool) → eqb q p ≡ b → Signer xs p (signer_of xs p) → Signer (signs_with q t ∷ xs) p (cond b t (signer_of xs p))
-    go true e h = let same : signs_with p t ≡ signs_with q t = ap (λ (r : ℕ). signs_with r t) (sym (eqb-true q p e)) in inl (mathlib.Core.List.Memᴰ.head same)
+    go : (b : Bool) → eqb q p ≡ b → Signer xs p (signer_of xs p) → Signer (signs_with q t ∷ xs) p (cond b (t + 1) (signer_of xs p))
+    go true e h = let same : signs_with p t ≡ signs_with q t = ap (λ (r : ℕ). signs_with r t) (sym (eqb-true q p e)) in inl (t, refl, mathlib.Core.List.Memᴰ.head same)
     go false e h = signer_skip (signs_with q t) xs p _ (λ j r. eqb-false q p e (cc)) h
 
 -- the key of a party's 22 is its signing key
-pub signer_is : (f : File) → Checked f → (p k : ℕ) → Memᴰ (signs_with p k) f.setup → signer_of f.setup p ≡ k
-signer_is f c p k m = elim (signer_cases f.setup p) [ inl h ↦ c.signs_one p _ k h m | inr h ↦ absurd (h.1 k m) ]
+pub signer_is : (f : File) → Checked f → (p k : ℕ) → Memᴰ (signs_with p k) f.setup → signer_of f.setup p ≡ k + 1
+signer_is f c p k m = elim (signer_cases f.setup p) [ inl (j, e, h) ↦ let q = c.signs_one p j k h m in omega arith | inr h ↦ absurd (h.1 k m) ]
 
-pub signer_given : (f : File) (p k : ℕ) → k < no_key → signer_of f.setup p ≡ k → Memᴰ (signs_with p k) f.setup
-signer_given f p k l e =
-    elim (signer_cases f.setup p) [ inl h ↦ mathlib.Core.List.Memᴰ.cast (ap (λ (j : ℕ). signs_with p j) (sym e)) h | inr h ↦ let z = h.0 in absurd (omega arith) ]
+pub signer_given : (f : File) (p k : ℕ) → signer_of f.setup p ≡ k + 1 → Memᴰ (signs_with p k) f.setup
+signer_given f p k e =
+    elim (signer_cases f.setup p) [ inl (j, q, h) ↦ let same : j ≡ k = omega arith in subst (λ (i : ℕ). Memᴰ (signs_with p i) f.setup) same h | inr h ↦ let z = h.0 in absurd (omega arith) ]
 
 -- another party holds the key
 abbrev is_other : File → ℕ → ℕ → ℕ → Bool
@@ -215,7 +204,7 @@ SetupRight f n (learns p t) = (p < n.parties) × (t < n.terms)
 SetupRight f n (holds p k) = (p < n.parties) × (k < n.terms) × (kind f k ≡ private_key_kind)
 SetupRight f n (signs_with p k) = (p < n.parties) × (k < n.terms) × (kind f k ≡ private_key_kind)
 
-module _ (f : File) (bs s signers : List ℕ) (n : Tally) (at : ℕ) (d : Describes f bs s signers n at) (g : Good f) where
+module _ (f : File) (bs s : List ℕ) (signers : ℕ → ℕ) (n : Tally) (at : ℕ) (d : Describes f bs s signers n at) (g : Good f) where
   kind_same : (t : ℕ) → t < n.terms → get_or bs ((view s).place t) 0 ≡ kind f t
   unfolding kind term_there
   kind_same t h = sym (term_kind (get_or bs ((view s).place t) 0) _ (d.there.whole t h).is_term) ∙ ap kind_of (d.term_is t h)
@@ -263,7 +252,7 @@ module _ (f : File) (bs s signers : List ℕ) (n : Tally) (at : ℕ) (d : Descri
         let k = eqb-true (kind f t) outer e in
         rw (content_noted t b, kind_noted (field f t 0) (below b k))))
 
-    pub field_same : (x : Field) (i : ℕ) (body : List ℕ) → field_fault_noted v n.parties n.terms x i body ≡ field_fault f x i body
+    field_same : (x : Field) (i : ℕ) (body : List ℕ) → field_fault_noted v n.parties n.terms x i body ≡ field_fault f x i body
     unfolding field_fault_noted field_fault declared_fault is_kind message hashed_term
     field_same RoleField i body = refl
     field_same IdentifierField i body = refl
@@ -279,25 +268,25 @@ module _ (f : File) (bs s signers : List ℕ) (n : Tally) (at : ℕ) (d : Descri
     field_same HashedPair i body = inner_same hash_kind pair_kind (word body i) (hashed_declared (word body i))
     field_same SignedQuote i body = inner_same signature_kind quote_kind (word body i) (message_declared (word body i))
 
-  -- the keys of the 22s are declared terms
-  key_declared : (p k : ℕ) → Memᴰ (signs_with p k) f.setup → k < no_key
-  key_declared p k m =
-      let c = good_checked f g in
-      omega (arith, c.few_terms, private_declared f k (c.holds_kind p k (c.signs_held p k m)))
+    -- and those of all fields
+    pub fields_same : (xs : List Field) (i : ℕ) (body : List ℕ) → fields_fault_noted v n.parties n.terms xs i body ≡ fields_fault f xs i body
+    unfolding fields_fault_noted fields_fault
+    fields_same [] i body = refl
+    fields_same (x ∷ xs) i body = rw (field_same x i body, fields_same xs (i + width x) body) refl
 
-  signs_same : (role k : ℕ) → k < no_key → signs_there bs signers role k n.parties ≡ signs_for_role f role k
+  signs_same : (role k : ℕ) → signs_there bs signers role k n.parties ≡ signs_for_role f role k
   unfolding signs_for_role is_signing_key_for is_role
-  signs_same role k l = signs_below bs signers role k n.parties ∙ same_test _ _ to back
+  signs_same role k = signs_below bs signers role k n.parties ∙ same_test _ _ to back
     where
-      to : some_below (λ p. eqb (get_or signers p 0) k && eqb (role_there bs p) role) n.parties ≡ true → some_setup (is_signing_key_for f role k) f.setup ≡ true
+      to : some_below (λ p. eqb (signers p) (k + 1) && eqb (role_there bs p) role) n.parties ≡ true → some_setup (is_signing_key_for f role k) f.setup ≡ true
       to e =
           let (p, b, t) = below_found _ n.parties e in
           let h = and_true _ _ t in
           let few = d.few_parties in
-          let m = signer_given f p k l (sym (d.signer p (omega arith)) ∙ eqb-true _ _ h.0) in
+          let m = signer_given f p k (sym (d.signer p (omega arith)) ∙ eqb-true _ _ h.0) in
           setup_finds (is_signing_key_for f role k) (both _ _ (eq-eqb _ _ (sym (d.role p b) ∙ eqb-true _ _ h.1)) (eq-eqb k k refl)) m
 
-      back : some_setup (is_signing_key_for f role k) f.setup ≡ true → some_below (λ p. eqb (get_or signers p 0) k && eqb (role_there bs p) role) n.parties ≡ true
+      back : some_setup (is_signing_key_for f role k) f.setup ≡ true → some_below (λ p. eqb (signers p) (k + 1) && eqb (role_there bs p) role) n.parties ≡ true
       back e =
           let (p, m, t) = signs_role_given f role k e in
           let c = good_checked f g in
@@ -307,12 +296,7 @@ module _ (f : File) (bs s signers : List ℕ) (n : Tally) (at : ℕ) (d : Descri
 
   learn_same : (t : ℕ) → t < n.terms → may_learn_there bs (view s).place signers n.parties t ≡ may_learn f t
   unfolding may_learn_there may_learn is_kind subject signer field
-  learn_same t h =
-      rw (kind_same t h, d.term_is t h)
-      (ap (λ (b : Bool). eqb (kind f t) public_key_kind || eqb (kind f t) number_kind || b) (last_of_three _ _ _ _ (λ e. signs_same tpm_maker (signer f t) (small e))))
-    where
-      small : eqb (kind f t) certificate_kind ≡ true → signer f t < no_key
-      small e = let c = good_checked f g in omega (arith, c.few_terms, private_declared f (signer f t) (c.signer_kind t (eqb-true _ _ e)))
+  learn_same t h = rw (kind_same t h, d.term_is t h, signs_same tpm_maker (get_or (fields_in (term f t)) 3 0)) refl
 
   other_same : (p k : ℕ) → in_other (holds_key f) p k party_limit ≡ some_setup (is_other_hold p k) f.setup
   unfolding is_other_hold
@@ -343,7 +327,7 @@ module _ (f : File) (bs s signers : List ℕ) (n : Tally) (at : ℕ) (d : Descri
       ∙ ap (λ (b : Bool). not (has (attributes f k) fixed_tpm) || not b) (ap (λ (table : ℕ → ℕ → Bool). in_other table p k party_limit) d.table ∙ other_same p k)
 
   -- a party has no signing key by the bytes exactly if it has no 22
-  unsigned_same : (p : ℕ) → p < n.parties → eqb (get_or signers p 0) no_key ≡ not (some_setup (is_signer p) f.setup)
+  unsigned_same : (p : ℕ) → p < n.parties → eqb (signers p) 0 ≡ not (some_setup (is_signer p) f.setup)
   unfolding is_signer
   unsigned_same p h = let few = d.few_parties in rw (d.signer p (omega arith)) (go (signer_cases f.setup p))
     where
@@ -352,15 +336,14 @@ module _ (f : File) (bs s signers : List ℕ) (n : Tally) (at : ℕ) (d : Descri
       given (holds q k) m e = absurd (false≢true e)
       given (signs_with q k) m e = (k, mathlib.Core.List.Memᴰ.cast (ap (λ (r : ℕ). signs_with r k) (sym (eqb-true q p e))) m)
 
-      go : Signer f.setup p (signer_of f.setup p) → eqb (signer_of f.setup p) no_key ≡ not (some_setup (is_signer p) f.setup)
-      go (inl m) =
-          let l = key_declared p (signer_of f.setup p) m in
+      go : Signer f.setup p (signer_of f.setup p) → eqb (signer_of f.setup p) 0 ≡ not (some_setup (is_signer p) f.setup)
+      go (inl (k, e, m)) =
           let some : some_setup (is_signer p) f.setup ≡ true = setup_finds (is_signer p) (eq-eqb p p refl) m in
-          let other : eqb (signer_of f.setup p) no_key ≡ false = ne_eqb (signer_of f.setup p) no_key (λ e. omega arith) in
+          let other : eqb (signer_of f.setup p) 0 ≡ false = ne_eqb (signer_of f.setup p) 0 (λ z. omega arith) in
           rw (some, other)
       go (inr h) =
           let none : some_setup (is_signer p) f.setup ≡ false = same_test _ _ (λ e. let (x, m, t) = setup_found (is_signer p) f.setup e in let (k, r) = given x m t in absurd (h.1 k r)) (λ e. absurd (false≢true e)) in
-          let same : eqb (signer_of f.setup p) no_key ≡ true = eq-eqb (signer_of f.setup p) no_key h.0 in
+          let same : eqb (signer_of f.setup p) 0 ≡ true = eq-eqb (signer_of f.setup p) 0 h.0 in
           rw (none, same)
 
   sign_same : (p k : ℕ) → p < n.parties → k < n.terms → may_sign_there bs (view s) signers p k ≡ may_sign f p k
@@ -422,17 +405,6 @@ module _ (f : File) (bs s signers : List ℕ) (n : Tally) (at : ℕ) (d : Descri
       let known : section_of k ≡ 0 → ⊥ = eqb-false (section_of k) 0 h.0 in
       let z = first_zero _ _ h.2 in
       (omega arith, ltb-false (length bs) end h.1, z.0, z.1)
-
-  -- 7, 8: one field after the other
-  pub fields_next :
-      (k i offset : ℕ) (body : List ℕ) → i < length (fields_of k) → field_fault f (get_or (fields_of k) i AnyTerm) offset body ≡ 0
-      → fields_fault f (drop i (fields_of k)) offset body ≡ fields_fault f (drop (i + 1) (fields_of k)) (offset + width (get_or (fields_of k) i AnyTerm)) body
-  fields_next k i offset body l e = one_field f (fields_of k) i offset body l ∙ first_next _ _ e
-
-  pub fields_stop :
-      (k i offset : ℕ) (body : List ℕ) (r : ℕ) → i < length (fields_of k) → field_fault f (get_or (fields_of k) i AnyTerm) offset body ≡ suc r
-      → fields_fault f (drop i (fields_of k)) offset body ≡ suc r
-  fields_stop k i offset body r l e = one_field f (fields_of k) i offset body l ∙ first_some _ _ r e
 
   -- the record at the place
   module _ (inside : at < length bs) where

@@ -3,20 +3,22 @@ use Rattle.std.specs.Prelude.{◌≡◌, cond, not, List, [], ◌∷◌, ℕ, su
 use Rattle.rules.specs.declared.Refused.{Refused}
 use Rattle.rules.specs.Codes.{number_of}
 use Rattle.rules.specs.Limits.{file_limit, party_limit, term_limit, state_bytes}
-use Rattle.rules.specs.Record.{section_of, body_length, party_section, term_section, setup_section, command_section, word}
+use Rattle.rules.specs.Record.{section_of, fields_of, body_length, party_section, term_section, setup_section, command_section, word}
 use Rattle.rules.specs.File.{File, Setup, learns, holds, signs_with, term, role_of, holds_key}
-use Rattle.rules.specs.Load.{refuse_unless, term_at, setup_at, feed, load, loaded, refused}
+use Rattle.rules.specs.Load.{first, refuse_unless, term_at, setup_at, feed, load, loaded, refused}
 use Rattle.rules.specs.State.{taught, put}
-use Rattle.records.specs.Codes.{FieldRows}
 use Rattle.state.specs.View.{Columns, view, with_place}
 use Rattle.tables.specs.declared.columns.Tables.{Tables}
-use Rattle.tables.specs.Columns.{Terms, EmptyTables}
+use Rattle.tables.specs.Columns.{Terms, EmptyTables, tables_in}
 use Rattle.learning.specs.There.{term_there}
 use Rattle.learning.specs.Noted.{Noted}
-use Rattle.checks.specs.There.{TermsThere, role_there, any_alike_there}
+use Rattle.index.specs.Indexed.{Indexed}
+use Rattle.checks.specs.There.{TermsThere, role_there, any_alike_there, head_fault}
+use Rattle.checks.specs.Plain.{fields_fault_noted}
 use Rattle.setup.specs.Allowed.{allowed_there, setup_leaves, signers_leave}
 use Rattle.theorems.proofs.Loading.{Good}
-use Rattle.theorems.proofs.Pieces.{from}
+use Rattle.theorems.proofs.Pieces.{from, body_at}
+use Rattle.reader.specs.Place.{next_place}
 use Rattle.scan.specs.declared.Tally.{Tally}
 use Rattle.scan.specs.declared.Scanned.{Scanned}
 
@@ -59,6 +61,12 @@ counted own n =
     (cond (eqb own setup_section) (record { section = own; parties = n.parties; terms = n.terms; commands = n.commands })
     (record { section = own; parties = n.parties; terms = n.terms; commands = n.commands + 1 })))
 
+-- 3 to 8 at the record at a place, by the section, the parties and the terms so far
+unfoldable pub checked_fault : List ℕ → Terms → ℕ → ℕ → ℕ → ℕ → ℕ
+checked_fault bs v section parties terms at =
+    first (head_fault (section_of (get_or bs at 0)) (next_place bs at) (length bs) section parties terms)
+    (fields_fault_noted v parties terms (fields_of (get_or bs at 0)) 0 (body_at bs at))
+
 -- 9 to 12 at a record whose fields are right
 unfoldable pub last_fault : List ℕ → Columns → (ℕ → ℕ) → Tally → ℕ → List ℕ → ℕ
 last_fault bs v signers n k body =
@@ -98,6 +106,22 @@ pub record At (bs s : List ℕ) (signers : ℕ → ℕ) (n : Tally) (at : ℕ) :
   pub in_order : n.section ≤ command_section
   pub left : feed (loaded file) (from bs at) ≡ load bs
 
+-- and before the commands: the terms so far are indexed
+pub record Stands (bs s links : List ℕ) (tables : Tables) (n : Tally) (at : ℕ) : Type 0 where
+  pub here : At bs s (tables_in tables).signer n at
+  pub indexed : Indexed bs (view s).place links tables n.terms
+
+-- the scan stands at a place, whatever the state and the signing keys; the tables have the terms
+pub record Reached (bs : List ℕ) (v : Terms) (section parties terms at : ℕ) : Type 0 where
+  pub state : List ℕ
+  pub signers : ℕ → ℕ
+  pub tally : Tally
+  pub here : At bs state signers tally at
+  pub noted : Noted bs (view state).place v tally.terms
+  pub section_is : tally.section ≡ section
+  pub parties_is : tally.parties ≡ parties
+  pub terms_is : tally.terms ≡ terms
+
 -- what the scan starts from
 pub record ScanReady (bs s : List ℕ) (tables : Tables) : Type 0 where
   pub short : length bs ≤ file_limit
@@ -109,17 +133,3 @@ pub record ScanReady (bs s : List ℕ) (tables : Tables) : Type 0 where
 pub record ScanResult (bs s : List ℕ) (signers : ℕ → ℕ) (r : Result Scanned Refused) : Type 0 where
   pub described : IfOk r (λ x. (f : File) × (load bs ≡ loaded f) × Describes f bs s signers x.tally (length bs))
   pub refused : IfErr r (λ x. load bs ≡ refused (number_of x.refusal) x.place)
-
--- what the scan of the commands starts from: the first of them, whatever the state and the signing keys; the tables have the terms
-pub record CommandsReady (bs table : List ℕ) (v : Terms) (n : Tally) (at : ℕ) : Type 0 where
-  pub rows : FieldRows table
-  pub state : List ℕ
-  pub signers : ℕ → ℕ
-  pub here : At bs state signers n at
-  pub noted : Noted bs (view state).place v n.terms
-  pub more : at < length bs
-  pub command : section_of (get_or bs at 0) ≡ command_section
-
--- what it leaves, whatever they are
-abbrev pub CommandsResult : List ℕ → Terms → Tally → ℕ → Result Scanned Refused → Type 0
-CommandsResult bs v n at r = (s : List ℕ) (signers : ℕ → ℕ) → At bs s signers n at → Noted bs (view s).place v n.terms → ScanResult bs s signers r

@@ -1,5 +1,4 @@
-use mathlib.Core.Path.{sym}
-use native.Mathlib.Omega.{arith}
+use Rattle.std.proofs.Common.{sym, arith}
 use Rattle.learning.proofs.Words.{key_attributes_lem, no_attributes_lem}
 use Rattle.learning.proofs.attributes_at.Goals as goal
 

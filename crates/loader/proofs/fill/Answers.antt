@@ -1,23 +1,17 @@
-use mathlib.Core.Path.{refl, ◌∙◌}
-use Rattle.index.proofs.Empty.{indexed_none}
-use Rattle.loader.proofs.Filling.{scan_ready, fill_refused, fill_loaded}
+use mathlib.Core.Path.{sym, ◌∙◌}
+use Rattle.loader.proofs.Filling.{cleared, scan_ready, fill_loaded, fill_refused}
 use Rattle.loader.proofs.fill.Goals as goal
 
 pub scan-found-requires : goal.scan-found-requires
-scan-found-requires c =
-    let s = c.requires in
-    (scan_ready s c.clear.ensures c.clear.auto.state, indexed_none _ _ _ _ refl s.empty)
+scan-found-requires c = scan_ready c.requires (c.fill.ensures.after (λ y e. e)) c.fill.ensures.len
 
-pub returns-then-number-ne0 : goal.returns-then-number-ne0
-returns-then-number-ne0 c =
+pub returns-then-is_err : goal.returns-then-is_err
+returns-then-is_err c =
     let t = c.scan-found in
-    fill_refused _ _ _ _ t.ensures.result c.args.state.now _ _ c.if-number-ne0.true c.clear-then-number-ne0.ensures (t.auto.state ∙ c.clear.auto.state) c.requires.room
+    fill_refused t.result (sym c.is_err.ensures.value ∙ c.if-is_err.true) t.ensures.result
+    (cleared _ (c.fill-then-is_err.ensures.after (λ y e. e)) (t.auto.state ∙ c.fill.ensures.len ∙ c.requires.room))
 
-pub note_signers-requires : goal.note_signers-requires
-note_signers-requires c = (c.scan-found.ensures.indexed c.if-number-ne0.false).words
-
-pub returns : goal.returns
-returns c =
+pub returns-else-is_err : goal.returns-else-is_err
+returns-else-is_err c =
     let t = c.scan-found in
-    let z = c.if-number-ne0.false in
-    fill_loaded _ _ _ _ t.ensures.result _ _ _ (t.ensures.indexed z) c.note_signers.ensures t.ensures.first z
+    fill_loaded t.result (sym c.is_err.ensures.value ∙ c.if-is_err.false) t.ensures.result t.ensures.first t.ensures.indexed

@@ -1,0 +1,46 @@
+-- The faults of the fields of a body, one field after the other. Assumes nothing.
+use mathlib.Core.Path.{◌≡◌, refl, sym, ap, ◌∙◌}
+use mathlib.Core.List.{List, [], ◌∷◌}
+use Prim.Native.Nat.{ℕ, zero, suc, ◌+◌, ◌<◌, ◌≤◌}
+use native.Mathlib.Omega.{arith}
+use lib.ListN.{length, get_or, drop}
+use Rattle.std.proofs.Common.{add-one, drop-cons}
+use Rattle.std.proofs.lemmas.List.{drop_all}
+use Rattle.rules.specs.declared.Field.{Field}
+use Rattle.rules.specs.declared.Field.TheVariants.{RoleField}
+use Rattle.rules.specs.declared.Refusal.{Refusal}
+use Rattle.rules.specs.Codes.{number_of}
+use Rattle.rules.specs.Record.{width, widths}
+use Rattle.rules.specs.Load.{first}
+use Rattle.tables.specs.Columns.{Terms}
+use Rattle.checks.specs.There.{field_fault_noted}
+use Rattle.checks.specs.Fields.{fields_fault_noted}
+
+pub refused_some : (r : Refusal) → number_of r ≡ 0 → ⊥
+refused_some r e = grind arith
+
+-- a refusal comes before what would be next
+pub first_refused : (a : ℕ) (r : Refusal) (b : ℕ) → number_of r ≡ a → number_of r ≡ first a b
+unfolding first
+first_refused zero r b e = absurd (refused_some r e)
+first_refused (suc a) r b e = e
+
+pub first_passed : {a : ℕ} (b : ℕ) → 0 ≡ a → first a b ≡ b
+unfolding first
+first_passed b e = rw (← e) refl
+
+module _ (xs : List Field) (i : ℕ) (h : i < length xs) where
+  this_field : drop i xs ≡ get_or xs i RoleField ∷ drop (i + 1) xs
+  this_field = rw (add-one, drop-cons xs i RoleField) refl
+
+  pub widths_left : widths (drop i xs) ≡ width (get_or xs i RoleField) + widths (drop (i + 1) xs)
+  unfolding widths
+  widths_left = ap widths this_field
+
+  pub faults_left : (v : Terms) (parties terms at : ℕ) (body : List ℕ) → fields_fault_noted v parties terms (drop i xs) at body ≡ first (field_fault_noted v parties terms (get_or xs i RoleField) at body) (fields_fault_noted v parties terms (drop (i + 1) xs) (at + width (get_or xs i RoleField)) body)
+  unfolding fields_fault_noted
+  faults_left v parties terms at body = ap (λ (fs : List Field). fields_fault_noted v parties terms fs at body) this_field
+
+pub none_left : (xs : List Field) (i : ℕ) → length xs ≤ i → (v : Terms) (parties terms at : ℕ) (body : List ℕ) → fields_fault_noted v parties terms (drop i xs) at body ≡ 0
+unfolding fields_fault_noted
+none_left xs i h v parties terms at body = rw (drop_all i xs h) refl
