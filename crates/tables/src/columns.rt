@@ -15,6 +15,7 @@ pub const BUCKETS: usize = 1024;
 // kind of each term and its fields. The ledger's entries by their Subject's serial number: of each bucket, the entry that was linked last; of
 // each place of the ledger, the serial number that its entry is linked by, the entry that was linked before it in its bucket, and the EK at
 // the end of its path. Keys, halves and entries are one more than their number, 0 where there is none.
+#[derive(Drop)]
 pub struct Tables {
     signers: [u16; rules::PARTY_LIMIT],
     halves: [u16; rules::TERM_LIMIT],
