@@ -1,73 +1,132 @@
 -- Before the first command, by its cases.
---     state-long, ledger-long, outcomes-long, registers-long      what the test of the lengths says
---     start-ready                    what loading leaves is what registers are filled by
---     begins-short, begins-long, begins-parts     too short a buffer, too long a file, and the first parts written
+--     Room                           buffers that are long enough
+--     too_long                       a file that is too long does not load
+--     short_refuses, long_refuses    1 and 2
+--     load_refuses                   3 to 12
+--     fill_reads, fill_counts        what loading leaves is what registers are filled by
+--     begins                         a file that loads
 -- Assumes nothing.
 use Rattle.tables.specs.declared.columns.Tables.{Tables}
 use mathlib.Core.Path.{◌≡◌, refl, sym, ap, subst⁻¹, ◌∙◌}
-use mathlib.Core.Logic.{inl, inr}
-use mathlib.Core.Bool.{true, false, false≢true, ◌&&◌}
-use mathlib.Core.List.{List, ◌++◌}
-use Prim.Native.Nat.{ℕ, ◌<◌, ◌≤◌}
+use mathlib.Core.Bool.{Bool, true, false, ◌&&◌}
+use mathlib.Core.List.{List, [], ◌∷◌, ◌++◌}
+use Prim.Native.Nat.{ℕ, zero, suc, ◌-◌, ◌<◌, ◌≤◌}
 use native.Mathlib.Omega.{arith}
 use lib.Dec.{leb}
-use lib.ListN.{length, take, drop}
+use lib.ListN.{length, take, drop, replicate}
 use lib.Seq.{take_at, drop_at}
-use borrow.Author.Tests.{leb-true}
+use borrow.Author.Tests.{le-leb, lt-leb, leb-true}
+use Rattle.rules.specs.declared.Entry.{Entry}
+use Rattle.rules.specs.declared.Refused.{Refused}
+use Rattle.rules.specs.declared.Refusal.TheVariants.{BufferShort, FileLong}
+use Rattle.rules.specs.Codes.{number_of}
 use Rattle.rules.specs.Limits.{file_limit, term_limit, command_limit, state_bytes, register_bytes}
-use Rattle.theorems.proofs.Booleans.{and_true}
 use Rattle.rules.specs.File.{File}
+use Rattle.rules.specs.Load.{load, refused}
+use Rattle.rules.specs.State.{start_registers}
+use Rattle.rules.specs.Lent.{no_entry, refusal, first_part, long_enough, answered, leaves, written, run_answer, run_leaves}
+use Rattle.theorems.proofs.Booleans.{and_true}
+use Rattle.state.proofs.Exact.{Bytes}
+use Rattle.ledger.specs.Placed.{cleared}
+use Rattle.ledger.proofs.Placed.{cleared_first}
 use Rattle.scan.specs.declared.Scanned.{Scanned}
-use Rattle.loader.specs.Tabled.{FillResult}
+use Rattle.loader.specs.Tabled.{Filled}
+use Rattle.loaded.specs.Loaded.{file_in, Reads}
+use Rattle.loaded.proofs.Standing.{reads_here}
 use Rattle.loaded.proofs.Filled.{file_is, filled_holds, filled_finds}
-use Rattle.turns.specs.declared.Begun.{Begun}
-use Rattle.beginning.specs.Begins.{roomy, stops, StartReady, PartsBegin, Begins}
+use Rattle.registers.specs.View.{registers_in}
+use Rattle.beginning.specs.Begins.{lent_with, begun_by, Begins, Refuses}
 
-module _ (state room outcomes registers : ℕ) (e : roomy state room outcomes registers ≡ true) where
-  abbrev three : (leb state_bytes state && leb term_limit room && leb command_limit outcomes ≡ true) × (leb register_bytes registers ≡ true)
-  three = and_true (leb state_bytes state && leb term_limit room && leb command_limit outcomes) (leb register_bytes registers) e
+-- the test of the lengths
+pub record Room (s : List ℕ) (l : List Entry) (out g : List ℕ) : Type 0 where
+  pub state : state_bytes ≤ length s
+  pub ledger : term_limit ≤ length l
+  pub outcomes : command_limit ≤ length out
+  pub registers : register_bytes ≤ length g
 
-  abbrev two : (leb state_bytes state && leb term_limit room ≡ true) × (leb command_limit outcomes ≡ true)
-  two = and_true (leb state_bytes state && leb term_limit room) (leb command_limit outcomes) three.0
+pub enough_room : (s : List ℕ) (l : List Entry) (out g : List ℕ) → long_enough (lent_with s l out g) ≡ true → Room s l out g
+unfolding long_enough
+enough_room s l out g e =
+    let three = and_true (leb state_bytes (length s) && leb term_limit (length l) && leb command_limit (length out)) (leb register_bytes (length g)) e in
+    let two = and_true (leb state_bytes (length s) && leb term_limit (length l)) (leb command_limit (length out)) three.0 in
+    let one = and_true (leb state_bytes (length s)) (leb term_limit (length l)) two.0 in
+    record { state = leb-true state_bytes (length s) one.0; ledger = leb-true term_limit (length l) one.1; outcomes = leb-true command_limit (length out) two.1; registers = leb-true register_bytes (length g) three.1 }
 
-  pub state_long : state_bytes ≤ state
-  state_long = leb-true state_bytes state (and_true (leb state_bytes state) (leb term_limit room) two.0).0
+pub room_enough : {s : List ℕ} {l : List Entry} {out g : List ℕ} → Room s l out g → long_enough (lent_with s l out g) ≡ true
+unfolding long_enough
+room_enough {s} {l} {out} {g} w =
+    rw (le-leb state_bytes (length s) w.state, le-leb term_limit (length l) w.ledger, le-leb command_limit (length out) w.outcomes, le-leb register_bytes (length g) w.registers) refl
 
-  pub ledger_long : term_limit ≤ room
-  ledger_long = leb-true term_limit room (and_true (leb state_bytes state) (leb term_limit room) two.0).1
+no_room : {s : List ℕ} {l : List Entry} {out g : List ℕ} → (Room s l out g → ⊥) → long_enough (lent_with s l out g) ≡ false
+no_room {s} {l} {out} {g} h = go (long_enough (lent_with s l out g)) refl
+  where
+    go : (b : Bool) → long_enough (lent_with s l out g) ≡ b → b ≡ false
+    go true e = absurd (h (enough_room s l out g e))
+    go false e = refl
 
-  pub outcomes_long : command_limit ≤ outcomes
-  outcomes_long = leb-true command_limit outcomes two.1
+pub too_long : (bs : List ℕ) → file_limit < length bs → load bs ≡ refused 2 0
+unfolding load
+too_long bs h = rw (lt-leb (length bs) file_limit h) refl
 
-  pub registers_long : register_bytes ≤ registers
-  registers_long = leb-true register_bytes registers three.1
+-- a buffer whose first part is cleared
+part_none : (m : ℕ) (xs : List ℕ) → replicate m 0 ++ drop m xs ≡ first_part m 0 [] xs
+unfolding first_part
+part_none m xs = let e : m ≡ m - 0 = omega arith in ap (λ (k : ℕ). replicate k 0 ++ drop m xs) e
 
-pub start_ready : {bs s : List ℕ} {tables : Tables} {r : Scanned} → FillResult bs s tables r → length s ≡ state_bytes → r.number ≡ 0 → StartReady bs tables r.tally.parties r.tally.terms
-start_ready {s = s} (inl (z, w)) room e = record {
-  loads = (s, filled_holds w room);
-  finds = filled_finds w;
-  parties_are = sym w.describes.parties_are ∙ ap (λ (f : File). length f.roles) (sym (file_is w));
-  terms_are = sym w.describes.terms_are ∙ ap (λ (f : File). length f.terms) (sym (file_is w));
-}
-start_ready (inr (m, z, l, k)) room e = absurd (omega (arith, e, z))
+bytes_front : (xs ys : List ℕ) → Bytes (xs ++ ys) → Bytes xs
+bytes_front [] ys h i = omega arith
+bytes_front (x ∷ xs) ys h zero = h zero
+bytes_front (x ∷ xs) ys h (suc i) = bytes_front xs ys (λ j. h (suc j)) i
 
-module _ {bs : List ℕ} {room : ℕ} {s out g : List ℕ} {tables : Tables} {b : Begun} where
-  pub begins_short : roomy (length s) room (length out) (length g) ≡ false → b ≡ stops 1 → Begins bs room s out g s out g tables b
-  begins_short e q = record { short_buffers = λ _. (q, (refl, (refl, refl))); long_file = λ t. absurd (false≢true (sym e ∙ t)); parts = λ t. absurd (false≢true (sym e ∙ t)) }
+module _ (bs s : List ℕ) (l : List Entry) (out g : List ℕ) where
+  pub short_refuses : (Room s l out g → ⊥) → Refuses bs (lent_with s l out g) (lent_with s l out g) (record { refusal = BufferShort; place = 0 })
+  unfolding run_answer run_leaves
+  short_refuses h = let e = no_room h in record { answer = λ n. rw e refl; buffers = λ n. rw e refl }
 
-  pub begins_long : roomy (length s) room (length out) (length g) ≡ true → file_limit < length bs → b ≡ stops 2 → Begins bs room s out g s out g tables b
-  begins_long e h q = record { short_buffers = λ t. absurd (false≢true (sym t ∙ e)); long_file = λ _ _. (q, (refl, (refl, refl))); parts = λ _ l. absurd (omega (arith, h, l)) }
+  pub long_refuses : Room s l out g → file_limit < length bs → Refuses bs (lent_with s l out g) (lent_with s l out g) (record { refusal = FileLong; place = 0 })
+  unfolding run_answer run_leaves answered
+  long_refuses w h = let e = room_enough w in record { answer = λ n. rw (e, too_long bs h) refl; buffers = λ n. rw (e, lt-leb (length bs) file_limit h) refl }
 
-pub begins_parts : {bs : List ℕ} {room : ℕ} {s out g s' out' g' : List ℕ} {tables : Tables} {b : Begun} → roomy (length s) room (length out) (length g) ≡ true → length bs ≤ file_limit
-    → length s' ≡ state_bytes → length out' ≡ command_limit → length g' ≡ register_bytes → PartsBegin bs s' out' g' tables b
-    → Begins bs room s out g (s' ++ drop state_bytes s) (out' ++ drop command_limit out) (g' ++ drop register_bytes g) tables b
-begins_parts {bs} {s = s} {out} {g} {s'} {out'} {g'} {tables} {b} e h ls lo lg w = record {
-  short_buffers = λ t. absurd (false≢true (sym t ∙ e));
-  long_file = λ _ l. absurd (omega (arith, h, l));
-  parts = λ _ _. (
-    subst⁻¹ (λ (x : List ℕ). PartsBegin bs x (take command_limit (out' ++ drop command_limit out)) (take register_bytes (g' ++ drop register_bytes g)) tables b) (take_at s' (drop state_bytes s) state_bytes ls)
-        (subst⁻¹ (λ (x : List ℕ). PartsBegin bs s' x (take register_bytes (g' ++ drop register_bytes g)) tables b) (take_at out' (drop command_limit out) command_limit lo)
-        (subst⁻¹ (λ (x : List ℕ). PartsBegin bs s' out' x tables b) (take_at g' (drop register_bytes g) register_bytes lg) w)),
-    (drop_at s' (drop state_bytes s) state_bytes ls, (drop_at out' (drop command_limit out) command_limit lo, drop_at g' (drop register_bytes g) register_bytes lg)),
-  );
-}
+  pub load_refuses : (s' out' g' : List ℕ) {l' : List Entry} (e : Refused) → Room s l out g → length bs ≤ file_limit → load bs ≡ refused (number_of e.refusal) e.place
+      → s' ≡ replicate state_bytes 0 → l' ≡ cleared l term_limit → out' ≡ replicate command_limit 0 → g' ≡ replicate register_bytes 0
+      → Refuses bs (lent_with s l out g) (lent_with (s' ++ drop state_bytes s) l' (out' ++ drop command_limit out) (g' ++ drop register_bytes g)) e
+  unfolding run_answer run_leaves answered leaves written
+  load_refuses s' out' g' e w h loads zs zl zo zg =
+      let r = room_enough w in
+      let state = ap (λ (x : List ℕ). x ++ drop state_bytes s) zs ∙ part_none state_bytes s in
+      let ledger = zl ∙ cleared_first [] l term_limit w.ledger (omega arith) in
+      let outcomes = ap (λ (x : List ℕ). x ++ drop command_limit out) zo ∙ part_none command_limit out in
+      let registers = ap (λ (x : List ℕ). x ++ drop register_bytes g) zg ∙ part_none register_bytes g in
+      record {
+        answer = λ n. rw (r, loads) refl;
+        buffers = λ n. (λ j. lent_with (state j) (ledger j) (outcomes j) (registers j)) ∙ rw (r, le-leb (length bs) file_limit h, loads) refl;
+      }
+
+  pub begins : (s' out' g' : List ℕ) {l' : List Entry} {tables : Tables} {r : Scanned} → Room s l out g → length bs ≤ file_limit → length s' ≡ state_bytes → length g' ≡ register_bytes → Filled bs s' tables r
+      → l' ≡ cleared l term_limit → out' ≡ replicate command_limit 0 → length out' ≡ command_limit → registers_in g' ≡ start_registers (file_in bs) → Bytes (s' ++ drop state_bytes s) → Bytes g'
+      → Begins bs (lent_with s l out g) (lent_with (s' ++ drop state_bytes s) l' (out' ++ drop command_limit out) (g' ++ drop register_bytes g)) tables (begun_by r)
+  begins s' out' g' {l'} {tables} {r} w h ls lg v zl zo lo started bytes registers_bytes =
+      let ts = take_at s' (drop state_bytes s) state_bytes ls in
+      let tg = take_at g' (drop register_bytes g) register_bytes lg in
+      record {
+        enough = room_enough w;
+        short = h;
+        scanned = r;
+        filled = subst⁻¹ (λ (x : List ℕ). Filled bs x tables r) ts v;
+        begun = refl;
+        ledger = zl;
+        outcomes = take_at out' (drop command_limit out) command_limit lo ∙ zo;
+        registers = ap registers_in tg ∙ started;
+        bytes = subst⁻¹ Bytes ts (bytes_front s' (drop state_bytes s) bytes);
+        registers_bytes = subst⁻¹ Bytes tg registers_bytes;
+        beyond = drop_at s' (drop state_bytes s) state_bytes ls;
+        beyond_outcomes = drop_at out' (drop command_limit out) command_limit lo;
+        beyond_registers = drop_at g' (drop register_bytes g) register_bytes lg;
+      }
+
+-- what loading leaves is what registers are filled by
+pub fill_reads : {bs s : List ℕ} {tables : Tables} {r : Scanned} → Filled bs s tables r → length s ≡ state_bytes → Reads bs tables
+fill_reads w room = reads_here (filled_holds w room) (filled_finds w)
+
+pub fill_counts : {bs s : List ℕ} {tables : Tables} {r : Scanned} → Filled bs s tables r → (r.tally.parties ≡ length (file_in bs).roles) × (r.tally.terms ≡ length (file_in bs).terms)
+fill_counts w = (sym w.describes.parties_are ∙ ap (λ (f : File). length f.roles) (sym (file_is w)), sym w.describes.terms_are ∙ ap (λ (f : File). length f.terms) (sym (file_is w)))

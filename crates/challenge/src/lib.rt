@@ -24,7 +24,10 @@ fn fresh_number(state: &[u8], party: usize, number: usize) -> Result<(), Refusal
 {
     ensure(state::knows(state, party, number), Refusal::NumberTaken)?;
     ensure(state::knowers_of(state, number) == 1, Refusal::NumberTaken)?;
-    ensure(state::mark_of(state, number) != rules::NUMBER_USED, Refusal::NumberTaken)
+    ensure(
+        state::mark_of(state, number) != rules::NUMBER_USED,
+        Refusal::NumberTaken,
+    )
 }
 
 // 3E Challenge.

@@ -258,7 +258,8 @@ impl<'a> Declared<'a> {
         }
     }
 
-    // Whether a body is of the most frequent commands and its fields are right, without a walk from field to field; false says nothing.
+    // Whether a body is of the most frequent commands and its fields are right, without a walk from field to field;
+    // false says nothing.
     #[tactic(auto, unfolding(rules::specs::Record::section_of, rules::specs::Record::fields_of, rules::specs::Record::body_length, rules::specs::Record::widths, rules::specs::Record::width))]
     fn is_right(&self, kind: u8, body: &[u8]) -> bool
         requires { body_length kind ≤ length body.now }

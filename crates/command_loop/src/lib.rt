@@ -1,14 +1,14 @@
 // The loop over commands on the lent ledger: a turn each, and what it gains is appended.
 #![tactic(auto)]
 
-ghost use Rattle.std.specs.Prelude.{◌≡◌};
-ghost use Rattle.command_loop.specs.Recorded.{RecordReady, Recorded};
+ghost use Rattle.command_loop.specs.Recorded.{CommandsReady, Recorded};
 
 use rules::Entry;
-use turns::{Begun, Progress};
 use tables::Tables;
+use turns::{Begun, Progress};
 
-// Executes at most n commands after what was found before the first, none where that is a refusal.
+// Executes at most n commands after what was found before the first.
+#[tactic(auto, using(crate::proofs::Keeping::keeps_ready, crate::proofs::Keeping::keeps_fits, crate::proofs::Keeping::keeps_less))]
 pub fn run_commands(
     file: &[u8],
     state: &mut [u8],
@@ -16,17 +16,17 @@ pub fn run_commands(
     outcomes: &mut [u8],
     registers: &mut [u8],
     tables: &mut Tables,
-    b: Begun,
+    begun: Begun,
     n: usize,
 ) -> Progress
-    requires { RecordReady file.now state.old ledger.old outcomes.old registers.old tables.old b }
-    ensures { Recorded file.now state.old ledger.old outcomes.old registers.old b n state.new ledger.new outcomes.new registers.new tables.new result }
+    requires { CommandsReady file.now state.old ledger.old outcomes.old registers.old tables.old begun }
+    ensures { Recorded file.now state.old ledger.old outcomes.old registers.old begun n state.new ledger.new outcomes.new registers.new tables.new result }
 {
-    let mut p = turns::start(file, b, n);
+    let mut p = Progress::start(file, begun, n);
     while p.left != 0 {
-        let t = turns::turn_within(file, state, registers, tables, outcomes, b, p);
-        ledger::append_gained(ledger, p.issued, t.gained);
-        p = t.progress;
+        let turned = turns::turn_within(file, state, registers, tables, outcomes, p);
+        ledger::append_gained(ledger, p.issued, &turned.gained);
+        p = turned.progress;
     }
     p
 }

@@ -2,6 +2,7 @@
 --     desk-range, desk-here, desk-not-below, desk-not-above    the kinds of desk commands, and the others
 --     desk-registerless, plain-registerless    commands that look at no register
 --     open-requested, ledgered, some-ledger, desk-decided, desk-ready    what a desk command asks for and decides
+--     on-accepted, on-refused     what a result says by its number
 --     refused-does, device-done, plain_done, desk-does    what is left, and that it stands
 -- Assumes nothing.
 use Rattle.tables.specs.declared.columns.Tables.{Tables}
@@ -14,7 +15,10 @@ use native.Mathlib.Omega.{arith}
 use lib.Dec.{ltb}
 use lib.ListN.{length, take, drop}
 use borrow.Author.Tests.{ltb-true, lt-ltb}
+use Rattle.std.specs.Prelude.{Result, Ok, Err, OnOk, OnErr}
 use Rattle.rules.specs.declared.Entry.{Entry}
+use Rattle.rules.specs.declared.Refusal.{Refusal}
+use Rattle.rules.specs.Codes.{number_in}
 use Rattle.rules.specs.Limits.{empty_field}
 use Rattle.rules.specs.Record.{body_length}
 use Rattle.rules.specs.Load.{command_at}
@@ -32,9 +36,6 @@ use Rattle.theorems.proofs.Requests.{parent_listed}
 use Rattle.state.specs.View.{view}
 use Rattle.state.proofs.Exact.{state_of}
 use Rattle.tables.specs.Columns.{tables_in}
-use Rattle.gained.specs.declared.Gained.{Gained}
-use Rattle.gained.specs.Took.{took, Whole}
-use Rattle.gained.proofs.Took.{took_length}
 use Rattle.learning.specs.There.{kind_there}
 use Rattle.lookup.specs.There.{command_there}
 use Rattle.lookup.specs.Commands.{CommandAt}
@@ -46,6 +47,7 @@ use Rattle.loaded.proofs.Standing.{checked_here, holds_kept}
 use Rattle.loaded.proofs.Noted.{finds_kept}
 use Rattle.loaded.proofs.Ledger.{column_some}
 use Rattle.requests.specs.Formed.{OpenRequested}
+use Rattle.requests.proofs.Passing.{refuses}
 use Rattle.desk.specs.Dispatch.{SomeLedger, DeskEffectReady}
 use Rattle.issuance.specs.Issues.{ParentsEntered}
 use Rattle.commands.specs.Standing.{Memory, memory, state_in, desk_kind, Kept, Stands, Does}
@@ -82,6 +84,15 @@ unfolding command_there command_at
 plain_registerless bs at w h =
     let b = take (body_length (kind_there bs at)) (drop (at + 1) bs) in
     each (λ k. Registerless (command_at k b)) 14 0x30 (tt, (tt, (tt, (tt, (tt, (tt, (tt, (tt, (tt, (tt, (tt, (tt, (tt, (tt, tt)))))))))))))) (kind_there bs at) (command_range _ w.is_command).0 h
+
+-- what a result says by its number
+pub on_accepted : (r : Result Unit Refusal) {P : Type 0} → OnOk r P → number_in r ≡ 0 → P
+on_accepted (Ok a) p z = p
+on_accepted (Err e) p z = absurd (omega (arith, refuses e))
+
+pub on_refused : (r : Result Unit Refusal) {P : Type 0} → OnErr r P → (number_in r ≡ 0 → ⊥) → P
+on_refused (Ok a) p n = absurd (n refl)
+on_refused (Err e) p n = p
 
 module _ {bs : List ℕ} {m : Memory} {tables : Tables} {n : ℕ} {ledger : List Entry} (st : Stands bs m tables n ledger) where
   abbrev s : List ℕ
@@ -189,18 +200,18 @@ module _ {bs : List ℕ} {m : Memory} {tables : Tables} {n : ℕ} {ledger : List
         ledgered = ledgered;
       }
 
-      pub desk_does : {s' : List ℕ} {tables' : Tables} {g : Gained} → Whole g → DeskLeaves bs s tables n (command_there bs at) s' tables' (took g) → length s' ≡ length s
-          → Does bs m at ledger (memory s' m.registers) tables' 0 (n + g.count) (ledger ++ took g)
-      desk_does {s'} {tables'} {g} whole v l =
+      pub desk_does : {s' : List ℕ} {tables' : Tables} {g : List Entry} → DeskLeaves bs s tables n (command_there bs at) s' tables' g → length s' ≡ length s
+          → Does bs m at ledger (memory s' m.registers) tables' 0 (n + length g) (ledger ++ g)
+      desk_does {s'} {tables'} {g} v l =
           let on = v.on ledger (record { ledgered = ledgered; accepted = accepted_plain }) in
           let registers = registers_in m.registers in
-          let left : state_in (memory s' m.registers) (ledger ++ took g) ≡ After =
+          let left : state_in (memory s' m.registers) (ledger ++ g) ≡ After =
           ap (beside registers) on.columns
           ∙ sym (effect_beside (file_in bs) registers (state_of (view s) ledger) (command_there bs at) (desk_registerless bs at d))
           ∙ sym (after_accepted (file_in bs) Before (command_there bs at) (sym e)) in
           record {
             decided = e;
             left = left;
-            stands = next l refl v.places (finds_kept st.finds v.keys) (subst (λ (k : ℕ). Enters tables' (n + k) (ledger ++ took g)) (took_length g whole) on.enters) on.boards left;
+            stands = next l refl v.places (finds_kept st.finds v.keys) on.enters on.boards left;
             places = v.places;
           }

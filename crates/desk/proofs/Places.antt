@@ -21,6 +21,8 @@ use Rattle.rules.specs.File.{Command, issue_iak, issue}
 use Rattle.rules.specs.Run.{outcome}
 use Rattle.theorems.proofs.Loading.{Wellformed}
 use Rattle.rules.specs.declared.Entry.{Entry}
+use Rattle.rules.specs.declared.Refusal.{Refusal}
+use Rattle.std.specs.Prelude.{Result}
 use Rattle.state.specs.View.{view}
 use Rattle.tables.specs.Columns.{tables_in}
 use Rattle.state.proofs.Exact.{state_of}
@@ -66,7 +68,7 @@ module _ {bs : List ℕ} {at : ℕ} (w : CommandAt (Wellformed (file_in bs)) bs 
           omega (arith, issue_length (kind_there bs at) k.0 k.1, command_ends bs at (kind_there bs at) refl w.whole)
 
 module _ (bs : List ℕ) (at : ℕ) {c : Command} (e : command_there bs at ≡ c) where
-  pub decided_as : (s : List ℕ) (tables : Tables) (x : ℕ) → DecidesListed bs s tables c x → DecidesListed bs s tables (command_there bs at) x
+  pub decided_as : (s : List ℕ) (tables : Tables) (x : Result Unit Refusal) → DecidesListed bs s tables c x → DecidesListed bs s tables (command_there bs at) x
   decided_as s tables x d = subst⁻¹ (λ (k : Command). DecidesListed bs s tables k x) e d
 
   pub issues_as : {s : List ℕ} {tables : Tables} {n : ℕ} {s' : List ℕ} {tables' : Tables} {gs hs : List Entry} → gs ≡ hs → DeskLeaves bs s tables n c s' tables' hs → DeskLeaves bs s tables n (command_there bs at) s' tables' gs
@@ -81,7 +83,7 @@ module _ (bs : List ℕ) (at : ℕ) {c : Command} (e : command_there bs at ≡ c
       boards = subst⁻¹ (Boarded (file_in bs) (tables_in tables).boards) (append-nil old) o.ledgered.boards;
     };
     places = d.places;
-    keys = record { words = refl; signer = refl; half = refl; terms = refl };
+    keys = record { signer = refl; half = refl; terms = refl };
   })
     where
       none : (k : ℕ) → k + 0 ≡ k

@@ -1,6 +1,6 @@
 -- How many commands a file has.
 --     few-outcomes, few-counted     no file has more commands than there is room for
---     too_long, loaded-short        a file that loads is not too long
+--     loaded_short                  a file that loads is not too long
 --     all-commands                  as many commands as a file has bytes are all its commands
 -- Assumes nothing.
 use mathlib.Core.Path.{◌≡◌, refl, sym, ap, ◌∙◌}
@@ -11,7 +11,7 @@ use native.Mathlib.Omega.{arith}
 use lib.Dec.{eqb, ltb, leb}
 use lib.ListN.{length, length-reverse}
 use lib.Seq.{take_all}
-use borrow.Author.Tests.{ltb-true, lt-leb, leb-true, leb-false}
+use borrow.Author.Tests.{ltb-true, leb-true, leb-false}
 use Rattle.rules.specs.Limits.{file_limit, command_limit}
 use Rattle.rules.specs.Record.{section_of, command_section}
 use Rattle.rules.specs.File.{File, Command}
@@ -25,6 +25,7 @@ use Rattle.reader.specs.Place.{next_place}
 use Rattle.lookup.specs.Commands.{commands_from}
 use Rattle.lookup.proofs.Left.{first_commands_lem, commands_wellformed, left_few}
 use Rattle.loader.proofs.Bounds.{few_commands}
+use Rattle.beginning.proofs.Begins.{too_long}
 
 -- the first command's place is inside the file, or its end
 inside_by : (bs : List ℕ) (at later : ℕ) → later ≤ length bs → (a b : Bool) → ltb at (length bs) ≡ a → cond a (cond b at later) (length bs) ≤ length bs
@@ -47,10 +48,6 @@ module _ (bs : List ℕ) (f : File) (e : load bs ≡ loaded f) (short : length b
 
   pub few_counted : accepted f n + refusals f n ≤ command_limit
   few_counted = omega (arith, (totals f n).0, few_outcomes)
-
-pub too_long : (bs : List ℕ) → file_limit < length bs → load bs ≡ refused 2 0
-unfolding load
-too_long bs h = rw (lt-leb (length bs) file_limit h) refl
 
 -- a file that loads is not too long
 pub loaded_short : (bs : List ℕ) (f : File) → load bs ≡ loaded f → length bs ≤ file_limit

@@ -1,20 +1,17 @@
 -- Before the first command: what is found is what the loop over commands starts from.
---     places-fit       the places to clear are there
---     record-ready     the loop may start
+--     state_start        the rules' state at the start
+--     commands_ready     the loop may start
 -- Assumes nothing.
 use Rattle.tables.specs.declared.columns.Tables.{Tables}
 use mathlib.Core.Path.{◌≡◌, refl, sym, ap, subst⁻¹, ◌∙◌}
-use mathlib.Core.Logic.{inl, inr}
-use mathlib.Core.Bool.{Bool, true, false}
 use mathlib.Core.List.{List, []}
-use Prim.Native.Nat.{ℕ, ◌<◌, ◌≤◌}
+use Prim.Native.Nat.{ℕ, ◌≤◌}
 use native.Mathlib.Omega.{arith}
-use native.Mathlib.Decide.{dec_lt}
 use lib.ListN.{length, take}
 use lib.Seq.{length-take-le}
 use Rattle.rules.specs.declared.Entry.{Entry}
-use Rattle.rules.specs.Limits.{file_limit, command_limit, state_bytes, register_bytes}
-use Rattle.rules.specs.File.{File}
+use Rattle.rules.specs.Limits.{file_limit, term_limit, command_limit, state_bytes, register_bytes}
+use Rattle.rules.specs.Lent.{Lent}
 use Rattle.rules.specs.State.{start_registers, start, depth_of}
 use Rattle.theorems.proofs.Loading.{Wellformed, checked}
 use Rattle.state.proofs.Exact.{Bytes}
@@ -23,7 +20,7 @@ use Rattle.tables.specs.Columns.{Unlinked, tables_in}
 use Rattle.lookup.specs.Commands.{Commands}
 use Rattle.lookup.proofs.Left.{commands_wellformed}
 use Rattle.scan.specs.declared.Scanned.{Scanned}
-use Rattle.loader.specs.Tabled.{Filled, FillResult}
+use Rattle.loader.specs.Tabled.{Filled}
 use Rattle.loaded.specs.Loaded.{file_in}
 use Rattle.loaded.specs.Entries.{entry_from, Enters}
 use Rattle.loaded.proofs.Boards.{boarded_none}
@@ -32,9 +29,10 @@ use Rattle.commands.specs.Standing.{memory, state_in, Kept, Stands}
 use Rattle.commands.proofs.Keeping.{kept_start}
 use Rattle.turns.specs.declared.Begun.{Begun}
 use Rattle.turns.specs.Turns.{RunReady}
-use Rattle.beginning.specs.Begins.{roomy, Registered, Begins}
-use Rattle.beginning.proofs.Begins.{state_long, ledger_long, outcomes_long, registers_long}
-use Rattle.command_loop.specs.Recorded.{within, CommandsReady, RecordReady}
+use Rattle.ledger.proofs.Placed.{length_cleared}
+use Rattle.beginning.specs.Begins.{Begins}
+use Rattle.beginning.proofs.Begins.{enough_room}
+use Rattle.command_loop.specs.Recorded.{within, CommandsReady}
 
 none_entered : (c : ℕ) → 0 ≡ entry_from 0 [] c
 unfolding entry_from
@@ -77,49 +75,27 @@ module _ {bs s : List ℕ} {tables : Tables} {r : Scanned} (w : Filled bs s tabl
           registers = long;
         }
 
-    ready : length bs ≤ file_limit → length s ≡ state_bytes → Bytes s → length g ≡ register_bytes → Bytes g → (out : List ℕ) → command_limit ≤ length out → RunReady bs (memory s g) tables out r.tally.parties r.first
+    ready : length bs ≤ file_limit → length s ≡ state_bytes → Bytes s → length g ≡ register_bytes → Bytes g → (out : List ℕ) → command_limit ≤ length out → RunReady bs (memory s g) tables out r.first
     ready short room bytes shown registers out long = record {
       stands = stands_start room shown;
       bytes = record { state = bytes; registers = registers };
       short = short;
       places = long;
-      parties_are = sym w.describes.parties_are ∙ ap (λ (f : File). length f.roles) (sym (file_is w));
       commands = subst⁻¹ (Commands (Wellformed (file_in bs)) bs) w.first_is (commands_wellformed bs (file_in bs) (filled_holds w room).loads);
     }
 
-filled_ready : {bs s : List ℕ} {tables : Tables} {r : Scanned} → FillResult bs s tables r → r.number ≡ 0 → (g : List ℕ) → Registered bs r.number g → length bs ≤ file_limit → length s ≡ state_bytes → Bytes s → length g ≡ register_bytes → Bytes g → (out : List ℕ) → command_limit ≤ length out
-    → RunReady bs (memory s g) tables out r.tally.parties r.first
-filled_ready (inl (z, w)) h g shows short room bytes shown registers out long = ready w g (shows.started h) short room bytes shown registers out long
-filled_ready (inr (m, z, l, k)) h g shows short room bytes shown registers out long = absurd (omega arith)
-
-module _ (bs : List ℕ) (room : ℕ) (l : List Entry) (fits : room ≤ length l) (s out g : List ℕ) {s' out' g' : List ℕ} {tables : Tables} {b : Begun} (w : Begins bs room s out g s' out' g' tables b) where
-  pub places_fit : b.places ≤ length l
-  places_fit = go (roomy (length s) room (length out) (length g)) refl (dec_lt file_limit (length bs))
-    where
-      go : (t : Bool) → roomy (length s) room (length out) (length g) ≡ t → Dec (file_limit < length bs) → b.places ≤ length l
-      go false e d = subst⁻¹ (λ (q : Begun). q.places ≤ length l) (w.short_buffers e).0 (omega arith)
-      go true e (yes h) = subst⁻¹ (λ (q : Begun). q.places ≤ length l) (w.long_file e h).0 (omega arith)
-      go true e (no h) = subst⁻¹ (λ (q : Begun). q.places ≤ length l) (w.parts e (omega (arith, h))).0.begun (omega (arith, fits, ledger_long (length s) room (length out) (length g) e))
-
-  pub record_ready : length s' ≡ length s → length out' ≡ length out → length g' ≡ length g → {l₁ : List Entry} → length l₁ ≡ length l → RecordReady bs s' l₁ out' g' tables b
-  record_ready ls lo lg {l₁} ll z = go (roomy (length s) room (length out) (length g)) refl (dec_lt file_limit (length bs))
-    where
-      go : (t : Bool) → roomy (length s) room (length out) (length g) ≡ t → Dec (file_limit < length bs) → CommandsReady bs s' l₁ out' g' tables b
-      go false e d = absurd (let q : b.number ≡ 1 = ap (λ (x : Begun). x.number) (w.short_buffers e).0 in omega (arith, q, z))
-      go true e (yes h) = absurd (let q : b.number ≡ 2 = ap (λ (x : Begun). x.number) (w.long_file e h).0 in omega (arith, q, z))
-      go true e (no h) =
-          let p = (w.parts e (omega (arith, h))).0 in
-          let q = p.begun in
-          let m = state_long (length s) room (length out) (length g) e in
-          let k = outcomes_long (length s) room (length out) (length g) e in
-          let i = registers_long (length s) room (length out) (length g) e in
-          let long : state_bytes ≤ length s' = omega (arith, ls, m) in
-          let shown : register_bytes ≤ length g' = omega (arith, lg, i) in
-          record {
-            ready = subst⁻¹ (λ (x : Begun). RunReady bs (within s' g') tables out' x.parties x.first) q
-                (filled_ready p.filled (sym (ap (λ (x : Begun). x.number) q) ∙ z) (take register_bytes g') p.registers (omega (arith, h)) (length-take-le state_bytes s' long) p.bytes
-                (length-take-le register_bytes g' shown) p.registers_bytes out' (omega (arith, lo, k)));
-            room = long;
-            registers = shown;
-            long = omega (arith, ll, fits, ledger_long (length s) room (length out) (length g) e);
-          }
+module _ {bs : List ℕ} {lent after : Lent} {tables : Tables} {b : Begun} (w : Begins bs lent after tables b) where
+  pub commands_ready : length after.state ≡ length lent.state → length after.outcomes ≡ length lent.outcomes → length after.registers ≡ length lent.registers
+      → CommandsReady bs after.state after.ledger after.outcomes after.registers tables b
+  commands_ready ls lo lg =
+      let room = enough_room lent.state lent.ledger lent.outcomes lent.registers w.enough in
+      let long : state_bytes ≤ length after.state = omega (arith, ls, room.state) in
+      let shown : register_bytes ≤ length after.registers = omega (arith, lg, room.registers) in
+      record {
+        ready = subst⁻¹ (λ (x : Begun). RunReady bs (within after.state after.registers) tables after.outcomes x.first) w.begun
+            (ready w.filled (take register_bytes after.registers) w.registers w.short (length-take-le state_bytes after.state long) w.bytes (length-take-le register_bytes after.registers shown) w.registers_bytes after.outcomes
+            (omega (arith, lo, room.outcomes)));
+        room = long;
+        registers = shown;
+        long = omega (arith, ap length w.ledger, length_cleared lent.ledger term_limit, room.ledger);
+      }

@@ -17,7 +17,8 @@ pub struct Finished {
     pub progress: Progress,
 }
 
-// Loads a file and executes its first n commands, or all if fewer, on lent buffers of any length; the tables, empty before, are left beside them.
+// Loads a file and executes its first n commands, or all if fewer, on lent buffers of any length; the tables, empty
+// before, are left beside them.
 pub fn run(
     file: &[u8],
     n: usize,

@@ -1,4 +1,5 @@
--- No file makes the index slow: the way of a key passes at most a number for each of its bits, and then one for each kind of term.
+-- No file makes the index slow: the way of a key passes at most a number for each of its bits, and then one for each
+-- kind of term.
 use Rattle.tables.specs.declared.columns.Tables.{Tables}
 use mathlib.Core.Path.{◌≡◌, refl, sym, ap, subst⁻¹, ◌∙◌}
 use mathlib.Core.Bool.{Bool, true, false, cond}

@@ -5,7 +5,7 @@ use mathlib.Core.List.{List}
 use Prim.Native.Nat.{ℕ, ◌<◌}
 use native.Mathlib.Omega.{arith}
 use lib.ListN.{length, get_or, replicate, length-replicate}
-use Rattle.tables.specs.Columns.{table_words, EmptyTables}
+use Rattle.tables.specs.Columns.{EmptyTables}
 use Rattle.tables.proofs.Stores.{zeros_at, tables_none, unlinked_none}
 use Rattle.index.specs.Tree.{link_count}
 use Rattle.index.specs.Indexed.{key_there, Indexed}
@@ -21,7 +21,6 @@ indexed_none bs place links tables el et =
         later = λ t rest h. absurd (h (none _));
         once = λ i j t p q. absurd (omega (arith, none i));
       };
-      words = ap length et ∙ length-replicate {A = ℕ} table_words 0;
       noted = record { kinds = λ t l. absurd (omega arith); fields = λ t i l. absurd (omega arith) };
       met = λ t l. absurd (omega arith);
       unlike = λ t u l. absurd (omega arith);
@@ -37,7 +36,6 @@ module _ {bs : List ℕ} {place place' : ℕ → ℕ} {n : ℕ} (h : (t : ℕ) �
   unfolding key_there
   indexed_same i = record {
     tree = i.tree;
-    words = i.words;
     noted = record { kinds = λ t l. rw (← h t l) (i.noted.kinds t l); fields = λ t j l. rw (← h t l) (i.noted.fields t j l) };
     met = λ t l. rw (← h t l) (i.met t l);
     unlike = λ t u l m. rw (← h t l, ← h u m) (i.unlike t u l m);

@@ -1,4 +1,5 @@
--- What a search found, with one number more or by a test that agrees; numbers below n + 1; a column with one number replaced.
+-- What a search found, with one number more or by a test that agrees; numbers below n + 1; a column with one number
+-- replaced.
 use mathlib.Core.Path.{◌≡◌, refl, sym, ◌∙◌, subst}
 use mathlib.Core.Bool.{Bool, true, false}
 use mathlib.Core.List.{List}
@@ -7,9 +8,10 @@ use native.Mathlib.Omega.{arith}
 use lib.Dec.{eqb}
 use borrow.Author.Tests.{eqb-true, eqb-false, eq-eqb, ne_eqb}
 use Rattle.rules.specs.State.{put}
-use Rattle.index.specs.declared.Searched.{Searched}
+use Rattle.std.specs.Prelude.{Option, None, Some}
+use Rattle.index.specs.declared.Vacancy.{Vacancy}
 use Rattle.index.specs.Tree.{Found}
-use Rattle.index.specs.Indexed.{same_by, SearchResult}
+use Rattle.index.specs.Indexed.{same_by, half_by, other_half, Vacant}
 
 -- below n + 1: n, or below n
 pub at_most : {P : ℕ → Type 0} (n : ℕ) → P n → ((t : ℕ) → t < n → P t) → (t : ℕ) → t < n + 1 → P t
@@ -40,12 +42,19 @@ pub found_same : {test test' : ℕ → Bool} {n r : ℕ} → ((t : ℕ) → t < 
 found_same h f = record { one = λ t q. let w = f.one t q in (w.0, sym (h t w.0) ∙ w.1); none = λ z t l. sym (h t l) ∙ f.none z t l }
 
 -- by kinds and keys that agree
-pub search_same :
-    {kinds kinds' keys keys' : ℕ → ℕ} {links : List ℕ} {kind second key n : ℕ} {r : Searched} → ((t : ℕ) → t < n → kinds t ≡ kinds' t) → ((t : ℕ) → t < n → keys t ≡ keys' t)
-    → SearchResult kinds keys links kind second key n r → SearchResult kinds' keys' links kind second key n r
-unfolding same_by
-search_same h k f = record {
-  same = found_same (λ t l. rw (h t l, k t l) refl) f.same;
-  other = λ z. found_same (λ t l. rw (h t l, k t l) refl) (f.other z);
-  free = f.free;
-}
+module _ {kinds kinds' keys keys' : ℕ → ℕ} {n : ℕ} (h : (t : ℕ) → t < n → kinds t ≡ kinds' t) (k : (t : ℕ) → t < n → keys t ≡ keys' t) where
+  pub same_agrees : (kind key t : ℕ) → t < n → same_by kinds keys kind key t ≡ same_by kinds' keys' kind key t
+  unfolding same_by
+  same_agrees kind key t l = rw (h t l, k t l) refl
+
+  half_agrees : (o : Option ℕ) (key t : ℕ) → t < n → half_by kinds keys o key t ≡ half_by kinds' keys' o key t
+  unfolding half_by
+  half_agrees None key t l = refl
+  half_agrees (Some kind) key t l = same_agrees kind key t l
+
+  pub vacant_same : {links : List ℕ} {kind key : ℕ} {v : Vacancy} → Vacant kinds keys links kind key n v → Vacant kinds' keys' links kind key n v
+  vacant_same {kind = kind} {key = key} f = record {
+    none = λ t l. sym (same_agrees kind key t l) ∙ f.none t l;
+    half = found_same (half_agrees (other_half kind) key) f.half;
+    free = f.free;
+  }

@@ -11,31 +11,34 @@ use borrow.Author.Tests.{eqb-true, eqb-false, ne_eqb}
 use Rattle.rules.specs.Limits.{term_limit}
 use Rattle.rules.specs.Term.{public_key_kind, private_key_kind, alike}
 use Rattle.rules.specs.State.{put}
-use Rattle.records.proofs.Lengths.{term_kinds_lem}
-use Rattle.tables.specs.Columns.{Unlinked, Terms, TableColumns, tables_in, with_half, with_terms}
+use Rattle.tables.specs.Columns.{one_more, Unlinked, Terms, TableColumns, tables_in, with_half, with_terms}
 use Rattle.learning.specs.There.{term_there}
 use Rattle.learning.specs.Noted.{Noted}
 use Rattle.checks.specs.There.{kind_of_there}
-use Rattle.index.specs.declared.Searched.{Searched}
+use Rattle.std.specs.Prelude.{None, Some}
+use Rattle.index.specs.declared.Vacancy.{Vacancy}
 use Rattle.index.specs.Tree.{Found}
-use Rattle.index.specs.Indexed.{key_there, same_by, pair_there, other_half, Halves, Unlike, Indexed, SearchResult}
+use Rattle.index.specs.Indexed.{key_there, half_by, pair_there, other_half, Halves, Unlike, Indexed, Vacant}
 use Rattle.index.proofs.Found.{at_most, put_same, put_other, found_more}
-use Rattle.index.proofs.Same.{not_true, same_true, same_kind, same_key}
+use Rattle.index.proofs.Same.{not_true, same_true, half_true, half_kind, half_key}
 use Rattle.index.proofs.There.{Bytes, Records, alike_there, there_alike, pair_there_lem, there_pair}
 use Rattle.index.proofs.Growing.{grown_tree, grown_met, still_met}
 
 -- the kind of the other half
-half_of_public : other_half public_key_kind ≡ private_key_kind
+half_of_public : other_half public_key_kind ≡ Some private_key_kind
 unfolding other_half
 half_of_public = refl
 
-half_of_private : other_half private_key_kind ≡ public_key_kind
+half_of_private : other_half private_key_kind ≡ Some public_key_kind
 unfolding other_half
 half_of_private = refl
 
-half_of_none : (k : ℕ) → (k ≡ public_key_kind → ⊥) → (k ≡ private_key_kind → ⊥) → other_half k ≡ 0
+half_of_none : (k : ℕ) → (k ≡ public_key_kind → ⊥) → (k ≡ private_key_kind → ⊥) → other_half k ≡ None
 unfolding other_half
 half_of_none k d e = rw (ne_eqb k public_key_kind d, ne_eqb k private_key_kind e)
+
+some_same : {a b : ℕ} → Some a ≡ Some b → a ≡ b
+some_same e = cc
 
 -- the private halves of the first n terms, and none after them
 pub record Halved (bs : List ℕ) (place : ℕ → ℕ) (half : ℕ → ℕ) (n : ℕ) : Type 0 where
@@ -49,10 +52,10 @@ module _ {bs : List ℕ} (bytes : Bytes bs) {place : ℕ → ℕ} {links : List 
   abbrev key : ℕ → ℕ
   key = key_there bs place
 
-  module _ {found : Searched} (f : SearchResult kind key links (kind n) (other_half (kind n)) (key n) n found) (none : found.same ≡ 0) where
+  module _ {v : Vacancy} (f : Vacant kind key links (kind n) (key n) n v) where
     -- none of the first n is of the new term's kind and key
     apart : (t : ℕ) → t < n → kind t ≡ kind n → key t ≡ key n → ⊥
-    apart t l a b = false≢true (sym (f.same.none none t l) ∙ same_true kind key _ _ t a b)
+    apart t l a b = false≢true (sym (f.none t l) ∙ same_true kind key _ _ t a b)
 
     unlike_new : (t : ℕ) → t < n → alike (term_there bs (place t)) (term_there bs (place n)) ≡ true → ⊥
     unlike_new t l e = let h = alike_there bs bytes place records t n (omega arith) (omega arith) e in apart t l h.0 h.1
@@ -70,8 +73,8 @@ module _ {bs : List ℕ} (bytes : Bytes bs) {place : ℕ → ℕ} {links : List 
     abbrev half : ℕ → ℕ
     half = (tables_in tables).half
 
-    other : Found (same_by kind key (other_half (kind n)) (key n)) n found.other
-    other = f.other none
+    abbrev found : ℕ
+    found = one_more v.half
 
     -- the new term is not the half of t
     no_half : (t : ℕ) → t < n → (kind t ≡ public_key_kind → kind n ≡ private_key_kind → key t ≡ key n → ⊥) → pair_there bs place t n ≡ false
@@ -82,42 +85,42 @@ module _ {bs : List ℕ} (bytes : Bytes bs) {place : ℕ → ℕ} {links : List 
     no_key_lem t l d = not_true _ (λ e. let h = pair_there_lem bs bytes place records n t (omega arith) l e in d h.0 h.1 h.2)
 
     -- the first n have no other half of it
-    pub halved_none : found.other ≡ 0 → Halved bs place half (n + 1)
+    pub halved_none : found ≡ 0 → Halved bs place half (n + 1)
     halved_none z = record {
       halves = at_most n
           (rw (i.unpaired n (omega arith)) (record {
             one = λ t q. absurd (omega arith);
-            none = λ _. at_most n (no_key_lem n (omega arith) (λ p q _. omega arith)) (λ t l. no_key_lem t (omega arith) (λ p q e. alone t l (q ∙ sym half_of_public ∙ ap other_half (sym p)) (sym e)));
+            none = λ _. at_most n (no_key_lem n (omega arith) (λ p q _. omega arith)) (λ t l. no_key_lem t (omega arith) (λ p q e. alone t l (ap other_half p ∙ half_of_public ∙ ap Some (sym q)) (sym e)));
           }))
-          (λ t l. found_more (i.halves t l) (no_half t l (λ p q e. alone t l (p ∙ sym half_of_private ∙ ap other_half (sym q)) e)));
+          (λ t l. found_more (i.halves t l) (no_half t l (λ p q e. alone t l (ap other_half q ∙ half_of_private ∙ ap Some (sym p)) e)));
       unpaired = λ t l. i.unpaired t (omega arith);
     }
       where
-        alone : (t : ℕ) → t < n → kind t ≡ other_half (kind n) → key t ≡ key n → ⊥
-        alone t l a b = false≢true (sym (other.none z t l) ∙ same_true kind key _ _ t a b)
+        alone : (t : ℕ) → t < n → other_half (kind n) ≡ Some (kind t) → key t ≡ key n → ⊥
+        alone t l a b = false≢true (sym (f.half.none z t l) ∙ half_true kind key _ _ t a b)
 
     -- they have the private half of a public key
-    pub halved_public : (found.other ≡ 0 → ⊥) → kind n ≡ public_key_kind → Halved bs place (put half n found.other) (n + 1)
+    pub halved_public : (found ≡ 0 → ⊥) → kind n ≡ public_key_kind → Halved bs place (put half n found) (n + 1)
     halved_public z p = record {
       halves = at_most n
-          (rw (put_same half n found.other) (record {
+          (rw (put_same half n found) (record {
             one = λ t q.
-                let w = other.one t q in
-                let a : kind t ≡ private_key_kind = same_kind kind key _ _ t w.1 ∙ ap other_half p ∙ half_of_public in
-                (omega arith, there_pair bs bytes place records n t (omega arith) (omega arith) p a (sym (same_key kind key _ _ t w.1)));
+                let w = f.half.one t q in
+                let a : kind t ≡ private_key_kind = some_same (sym (half_kind kind key _ _ t w.1) ∙ ap other_half p ∙ half_of_public) in
+                (omega arith, there_pair bs bytes place records n t (omega arith) (omega arith) p a (sym (half_key kind key _ _ t w.1)));
             none = λ q. absurd (z q);
           }))
-          (λ t l. rw (put_other half n found.other t (omega arith)) (found_more (i.halves t l) (no_half t l (λ _ q _. omega arith))));
-      unpaired = λ t l. put_other half n found.other t (omega arith) ∙ i.unpaired t (omega arith);
+          (λ t l. rw (put_other half n found t (omega arith)) (found_more (i.halves t l) (no_half t l (λ _ q _. omega arith))));
+      unpaired = λ t l. put_other half n found t (omega arith) ∙ i.unpaired t (omega arith);
     }
 
     -- they have the public half u of a private key
-    module _ (z : found.other ≡ 0 → ⊥) (d : kind n ≡ public_key_kind → ⊥) where
+    module _ (z : found ≡ 0 → ⊥) (d : kind n ≡ public_key_kind → ⊥) where
       abbrev u : ℕ
-      u = found.other - 1
+      u = found - 1
 
-      found_u : (u < n) × (same_by kind key (other_half (kind n)) (key n) u ≡ true)
-      found_u = other.one u (omega arith)
+      found_u : (u < n) × (half_by kind key (other_half (kind n)) (key n) u ≡ true)
+      found_u = f.half.one u (omega arith)
 
       is_private : kind n ≡ private_key_kind
       is_private = go (eqb (kind n) private_key_kind) refl
@@ -125,16 +128,14 @@ module _ {bs : List ℕ} (bytes : Bytes bs) {place : ℕ → ℕ} {links : List 
           go : (b : Bool) → eqb (kind n) private_key_kind ≡ b → kind n ≡ private_key_kind
           go true e = eqb-true _ _ e
           go false e =
-              let q : kind u ≡ 0 = same_kind kind key _ _ u found_u.1 ∙ half_of_none (kind n) d (eqb-false _ _ e) in
-              let l = found_u.0 in
-              let r = term_kinds_lem (kind u) (records u (omega arith)) in
-              absurd (omega arith)
+              let q : Some (kind u) ≡ None = sym (half_kind kind key _ _ u found_u.1) ∙ half_of_none (kind n) d (eqb-false _ _ e) in
+              absurd (let z : ◌≡◌ {A = ℕ} 0 1 = cc in omega arith)
 
       u_public : kind u ≡ public_key_kind
-      u_public = same_kind kind key _ _ u found_u.1 ∙ ap other_half is_private ∙ half_of_private
+      u_public = some_same (sym (half_kind kind key _ _ u found_u.1) ∙ ap other_half is_private ∙ half_of_private)
 
       u_key : key u ≡ key n
-      u_key = same_key kind key _ _ u found_u.1
+      u_key = half_key kind key _ _ u found_u.1
 
       sole : (t : ℕ) → t < n → kind t ≡ public_key_kind → key t ≡ key n → t ≡ u
       sole t l a b =
@@ -170,20 +171,19 @@ module _ {bs : List ℕ} (bytes : Bytes bs) {place : ℕ → ℕ} {links : List 
 
     -- its kind, its words and its halves are noted, and it stands at the free entry
     pub indexed_more :
-        {links' : List ℕ} {tables' : Tables} (half' : ℕ → ℕ) (terms' : Terms) → links' ≡ set links found.free (n + 1) → tables_in tables' ≡ with_half (with_terms (tables_in tables) terms') half'
+        {links' : List ℕ} {tables' : Tables} (half' : ℕ → ℕ) (terms' : Terms) → links' ≡ set links v.at (n + 1) → tables_in tables' ≡ with_half (with_terms (tables_in tables) terms') half'
         → Noted bs place terms' (n + 1) → Halved bs place half' (n + 1) → Indexed bs place links' tables' (n + 1)
     indexed_more {links'} {tables'} half' terms' el et w h =
-        let g = f.free none in
+        let g = f.free in
         let eh : (tables_in tables').half ≡ half' = ap (λ (v : TableColumns). v.half) et in
         let ew : (tables_in tables').terms ≡ terms' = ap (λ (v : TableColumns). v.terms) et in
         rw el (record {
           tree = grown_tree i.tree few g;
-          words = ap (λ (v : TableColumns). v.words) et ∙ i.words;
           noted = subst⁻¹ (λ (v : Terms). Noted bs place v (n + 1)) ew w;
           met = at_most n (grown_met i.tree few g) (λ t l. still_met i.tree few g (key t) (i.met t l));
           unlike = unlike_more;
-          halves = rw eh h.halves;
-          unpaired = rw eh h.unpaired;
+          halves = subst⁻¹ (λ (x : ℕ → ℕ). Halves bs place x (n + 1)) eh h.halves;
+          unpaired = λ t l. ap (λ (x : ℕ → ℕ). x t) eh ∙ h.unpaired t l;
           unlisted = λ t. ap (λ (v : TableColumns). v.entry t) et ∙ i.unlisted t;
           shallow = λ t. ap (λ (v : TableColumns). v.depth t) et ∙ i.shallow t;
           unlinked = subst⁻¹ Unlinked (ap (λ (v : TableColumns). v.boards) et) i.unlinked;

@@ -8,7 +8,6 @@ use lib.ListN.{get_or}
 use Rattle.rules.specs.Limits.{term_limit}
 use Rattle.rules.specs.State.{put}
 use Rattle.rules.specs.Term.{fields_in}
-use Rattle.records.specs.declared.Words.{Words}
 use Rattle.records.specs.Keys.{key_of, words_of}
 use Rattle.tables.specs.Columns.{field_words, Terms, field_of, tables_in}
 use Rattle.learning.specs.There.{term_there}
@@ -26,7 +25,7 @@ pub reached : {bs : List ℕ} {place : ℕ → ℕ} {links : List ℕ} {tables :
 reached i h = record { tree = i.tree; few = h; met = λ t l. rw (key_noted_lem i t l) (i.met t l) }
 
 -- the words of a term, noted one after the other
-module _ (v : Terms) (n k : ℕ) (w : Words) where
+module _ (v : Terms) (n k : ℕ) (w : List ℕ) where
   abbrev noted : Terms
   noted = term_noted v n k w
 
@@ -38,43 +37,43 @@ module _ (v : Terms) (n k : ℕ) (w : Words) where
 
   -- the fields with the first words of the term
   abbrev one : ℕ → ℕ
-  one = put v.field (field_words * n + 0) w.first
+  one = put v.field (field_words * n + 0) (get_or w 0 0)
 
   abbrev two : ℕ → ℕ
-  two = put one (field_words * n + 1) w.second
+  two = put one (field_words * n + 1) (get_or w 1 0)
 
   abbrev three : ℕ → ℕ
-  three = put two (field_words * n + 2) w.third
+  three = put two (field_words * n + 2) (get_or w 2 0)
 
   -- at another place than a word's, what was there before it
   before_fourth : (u : ℕ) → (u ≡ field_words * n + 3 → ⊥) → noted.field u ≡ three u
-  before_fourth = put_other three (field_words * n + 3) w.fourth
+  before_fourth = put_other three (field_words * n + 3) (get_or w 3 0)
 
   before_third : (u : ℕ) → (u ≡ field_words * n + 2 → ⊥) → three u ≡ two u
-  before_third = put_other two (field_words * n + 2) w.third
+  before_third = put_other two (field_words * n + 2) (get_or w 2 0)
 
   before_second : (u : ℕ) → (u ≡ field_words * n + 1 → ⊥) → two u ≡ one u
-  before_second = put_other one (field_words * n + 1) w.second
+  before_second = put_other one (field_words * n + 1) (get_or w 1 0)
 
   pub field_kept : (t i : ℕ) → t < n → i < field_words → field_of noted t i ≡ field_of v t i
   field_kept t i l h =
       let u = field_words * t + i in
-      before_fourth u (omega arith) ∙ before_third u (omega arith) ∙ before_second u (omega arith) ∙ put_other v.field (field_words * n + 0) w.first u (omega arith)
+      before_fourth u (omega arith) ∙ before_third u (omega arith) ∙ before_second u (omega arith) ∙ put_other v.field (field_words * n + 0) (get_or w 0 0) u (omega arith)
 
   pub field_new : (xs : List ℕ) → w ≡ words_of xs → (i : ℕ) → i < field_words → field_of noted n i ≡ get_or xs i 0
   field_new xs e zero h =
       let u = field_words * n + 0 in
-      before_fourth u (omega arith) ∙ before_third u (omega arith) ∙ before_second u (omega arith) ∙ put_same v.field u w.first ∙ ap (λ (x : Words). x.first) e
+      before_fourth u (omega arith) ∙ before_third u (omega arith) ∙ before_second u (omega arith) ∙ put_same v.field u (get_or w 0 0) ∙ ap (λ (x : List ℕ). get_or x 0 0) e
   field_new xs e (suc zero) h =
       let u = field_words * n + 1 in
-      before_fourth u (omega arith) ∙ before_third u (omega arith) ∙ put_same one u w.second ∙ ap (λ (x : Words). x.second) e
-  field_new xs e (suc (suc zero)) h = let u = field_words * n + 2 in before_fourth u (omega arith) ∙ put_same two u w.third ∙ ap (λ (x : Words). x.third) e
-  field_new xs e (suc (suc (suc zero))) h = put_same three (field_words * n + 3) w.fourth ∙ ap (λ (x : Words). x.fourth) e
+      before_fourth u (omega arith) ∙ before_third u (omega arith) ∙ put_same one u (get_or w 1 0) ∙ ap (λ (x : List ℕ). get_or x 1 0) e
+  field_new xs e (suc (suc zero)) h = let u = field_words * n + 2 in before_fourth u (omega arith) ∙ put_same two u (get_or w 2 0) ∙ ap (λ (x : List ℕ). get_or x 2 0) e
+  field_new xs e (suc (suc (suc zero))) h = put_same three (field_words * n + 3) (get_or w 3 0) ∙ ap (λ (x : List ℕ). get_or x 3 0) e
   field_new xs e (suc (suc (suc (suc i)))) h = absurd (omega arith)
 
 -- one term more
 pub noted_more :
-    {bs : List ℕ} {place : ℕ → ℕ} {links : List ℕ} {tables : Tables} {n k : ℕ} {w : Words} → Indexed bs place links tables n → k ≡ kind_of_there bs place n → w ≡ words_of (fields_in (term_there bs (place n)))
+    {bs : List ℕ} {place : ℕ → ℕ} {links : List ℕ} {tables : Tables} {n k : ℕ} {w : List ℕ} → Indexed bs place links tables n → k ≡ kind_of_there bs place n → w ≡ words_of (fields_in (term_there bs (place n)))
     → Noted bs place (term_noted (tables_in tables).terms n k w) (n + 1)
 noted_more {bs} {place} {links} {tables} {n} {k} {w} i is e =
     let v = (tables_in tables).terms in

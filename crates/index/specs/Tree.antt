@@ -1,4 +1,5 @@
--- Numbers by their keys: a tree for each bucket, in one list of entries. First an entry for each bucket, its root; then two for each number, what is
+-- Numbers by their keys: a tree for each bucket, in one list of entries. First an entry for each bucket, its root; then
+-- two for each number, what is
 -- below it by the next bit of a key. An entry is one more than a number, or 0.
 use Rattle.std.specs.Prelude.{◌≡◌, Bool, true, false, List, ℕ, zero, suc, ◌+◌, ◌*◌, ◌-◌, ◌/◌, ◌%◌, ◌<◌, ◌≤◌, length, get_or}
 use Rattle.rules.specs.Limits.{term_limit}

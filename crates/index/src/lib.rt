@@ -1,4 +1,5 @@
-// The terms by their keys, filled as they are entered: refusal 9 and the halves of a key pair by a walk down one bucket.
+// The terms by their keys, filled as they are entered: refusal 9 and the halves of a key pair by a walk down one
+// bucket.
 #![tactic(auto)]
 
 ghost use Rattle.std.specs.Prelude.{◌≡◌, cond, not, ◌+◌, ◌<◌, ◌≤◌, eqb, length};
@@ -22,22 +23,23 @@ pub const PRIME: u64 = 1021;
 
 pub const LINKS: usize = BUCKETS + 2 * rules::TERM_LIMIT;
 
-// What the way of a key found: one more than a term of the kind, or 0; the same of another kind; the free entry at the end.
+// Where a new term enters: the free entry at the end of its key's way; and the other half of its key pair, where it was
+// met.
 #[derive(Clone, Copy)]
-pub struct Searched {
-    pub same: usize,
-    pub other: usize,
-    pub free: usize,
+pub struct Vacancy {
+    pub at: usize,
+    pub half: Option<usize>,
 }
 
-// The kind of a key's other half, 0 of another term.
-fn other_half(kind: u8) -> u8
+// The kind of a key's other half.
+#[tactic(auto, unfolding(crate::specs::Indexed::other_half))]
+fn other_half(kind: u8) -> Option<u16>
     ensures { result ≡ other_half kind }
 {
     match kind {
-        0x10 => 0x11,
-        0x11 => 0x10,
-        _ => 0,
+        0x10 => Some(0x11),
+        0x11 => Some(0x10),
+        _ => None,
     }
 }
 
@@ -46,25 +48,21 @@ pub fn words_of(tables: &Tables, t: usize) -> Words
     requires { t < term_limit }
     ensures { result ≡ words_noted (tables_in tables.now).terms t }
 {
-    let first = tables.field_of(t, 0);
-    let second = tables.field_of(t, 1);
-    let third = tables.field_of(t, 2);
-    let fourth = tables.field_of(t, 3);
-    Words {
-        first: first,
-        second: second,
-        third: third,
-        fourth: fourth,
-    }
+    [
+        tables.field_of(t, 0),
+        tables.field_of(t, 1),
+        tables.field_of(t, 2),
+        tables.field_of(t, 3),
+    ]
 }
 
 // The key of a term, by its words.
+#[tactic(auto, unfolding(crate::specs::Indexed::key_noted))]
 fn key_of(tables: &Tables, t: usize) -> u64
     requires { t < term_limit }
     ensures { result ≡ key_noted (tables_in tables.now).terms t }
 {
-    let words = words_of(tables, t);
-    records::key(words.first, words.second, words.third, words.fourth)
+    records::key(words_of(tables, t))
 }
 
 // The kind of a term and its words.
@@ -72,53 +70,43 @@ fn note_term(tables: &mut Tables, t: usize, kind: u8, words: Words)
     requires { t < term_limit }
     ensures { tables_in tables.new ≡ with_terms (tables_in tables.old) (term_noted (tables_in tables.old).terms t kind words) }
 {
+    let [first, second, third, fourth] = words;
     tables.note_kind(t, kind as u16);
-    tables.note_field(t, 0, words.first);
-    tables.note_field(t, 1, words.second);
-    tables.note_field(t, 2, words.third);
-    tables.note_field(t, 3, words.fourth);
+    tables.note_field(t, 0, first);
+    tables.note_field(t, 1, second);
+    tables.note_field(t, 2, third);
+    tables.note_field(t, 3, fourth);
 }
 
-// The way of a key down its bucket.
+// The way of a key down its bucket: 9 where a term of the kind has it.
 fn search(
     links: &[u16; LINKS],
     tables: &Tables,
     kind: u8,
-    other: u8,
     key: u64,
     terms: usize,
-) -> Searched
+) -> Result<Vacancy, Refusal>
     requires { Reached (key_noted (tables_in tables.now).terms) links.now terms }
-    ensures { SearchResult (tables_in tables.now).terms.kind (key_noted (tables_in tables.now).terms) links.now kind other key terms result }
+    ensures { SearchResult (tables_in tables.now).terms.kind (key_noted (tables_in tables.now).terms) links.now kind key terms result }
 {
+    let other = other_half(kind);
     let mut slot = (key % PRIME) as usize;
     let mut rest = key;
-    let mut half = 0;
-    let mut e = links[slot] as usize;
-    while e != 0 {
-        let t = e - 1;
+    let mut half = None;
+    while let Some(t) = (links[slot] as usize).checked_sub(1) {
         if key_of(tables, t) == key {
             let there = tables.kind_of(t);
             if there == kind as u16 {
-                return Searched {
-                    same: e,
-                    other: 0,
-                    free: 0,
-                };
+                return Err(Refusal::TermAlike);
             }
-            if there == other as u16 {
-                half = e;
+            if other == Some(there) {
+                half = Some(t);
             }
         }
         slot = BUCKETS + 2 * t + (rest % 2) as usize;
-        rest = rest / 2;
-        e = links[slot] as usize;
+        rest /= 2;
     }
-    Searched {
-        same: 0,
-        other: half,
-        free: slot,
-    }
+    Ok(Vacancy { at: slot, half })
 }
 
 // A term record: 9 where its term is alike an earlier one; else its place is noted, and its term enters the index.
@@ -138,23 +126,16 @@ pub fn enter_term(
     ensures indexed { number_in result ≡ 0 → Indexed file.now (view state.new).place links.new tables.new (terms + 1) }
 {
     let words = records::words_in(kind, body);
-    let key = records::key(words.first, words.second, words.third, words.fourth);
-    let found = search(links, tables, kind, other_half(kind), key, terms);
-    let same = found.same;
-    let other = found.other;
-    let free = found.free;
-    if same != 0 {
-        return 9;
-    }
+    let vacancy = search(links, tables, kind, records::key(words), terms)?;
     state::note_place(state, terms, at);
     note_term(tables, terms, kind, words);
-    links[free] = (terms + 1) as u16;
-    if other != 0 {
+    links[vacancy.at] = (terms + 1) as u16;
+    if let Some(half) = vacancy.half {
         if kind == 0x10 {
-            tables.note_half(terms, other as u16);
+            tables.note_half(terms, half);
         } else {
-            tables.note_half(other - 1, (terms + 1) as u16);
+            tables.note_half(half, terms);
         }
     }
-    0
+    Ok(())
 }

@@ -2,7 +2,7 @@
 --     entry-appended              the places of a ledger with an entry more
 --     depth-appended              and its depths
 --     appended                    what writing its place, its depth and its EK leaves
---     linked-known, linked-new, enters-linked, keys-linked  what linking it leaves
+--     enters_linked, keys_linked  what linking it leaves
 -- Assumes nothing.
 use Rattle.tables.specs.declared.columns.Tables.{Tables}
 use mathlib.Core.Path.{◌≡◌, refl, sym, ap, subst⁻¹, ◌∙◌}
@@ -115,14 +115,7 @@ module _ (tables tables₁ tables₂ tables' : Tables) (n certificate depth ek :
     boards = ap (λ (v : TableColumns). v.boards) written;
   }
 
--- linked by its Subject, by what that finds
-module _ (v : TableColumns) (n : ℕ) {x : Subject} {m e : ℕ} (q : x ≡ Device m) (k : e ≡ entry_of v.boards m) where
-  pub linked_known : (e ≡ 0 → ⊥) → v ≡ linked_by v n x
-  linked_known z = sym (ap (linked_by v n) q ∙ ap (λ (b : Bool). cond b (with_boards v (linked v.boards n m)) v) (ne_eqb (entry_of v.boards m) 0 (λ w. z (k ∙ w))))
-
-  pub linked_new : e ≡ 0 → with_boards v (linked v.boards n m) ≡ linked_by v n x
-  linked_new z = sym (ap (linked_by v n) q ∙ ap (λ (b : Bool). cond b (with_boards v (linked v.boards n m)) v) (eq-eqb (entry_of v.boards m) 0 (sym k ∙ z)))
-
+-- linked by its Subject
 module _ (tables tables' : Tables) (n : ℕ) where
   pub enters_linked :
       {ledger : List Entry} (x : Subject) → tables_in tables' ≡ linked_by (tables_in tables) n x → Falls (tables_in tables).boards n → Enters tables (n + 1) ledger

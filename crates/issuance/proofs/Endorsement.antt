@@ -6,7 +6,6 @@ use mathlib.Core.Path.{◌≡◌}
 use mathlib.Core.List.{List}
 use Prim.Native.Nat.{ℕ, ◌<◌}
 use native.Mathlib.Omega.{arith}
-use lib.ListN.{length}
 use Rattle.rules.specs.Limits.{term_limit}
 use Rattle.rules.specs.Term.{certificate_kind}
 use Rattle.rules.specs.File.{kind, certified_key, idevid_certificate, left_of}

@@ -1,7 +1,9 @@
 -- What accepted commands that issue a certificate leave.
---     iak-new, iak-open, request-accepted     tests that an accepted 3F, or an accepted 40, 41 or 42 passed
---     parent_place                the place of the parent of a 40, 41 or 42
---     iak-issued, request-issued  3F; 40, 41, 42
+--     iak_open, request_accepted     tests that an accepted 3F, or an accepted 40, 41 or 42 passed
+--     parent_place                   the place of the parent of a 40, 41 or 42
+--     certificate_few, parent_few    the numbers of a certificate and of that parent
+--     parent_some, parent_at_place   its place, as the tables answer it
+--     iak_issued_lem, request_issued 3F; 40, 41, 42
 -- Assumes nothing.
 use Rattle.tables.specs.declared.columns.Tables.{Tables}
 use Rattle.std.specs.Prelude.{Option, None, Some}
@@ -46,7 +48,7 @@ use Rattle.issuance.proofs.IssueOnRequest.{parent_at}
 use Rattle.issuance.proofs.Appending.{enters_linked, keys_linked}
 
 -- an accepted 3F is of a certificate that is not listed
-pub iak_new_lem : (f : File) (s : State) (p q c r : ℕ) → outcome f s (issue_iak p q c r) ≡ 0 → listed s.ledger r ≡ false
+iak_new_lem : (f : File) (s : State) (p q c r : ℕ) → outcome f s (issue_iak p q c r) ≡ 0 → listed s.ledger r ≡ false
 unfolding outcome tests_of issue_iak_tests called_for
 iak_new_lem f s p q c r e = not-true _ (passed (issue_iak_tests f s p q c r) refl e).1.1.1.1.1.1.1.1.0
 

@@ -26,7 +26,8 @@ use loaded::Loaded;
 use rules::{Entry, Family, Refusal, Role, Subject, TermKind, ensure};
 use tables::Tables;
 
-// Whether every entry with a Subject has a path that ends at an EK: the one that its serial number finds tells, and no entry has a TPM's.
+// Whether every entry with a Subject has a path that ends at an EK: the one that its serial number finds tells, and no
+// entry has a TPM's.
 fn ends_at(tables: &Tables, wanted: Subject, ek: usize) -> bool
     requires { Falls (tables_in tables.now).boards term_limit }
     ensures { (f : File) (ledger : List Entry) → Boarded f (tables_in tables.now).boards ledger → OneEk f ledger → result ≡ all_end_at f ledger wanted ek ledger }
@@ -64,11 +65,20 @@ pub fn decide_issue_iak(
     ensures { DecidesListed loaded.now.file.now state.now loaded.now.tables.now (issue_iak party other c r) result }
 {
     ensure(loaded.is_role(party, Role::OemDesk), Refusal::RoleForbids)?;
-    ensure(state::mark_of(state, c) == rules::CREDENTIAL_OPEN, Refusal::CredentialNotOpen)?;
-    ensure(state::desk_of(state, c) as usize == party, Refusal::CredentialNotOpen)?;
+    ensure(
+        state::mark_of(state, c) == rules::CREDENTIAL_OPEN,
+        Refusal::CredentialNotOpen,
+    )?;
+    ensure(
+        state::desk_of(state, c) as usize == party,
+        Refusal::CredentialNotOpen,
+    )?;
     ensure(loaded.is_role(other, Role::Device), Refusal::PartyReturning)?;
     let credential = loaded.credential(c);
-    ensure(state::knows(state, other, credential.number), Refusal::PartyReturning)?;
+    ensure(
+        state::knows(state, other, credential.number),
+        Refusal::PartyReturning,
+    )?;
     let request = loaded.pair(state::request_of(state, c));
     let asked = loaded.idevid_request(request.left);
     requests::called_for(loaded, party, r, asked.key, asked.subject)?;
@@ -83,7 +93,10 @@ fn entry_allowed(tables: &Tables, r: usize, parent: usize) -> Result<(), Refusal
     ensures { (n : ℕ) (ledger : List Entry) → Enters tables.now n ledger → number_in result ≡ chain (entry_tests ledger r parent) }
 {
     ensure(tables.entry_of(r).is_none(), Refusal::IssuedAlready)?;
-    ensure(tables.depth_of(parent) < rules::DEPTH_LIMIT, Refusal::TooDeep)
+    ensure(
+        tables.depth_of(parent) < rules::DEPTH_LIMIT,
+        Refusal::TooDeep,
+    )
 }
 
 // 40, 41, 42: what differs is the family.
@@ -134,8 +147,8 @@ fn link(tables: &mut Tables, n: usize, subject: Subject)
     }
 }
 
-// What 3F leaves: the desk learns the certificate, and the credential is closed. Answers the entry that the ledger gains: the certificate under that
-// of the EK. It is linked by its Subject.
+// What 3F leaves: the desk learns the certificate, and the credential is closed. Answers the entry that the ledger
+// gains: the certificate under that of the EK. It is linked by its Subject.
 pub fn effect_issue_iak(
     file: &[u8],
     state: &mut [u8],
@@ -163,7 +176,8 @@ pub fn effect_issue_iak(
     }
 }
 
-// What 40, 41 and 42 leave: the desk learns the certificate. Answers the entry that the ledger gains: the certificate under the request's, one deeper.
+// What 40, 41 and 42 leave: the desk learns the certificate. Answers the entry that the ledger gains: the certificate
+// under the request's, one deeper.
 pub fn effect_issue(
     file: &[u8],
     state: &mut [u8],

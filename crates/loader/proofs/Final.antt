@@ -3,7 +3,7 @@
 --     final_leaves, refused_leaves, short_leaves, long_leaves    the buffer after loading
 --     final_answer, refused_answer, short_answer, long_answer    the answer
 --     inside_lower                                               what lies inside a term is not higher
---     unknown, unheld                                            at the start no term but a declared one is known, or in a table
+--     unknown, unheld                                            at the start only a declared term is known, or in a table
 -- Assumes nothing.
 use mathlib.Core.Path.{◌≡◌, refl, sym, ap, ◌∙◌}
 use mathlib.Core.Bool.{Bool, true, false, cond, ◌&&◌}

@@ -11,14 +11,16 @@ unfoldable pub commands_there : List ℕ → ℕ → ℕ → List Command
 commands_there bs at zero = []
 commands_there bs at (suc n) = command_there bs at ∷ commands_there bs (next_place bs at) n
 
--- the place of the first command's record from a place on, or the file's end; the first number bounds how many records are passed
+-- the place of the first command's record from a place on, or the file's end; the first number bounds how many records
+-- are passed
 unfoldable pub commands_from : ℕ → List ℕ → ℕ → ℕ
 commands_from zero bs at = length bs
 commands_from (suc n) bs at =
     let later = commands_from n bs (next_place bs at) in
     cond (ltb at (length bs)) (cond (eqb (section_of (kind_there bs at)) command_section) at later) (length bs)
 
--- the commands whose records stand from a place on, at most n of them, up to the file's end: what a loop over commands has left
+-- the commands whose records stand from a place on, at most n of them, up to the file's end: what a loop over commands
+-- has left
 unfoldable pub commands_left : List ℕ → ℕ → ℕ → List Command
 commands_left bs at zero = []
 commands_left bs at (suc n) = cond (ltb at (length bs)) (command_there bs at ∷ commands_left bs (next_place bs at) n) []

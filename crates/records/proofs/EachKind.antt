@@ -1,4 +1,5 @@
--- What is computed at each kind up to the last holds of every kind: past it there is no section and no field, as of kind 00.
+-- What is computed at each kind up to the last holds of every kind: past it there is no section and no field, as of
+-- kind 00.
 use mathlib.Core.Path.{◌≡◌, refl, sym, ap, subst, ◌∙◌}
 use mathlib.Core.Bool.{Bool, true, false, ◌||◌}
 use mathlib.Core.List.{List, [], ◌∷◌}

@@ -1,4 +1,5 @@
--- The fields of terms as four numbers: what they are at a subject, and that terms of one kind are alike where the numbers are.
+-- The fields of terms as four numbers: what they are at a subject, and that terms of one kind are alike where the
+-- numbers are.
 use mathlib.Core.Path.{◌≡◌, refl, ap, sym, ◌∙◌}
 use mathlib.Core.Bool.{Bool, true, false, cond, ◌&&◌, and-true}
 use mathlib.Core.List.{List, [], ◌∷◌}

@@ -40,7 +40,8 @@ attest_tests f signature =
     ∷ need 19 (is_kind f attest_kind (message f signature))
     ∷ []
 
--- the family, the private key that signed an attest, the attested key, and the key and the signer of the parent's certificate
+-- the family, the private key that signed an attest, the attested key, and the key and the signer of the parent's
+-- certificate
 unfoldable pub parentage_tests : File → Family → ℕ → ℕ → ℕ → ℕ → List Test
 parentage_tests f family half new key by =
     need 20 (paired f key half)

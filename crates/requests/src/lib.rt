@@ -34,9 +34,15 @@ pub fn form(loaded: &Loaded, q: usize, expected: TermKind) -> Result<Request, Re
     ensure(loaded.is_kind(q, TermKind::Pair), Refusal::RequestForm)?;
     let request = loaded.pair(q);
     ensure(loaded.is_kind(request.left, expected), Refusal::RequestForm)?;
-    ensure(loaded.is_kind(request.right, TermKind::Signature), Refusal::RequestForm)?;
+    ensure(
+        loaded.is_kind(request.right, TermKind::Signature),
+        Refusal::RequestForm,
+    )?;
     let signature = loaded.signature(request.right);
-    ensure(loaded.is_kind(signature.message, TermKind::Hash), Refusal::RequestForm)?;
+    ensure(
+        loaded.is_kind(signature.message, TermKind::Hash),
+        Refusal::RequestForm,
+    )?;
     Ok(Request {
         body: request.left,
         content: loaded.hashed_term(signature.message),
@@ -77,19 +83,39 @@ pub fn endorsement(loaded: &Loaded, certificate: Certificate, iak: usize) -> Res
     ensures { number_in result ≡ chain (endorsement_tests (file_in loaded.now.file.now) certificate.subject certificate.signer iak certificate.key) }
 {
     ensure(is_tpm(certificate.subject), Refusal::CertificateSigner)?;
-    ensure(loaded.signs_for_role(Role::TpmMaker, certificate.signer), Refusal::CertificateSigner)?;
-    ensure(loaded.has_attributes(iak, Attributes::iak()), Refusal::KeyAttributes)?;
-    ensure(loaded.has_attributes(certificate.key, Attributes::ek()), Refusal::KeyAttributes)
+    ensure(
+        loaded.signs_for_role(Role::TpmMaker, certificate.signer),
+        Refusal::CertificateSigner,
+    )?;
+    ensure(
+        loaded.has_attributes(iak, Attributes::iak()),
+        Refusal::KeyAttributes,
+    )?;
+    ensure(
+        loaded.has_attributes(certificate.key, Attributes::ek()),
+        Refusal::KeyAttributes,
+    )
 }
 
 // The credential of a challenge: over the hash of the IAK, to the EK.
 #[tactic(auto, unfolding(crate::specs::Tests::credential_tests, theorems::specs::Chain::chain))]
-pub fn credential_names(loaded: &Loaded, credential: Credential, iak: usize, ek: usize) -> Result<(), Refusal>
+pub fn credential_names(
+    loaded: &Loaded,
+    credential: Credential,
+    iak: usize,
+    ek: usize,
+) -> Result<(), Refusal>
     requires { credential.content < length (file_in loaded.now.file.now).terms }
     ensures { number_in result ≡ chain (credential_tests (file_in loaded.now.file.now) credential.content credential.key iak ek) }
 {
-    ensure(loaded.is_kind(credential.content, TermKind::Hash), Refusal::NotCalledFor)?;
-    ensure(loaded.hashed_term(credential.content) == iak, Refusal::NotCalledFor)?;
+    ensure(
+        loaded.is_kind(credential.content, TermKind::Hash),
+        Refusal::NotCalledFor,
+    )?;
+    ensure(
+        loaded.hashed_term(credential.content) == iak,
+        Refusal::NotCalledFor,
+    )?;
     ensure(credential.key == ek, Refusal::NotCalledFor)
 }
 
@@ -108,7 +134,10 @@ pub fn called_for(
     let certificate = loaded.certificate(r);
     ensure(certificate.key == key, Refusal::NotCalledFor)?;
     ensure(certificate.subject == wanted, Refusal::NotCalledFor)?;
-    ensure(loaded.signs(party, certificate.signer), Refusal::NotCalledFor)
+    ensure(
+        loaded.signs(party, certificate.signer),
+        Refusal::NotCalledFor,
+    )
 }
 
 // The message of an LDevID request, a signature over an attest: the attested key and the private key that signed.
@@ -127,15 +156,18 @@ pub fn attested_by(loaded: &Loaded, t: usize) -> Result<Attested, Refusal>
 {
     ensure(loaded.is_kind(t, TermKind::Signature), Refusal::RequestForm)?;
     let signature = loaded.signature(t);
-    ensure(loaded.is_kind(signature.message, TermKind::Attest), Refusal::RequestForm)?;
+    ensure(
+        loaded.is_kind(signature.message, TermKind::Attest),
+        Refusal::RequestForm,
+    )?;
     Ok(Attested {
         key: loaded.attested_key(signature.message),
         signer: signature.key,
     })
 }
 
-// The parentage of a new key: its attest by the key of a certificate that a desk signed, and the attributes of both keys, as its
-// family asks.
+// The parentage of a new key: its attest by the key of a certificate that a desk signed, and the attributes of both
+// keys, as its family asks.
 #[tactic(auto, unfolding(crate::specs::Tests::parentage_tests, theorems::specs::Chain::chain))]
 pub fn parentage(
     loaded: &Loaded,
@@ -148,7 +180,16 @@ pub fn parentage(
     ensures { number_in result ≡ chain (parentage_tests (file_in loaded.now.file.now) family half new certificate.key certificate.signer) }
 {
     ensure(loaded.is_pair(certificate.key, half), Refusal::NoProof)?;
-    ensure(loaded.signs_for_some(family.signers, certificate.signer), Refusal::CertificateSigner)?;
-    ensure(loaded.has_attributes(new, family.key), Refusal::KeyAttributes)?;
-    ensure(loaded.has_attributes(certificate.key, family.parent), Refusal::KeyAttributes)
+    ensure(
+        loaded.signs_for_some(family.signers, certificate.signer),
+        Refusal::CertificateSigner,
+    )?;
+    ensure(
+        loaded.has_attributes(new, family.key),
+        Refusal::KeyAttributes,
+    )?;
+    ensure(
+        loaded.has_attributes(certificate.key, family.parent),
+        Refusal::KeyAttributes,
+    )
 }

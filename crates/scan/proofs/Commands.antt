@@ -1,19 +1,19 @@
--- The records after the first command's: a record is a command's where the section so far is that of the commands, or it is the first.
+-- The records after the first command's: a record is a command's where the section so far is that of the commands, or it
+-- is the first.
 -- Assumes nothing.
-use mathlib.Core.Path.{◌≡◌, refl, sym, ap, ◌∙◌}
+use mathlib.Core.Path.{◌≡◌, refl, ap, ◌∙◌}
 use mathlib.Core.Logic.{◌⊎◌, inl, inr}
 use mathlib.Core.List.{List}
-use Prim.Native.Nat.{ℕ, ◌+◌, ◌<◌, ◌≤◌}
+use Prim.Native.Nat.{ℕ, ◌<◌, ◌≤◌}
 use native.Mathlib.Omega.{arith}
 use lib.ListN.{length, get_or}
 use borrow.Author.Tests.{le-ltb}
 use Rattle.rules.specs.Record.{section_of, command_section}
 use Rattle.rules.specs.Load.{first, load, refused}
-use Rattle.state.specs.View.{view}
 use Rattle.tables.specs.Columns.{Terms, tables_in}
 use Rattle.tables.specs.declared.columns.Tables.{Tables}
 use Rattle.checks.specs.There.{head_fault}
-use Rattle.checks.specs.Plain.{Plain}
+use Rattle.checks.specs.Fields.{Plain}
 use Rattle.records.proofs.Lengths.{section_most}
 use Rattle.theorems.proofs.Pieces.{body_at}
 use Rattle.reader.specs.Place.{next_place}

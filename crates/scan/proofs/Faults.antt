@@ -1,4 +1,5 @@
--- What is wrong with a record by the bytes is what the rules find wrong with it, where the bytes describe the file declared so far.
+-- What is wrong with a record by the bytes is what the rules find wrong with it, where the bytes describe the file
+-- declared so far.
 --     signer_is, signer_given                  the signing key of a party
 --     fields_same, allowed_same, alike_same    7 to 12, each by itself
 --     head_zero, refuse_head                   3 to 6
@@ -10,10 +11,8 @@ use mathlib.Core.Bool.{Bool, true, false, cond, not, ◌&&◌, ◌||◌, false�
 use mathlib.Core.List.{List, [], ◌∷◌, Memᴰ}
 use Prim.Native.Nat.{ℕ, zero, suc, ◌+◌, ◌<◌, ◌≤◌}
 use native.Mathlib.Omega.{arith}
-use native.Mathlib.Numerals.{add-one}
 use lib.Dec.{eqb, ltb, leb}
-use lib.ListN.{length, get_or, drop}
-use lib.Seq.{drop-cons}
+use lib.ListN.{length, get_or}
 use borrow.Author.Tests.{ltb-true, ltb-false, eqb-true, eqb-false, eq-eqb, ne_eqb, lt-leb, le-leb}
 use Rattle.rules.specs.declared.Field.{Field}
 use Rattle.rules.specs.declared.Field.TheVariants.{RoleField, IdentifierField, AttributesField, SubjectField, PartyField, AnyTerm, TermOf, SignedAttest, IakPairField, RegisterField, HashedPair, SignedQuote}
@@ -21,7 +20,7 @@ use Rattle.rules.specs.declared.Term.{Term}
 use Rattle.rules.specs.declared.Term.TheVariants.{Hash}
 use Rattle.rules.specs.Limits.{party_limit, tpm_maker}
 use Rattle.rules.specs.Attributes.{has, fixed_tpm}
-use Rattle.rules.specs.Term.{public_key_kind, private_key_kind, hash_kind, signature_kind, attest_kind, pair_kind, quote_kind, credential_kind, number_kind, certificate_kind, kind_of, fields_in, attributes_of, alike, any_alike}
+use Rattle.rules.specs.Term.{private_key_kind, hash_kind, signature_kind, attest_kind, pair_kind, quote_kind, credential_kind, certificate_kind, kind_of, fields_in, attributes_of, alike, any_alike}
 use Rattle.rules.specs.Record.{width, fields_of, section_of, body_length, term_section, setup_section, word}
 use Rattle.rules.specs.File.{File, Setup, learns, holds, signs_with, is_role, term, kind, is_kind, field, hashed_term, message, signer, subject, attributes, parts, some_setup, is_other_hold, is_signer, is_signing_key_for, holds_key, signs_for_role}
 use Rattle.rules.specs.Load.{first, refuse_unless, term_at, setup_at, empty_pair, section_fault, count_fault, declared_fault, kind_fault, field_fault, fields_fault, alike_fault, may_learn, may_hold, may_sign, allowed_fault, setup_fault, record_fault, enter, loaded, refused, feed}
@@ -31,11 +30,11 @@ use Rattle.tables.specs.Columns.{Terms, field_of}
 use Rattle.learning.specs.There.{term_there}
 use Rattle.learning.specs.Noted.{Noted}
 use Rattle.checks.specs.There.{head_fault, role_there, kind_fault_noted, inner_fault_noted, field_fault_noted, any_alike_there}
-use Rattle.checks.specs.Plain.{fields_fault_noted}
+use Rattle.checks.specs.Fields.{fields_fault_noted}
 use Rattle.setup.specs.Allowed.{signs_there, may_learn_there, may_hold_there, may_sign_there, allowed_there}
 use Rattle.theorems.proofs.LoadingFields.{SetupFields, first_zero, setup_passed}
 use Rattle.theorems.proofs.Loading.{Checked, Good, good_checked}
-use Rattle.theorems.proofs.Terms.{parts_signature, private_declared, setup_found, setup_finds, holds_given, given_holds, signs_role_given}
+use Rattle.theorems.proofs.Terms.{parts_signature, setup_found, setup_finds, holds_given, given_holds, signs_role_given}
 use Rattle.theorems.proofs.Pieces.{from, body_at, feed_unknown, feed_short, feed_refusal, feed_taken}
 use Rattle.scan.specs.declared.Tally.{Tally}
 use Rattle.scan.specs.Describes.{Describes, signer_of, last_fault}

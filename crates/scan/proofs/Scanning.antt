@@ -13,7 +13,7 @@ use Prim.Native.Nat.{ℕ, zero, suc, ◌+◌, ◌-◌, ◌<◌, ◌≤◌}
 use native.Mathlib.Omega.{arith}
 use lib.Dec.{eqb, ltb}
 use lib.ListN.{length, get_or, take, drop, replicate}
-use borrow.Author.Tests.{eq-eqb, eqb-true, ltb-false}
+use borrow.Author.Tests.{eqb-true, ltb-false}
 use Rattle.std.proofs.Common.{Result, Ok, Err, IfErr}
 use Rattle.std.specs.Result.{IsErrAnd}
 use Rattle.rules.specs.declared.Refusal.{Refusal}
@@ -21,18 +21,18 @@ use Rattle.rules.specs.declared.Refusal.TheVariants as refusal
 use Rattle.rules.specs.Codes.{number_of}
 use Rattle.rules.specs.Record.{section_of, body_length, fields_of, party_section, term_section, setup_section, command_section}
 use Rattle.rules.specs.File.{File}
-use Rattle.rules.specs.Load.{first, fields_fault, enter, feed, load, loaded, refused, empty_file}
+use Rattle.rules.specs.Load.{first, fields_fault, enter, load, loaded, refused, empty_file}
 use Rattle.state.specs.View.{view}
 use Rattle.tables.specs.declared.columns.Tables.{Tables}
 use Rattle.tables.specs.Columns.{Terms, tables_in}
 use Rattle.learning.specs.Noted.{Noted}
 use Rattle.checks.specs.There.{head_fault}
-use Rattle.checks.specs.Plain.{fields_fault_noted}
+use Rattle.checks.specs.Fields.{fields_fault_noted}
 use Rattle.index.specs.Tree.{link_count}
 use Rattle.index.proofs.Empty.{indexed_none}
 use Rattle.records.proofs.Lengths.{section_most}
 use Rattle.theorems.proofs.Loading.{entered, empty_good}
-use Rattle.theorems.proofs.Pieces.{from, body_at, load_from, feed_end}
+use Rattle.theorems.proofs.Pieces.{body_at, load_from, feed_end}
 use Rattle.reader.specs.Place.{next_place}
 use Rattle.reader.proofs.Places.{next_record}
 use Rattle.scan.specs.declared.Tally.{Tally}

@@ -1,5 +1,5 @@
 -- What the file's bytes, the state's bytes, the signing keys and the counts say of the file declared so far.
-use Rattle.std.specs.Prelude.{◌≡◌, cond, not, List, [], ◌∷◌, ℕ, suc, ◌+◌, ◌*◌, ◌<◌, ◌≤◌, eqb, length, get_or, replicate, Result, IfOk, IfErr}
+use Rattle.std.specs.Prelude.{◌≡◌, cond, not, List, [], ◌∷◌, ℕ, ◌+◌, ◌*◌, ◌<◌, ◌≤◌, eqb, length, get_or, replicate, Result, IfOk, IfErr}
 use Rattle.rules.specs.declared.Refused.{Refused}
 use Rattle.rules.specs.Codes.{number_of}
 use Rattle.rules.specs.Limits.{file_limit, party_limit, term_limit, state_bytes}
@@ -14,7 +14,7 @@ use Rattle.learning.specs.There.{term_there}
 use Rattle.learning.specs.Noted.{Noted}
 use Rattle.index.specs.Indexed.{Indexed}
 use Rattle.checks.specs.There.{TermsThere, role_there, any_alike_there, head_fault}
-use Rattle.checks.specs.Plain.{fields_fault_noted}
+use Rattle.checks.specs.Fields.{fields_fault_noted}
 use Rattle.setup.specs.Allowed.{allowed_there, setup_leaves, signers_leave}
 use Rattle.theorems.proofs.Loading.{Good}
 use Rattle.theorems.proofs.Pieces.{from, body_at}
@@ -95,7 +95,8 @@ pub record EnterReady (bs s body : List ℕ) (k at : ℕ) (n : Tally) : Type 0 w
   pub party : section_of k ≡ setup_section → get_or body 0 0 < n.parties
   pub declared : section_of k ≡ setup_section → word body 1 < n.terms
 
--- what holds where the scan stands at the place of a record: the file declared so far is described, and feeding it what is left is loading the file
+-- what holds where the scan stands at the place of a record: the file declared so far is described, and feeding it what
+-- is left is loading the file
 pub record At (bs s : List ℕ) (signers : ℕ → ℕ) (n : Tally) (at : ℕ) : Type 0 where
   pub file : File
   pub describes : Describes file bs s signers n at

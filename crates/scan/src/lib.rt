@@ -28,7 +28,7 @@ pub struct Tally {
 
 impl Tally {
     // The counts with one record more of a section.
-    #[tactic(auto, using(checks::proofs::Tests::tests), unfolding(crate::specs::Describes::counted))]
+    #[tactic(auto, unfolding(crate::specs::Describes::counted))]
     fn count(&mut self, section: u8)
         requires { (self.old.parties < 65536) × (self.old.terms < 65536) × (self.old.commands < 65536) }
         ensures { self.new ≡ counted section self.old }
@@ -63,14 +63,7 @@ fn check_record(
 {
     let kind = file[at];
     let own = records::section_of(kind);
-    checks::check_head(
-        own,
-        end,
-        file.len(),
-        section,
-        declared.parties,
-        declared.terms,
-    )?;
+    declared.check_head(own, end, file.len(), section)?;
     declared.check_fields(kind, &file[at + 1..end])
 }
 
@@ -99,7 +92,8 @@ fn enter(
     }
 }
 
-// A record before the commands, from a place to another: the first of 3 to 12 that applies; where none does the record is noted.
+// A record before the commands, from a place to another: the first of 3 to 12 that applies; where none does the record
+// is noted.
 fn take_record(
     file: &[u8],
     state: &mut [u8],

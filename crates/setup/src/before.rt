@@ -81,7 +81,8 @@ impl<'a> Before<'a> {
             || !state::in_other_table(self.state, party, key)
     }
 
-    // Whether a 22 may make a private key a party's signing key: no device's, one each, of a desk key's attributes, held.
+    // Whether a 22 may make a private key a party's signing key: no device's, one each, of a desk key's attributes,
+    // held.
     #[tactic(auto, unfolding(crate::specs::Allowed::may_sign_there, rules::specs::Attributes::same_attributes))]
     pub fn may_sign(&self, party: usize, key: usize) -> bool
         requires { (key < self.now.terms) × (party < self.now.parties) }

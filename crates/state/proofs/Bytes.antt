@@ -4,12 +4,11 @@
 -- Assumes nothing.
 use mathlib.Core.Bool.{Bool, true, false, cond, ◌&&◌, ◌||◌}
 use mathlib.Core.Path.{◌≡◌, refl, ap, ap₂, sym, ◌∙◌}
-use mathlib.Core.List.{List, ◌∷◌, ◌++◌}
-use Prim.Native.Nat.{ℕ, zero, suc, ◌+◌, ◌*◌, ◌/◌, ◌%◌, ◌^◌, ◌<◌}
+use mathlib.Core.List.{List}
+use Prim.Native.Nat.{ℕ, ◌+◌, ◌*◌, ◌/◌, ◌%◌, ◌^◌, ◌<◌}
 use native.Mathlib.Omega.{arith}
-use native.Mathlib.Numerals.{add-one}
-use lib.ListN.{length, get_or, set, drop, replicate, length-replicate, length-set}
-use lib.Seq.{get_or-set_same, get_or-set_other, drop-cons, set_at}
+use lib.ListN.{length, get_or, set, length-set}
+use lib.Seq.{get_or-set_same, get_or-set_other}
 use lib.Bits.{bit_or}
 use lib.Dec.{eqb}
 use borrow.Author.Tests.{eqb-true, eqb-false}
@@ -149,13 +148,3 @@ view_place s t x b r = λ i. record {
   request = λ u. pair_kept s (8 * t + 6) x (8 * u + 4) (omega arith) (omega arith) (omega arith) i;
   place = λ u. word_put_lem s 6 t x b r u i;
 }
-
--- one more zero byte
-zero_more : (i : ℕ) (l : List ℕ) → replicate i 0 ++ 0 ∷ l ≡ replicate (suc i) 0 ++ l
-zero_more zero l = refl
-zero_more (suc i) l = ap (λ (k : List ℕ). 0 ∷ k) (zero_more i l)
-
-pub cleared : (s : List ℕ) (i : ℕ) → i < length s → set (replicate i 0 ++ drop i s) i 0 ≡ replicate (i + 1) 0 ++ drop (i + 1) s
-cleared s i h =
-    rw (add-one, drop-cons s i 0 h)
-    (set_at (replicate i 0) (get_or s i 0) (drop (suc i) s) 0 i (length-replicate i 0) ∙ zero_more i (drop (suc i) s))

@@ -1,6 +1,5 @@
 -- The pairs of an accepted 43, issued one after the other.
 --     issuing-start     before the first
---     issuing-empty     past an empty pair
 --     pair-ready        what issuing a pair asks
 --     issuing-filled    after a pair
 --     issuing-ends      after the last
@@ -13,6 +12,8 @@ use Prim.Native.Nat.{ℕ, zero, suc, ◌+◌, ◌<◌, ◌≤◌}
 use native.Mathlib.Omega.{arith}
 use native.Mathlib.Decide.{ℕ_discrete}
 use lib.ListN.{length}
+use Rattle.std.proofs.lemmas.List.{length-append}
+use Rattle.rules.specs.Record.{word}
 use Rattle.rules.specs.declared.Entry.{Entry}
 use Rattle.rules.specs.Limits.{pair_count, pair_width}
 use Rattle.rules.specs.File.{IakPair, issue_iak}
@@ -36,94 +37,79 @@ use Rattle.loaded.proofs.Room.{ledger_below}
 use Rattle.requests.specs.Formed.{OpenRequested}
 use Rattle.issuance.specs.Issues.{IssuesIak}
 use Rattle.issuance.proofs.Issued.{iak_open}
-use Rattle.gained.specs.declared.Gained.{Gained}
-use Rattle.gained.specs.Took.{took, Whole, Adds}
-use Rattle.gained.proofs.Took.{took_none, took_length}
-use Rattle.together.specs.Ready.{desk_at, returning_at, pair_at, together_at, TogetherDone, Issuing}
-use Rattle.together.proofs.Pairs.{one_empty, one_filled}
+use Rattle.together.specs.Ready.{desk_at, returning_at, together_at, TogetherDone, Issuing}
 
 same_keys : (tables : Tables) → SameKeys (tables_in tables) (tables_in tables)
-same_keys tables = record { words = refl; signer = refl; half = refl; terms = refl }
+same_keys tables = record { signer = refl; half = refl; terms = refl }
 
 pairs_few : (n : ℕ) (bs : List ℕ) (i : ℕ) → length (pairs_at n bs i) ≤ n
 unfolding pairs_at
 pairs_few zero bs i = omega arith
 pairs_few (suc n) bs i = go (empty_pair bs i) (pairs_few n bs (i + pair_width))
   where
-    go : (b : Bool) → length (pairs_at n bs (i + pair_width)) ≤ n → length (cond b (pairs_at n bs (i + pair_width)) (pair_at bs i ∷ pairs_at n bs (i + pair_width))) ≤ suc n
+    go : (b : Bool) → length (pairs_at n bs (i + pair_width)) ≤ n → length (cond b (pairs_at n bs (i + pair_width)) (record { credential = word bs i; certificate = word bs (i + 2) } ∷ pairs_at n bs (i + pair_width))) ≤ suc n
     go true h = omega (arith, h)
     go false h = omega (arith, h)
 
-module _ {bs s : List ℕ} {tables : Tables} {n at : ℕ} (w : TogetherDone bs s tables n at) (g : Gained) (none : Whole g × (g.count ≡ 0)) where
-  as_old : w.ledger ++ took g ≡ w.ledger
-  as_old = ap (λ (l : List Entry). w.ledger ++ l) (took_none g none.1) ∙ append-nil w.ledger
-
-  as_many : n + g.count ≡ n
-  as_many = omega (arith, none.1)
-
-  pub issuing_start : Issuing bs s tables (desk_at bs at) (returning_at bs at) (effect_of (file_in bs) (state_of (view s) w.ledger) (together_at bs at)) (pairs_at pair_count bs (at + 3)) s tables n w.ledger g
+module _ {bs s : List ℕ} {tables : Tables} {n at : ℕ} (w : TogetherDone bs s tables n at) where
+  pub issuing_start : Issuing bs s tables (desk_at bs at) (returning_at bs at) (effect_of (file_in bs) (state_of (view s) w.ledger) (together_at bs at)) (pairs_at pair_count bs (at + 3)) s tables n w.ledger []
   unfolding effect_of
-  issuing_start = record {
-    holds = w.here.holds;
-    places = refl;
-    keys = same_keys tables;
-    finds = w.finds;
-    whole = none.0;
-    few = omega (arith, pairs_few pair_count bs (at + 3), none.1);
-    ledgered = subst⁻¹ (λ (m : ℕ). Ledgered bs s tables m (w.ledger ++ took g)) as_many (subst⁻¹ (Ledgered bs s tables n) as_old w.ledgered);
-    left = ap (λ (l : List Entry). issue_iaks_effect (file_in bs) (state_of (view s) l) (desk_at bs at) (returning_at bs at) (pairs_at pair_count bs (at + 3))) as_old;
-    accepted = subst⁻¹ (λ (l : List Entry). PairsAccepted (file_in bs) (state_of (view s) l) (desk_at bs at) (returning_at bs at) (pairs_at pair_count bs (at + 3))) as_old (pairs_accepted (file_in bs) (state_of (view s) w.ledger) (desk_at bs at) (returning_at bs at) (pairs_at pair_count bs (at + 3)) w.accepted);
-    desk = w.here.wellformed.0;
-    returning = w.here.wellformed.1;
-    formed = w.here.wellformed.2;
-    opened = w.here.opened;
-  }
+  issuing_start =
+      let e = append-nil w.ledger in
+      let m : n + 0 ≡ n = omega arith in record {
+        holds = w.here.holds;
+        places = refl;
+        keys = same_keys tables;
+        finds = w.finds;
+        few = omega (arith, pairs_few pair_count bs (at + 3));
+        ledgered = subst⁻¹ (λ (m : ℕ). Ledgered bs s tables m (w.ledger ++ [])) m (subst⁻¹ (Ledgered bs s tables n) e w.ledgered);
+        left = ap (λ (l : List Entry). issue_iaks_effect (file_in bs) (state_of (view s) l) (desk_at bs at) (returning_at bs at) (pairs_at pair_count bs (at + 3))) e;
+        accepted = subst⁻¹ (λ (l : List Entry). PairsAccepted (file_in bs) (state_of (view s) l) (desk_at bs at) (returning_at bs at) (pairs_at pair_count bs (at + 3))) e (pairs_accepted (file_in bs) (state_of (view s) w.ledger) (desk_at bs at) (returning_at bs at) (pairs_at pair_count bs (at + 3)) w.accepted);
+        desk = w.here.wellformed.0;
+        returning = w.here.wellformed.1;
+        formed = w.here.wellformed.2;
+        opened = w.here.opened;
+      }
 
-module _ {bs s₀ : List ℕ} {tables₀ : Tables} {s : List ℕ} {tables : Tables} {p q n : ℕ} {all : State} {old : List Entry} {g : Gained} where
-  pub issuing_as : {xs ys : List IakPair} → xs ≡ ys → Issuing bs s₀ tables₀ p q all xs s tables n old g → Issuing bs s₀ tables₀ p q all ys s tables n old g
-  issuing_as e w = subst (λ (zs : List IakPair). Issuing bs s₀ tables₀ p q all zs s tables n old g) e w
-
-  pub issuing_empty : (place : ℕ) (more : List IakPair) → empty_pair bs place ≡ true → Issuing bs s₀ tables₀ p q all (pairs_at 1 bs place ++ more) s tables n old g → Issuing bs s₀ tables₀ p q all more s tables n old g
-  issuing_empty place more e w = issuing_as (ap (λ (xs : List IakPair). xs ++ more) (one_empty bs place e)) w
-
-  pub issuing_some : (place : ℕ) (more : List IakPair) → empty_pair bs place ≡ false → Issuing bs s₀ tables₀ p q all (pairs_at 1 bs place ++ more) s tables n old g → Issuing bs s₀ tables₀ p q all (pair_at bs place ∷ more) s tables n old g
-  issuing_some place more e w = issuing_as (ap (λ (xs : List IakPair). xs ++ more) (one_filled bs place e)) w
+module _ {bs s₀ : List ℕ} {tables₀ : Tables} {s : List ℕ} {tables : Tables} {p q n : ℕ} {all : State} {old g : List Entry} where
+  pub issuing_as : {xs ys : List IakPair} {h : List Entry} → xs ≡ ys → g ≡ h → Issuing bs s₀ tables₀ p q all xs s tables n old g → Issuing bs s₀ tables₀ p q all ys s tables n old h
+  issuing_as {xs} {ys} e i w = subst (λ (l : List Entry). Issuing bs s₀ tables₀ p q all ys s tables n old l) i (subst (λ (zs : List IakPair). Issuing bs s₀ tables₀ p q all zs s tables n old g) e w)
 
   module _ {x : IakPair} {more : List IakPair} (w : Issuing bs s₀ tables₀ p q all (x ∷ more) s tables n old g) where
     abbrev Before : State
-    Before = state_of (view s) (old ++ took g)
+    Before = state_of (view s) (old ++ g)
 
-    room_left : n + g.count < 1024
+    room_left : n + length g < 1024
     room_left =
         let e = ledger_length x.certificate w.ledgered.enters in
         omega (arith, ledger_below (checked_here w.holds) w.ledgered.sound)
 
-    pub pair_room : n + g.count < 1024
+    pub pair_room : n + length g < 1024
     pair_room = room_left
 
-    pub pair_adds : Whole g × (g.count < pair_count)
-    pair_adds = (w.whole, omega (arith, w.few))
+    pub pair_adds : length g < pair_count
+    pair_adds = omega (arith, w.few)
 
-    pub pair_ready : IssuesIak bs s tables (n + g.count) p x.credential x.certificate
+    pub pair_ready : IssuesIak bs s tables (n + length g) p x.credential x.certificate
     pair_ready = record {
       other = q;
       wellformed = (w.desk, w.returning, w.formed.0, w.formed.1);
       requested = w.opened x.credential (iak_open (file_in bs) Before p q x.credential x.certificate w.accepted.0);
-      accepts = record { ledger = old ++ took g; enters = w.ledgered.enters; accepted = w.accepted.0; more = room_left };
+      accepts = record { ledger = old ++ g; enters = w.ledgered.enters; accepted = w.accepted.0; more = room_left };
       finds = w.finds;
     }
 
-    module _ {s' : List ℕ} {tables' : Tables} {e : Entry} {r : Gained} (v : DeskLeaves bs s tables (n + g.count) (issue_iak p q x.credential x.certificate) s' tables' (e ∷ [])) (adds : Adds g e r) (len : length s' ≡ length s) where
-      abbrev on : LeavesOn bs s tables (n + g.count) (issue_iak p q x.credential x.certificate) s' tables' (e ∷ []) (old ++ took g)
-      on = v.on (old ++ took g) (record { ledgered = w.ledgered; accepted = w.accepted.0 })
+    module _ {s' : List ℕ} {tables' : Tables} {e : Entry} {r : List Entry} (v : DeskLeaves bs s tables (n + length g) (issue_iak p q x.credential x.certificate) s' tables' (e ∷ [])) (adds : r ≡ g ++ (e ∷ [])) (len : length s' ≡ length s) where
+      abbrev on : LeavesOn bs s tables (n + length g) (issue_iak p q x.credential x.certificate) s' tables' (e ∷ []) (old ++ g)
+      on = v.on (old ++ g) (record { ledgered = w.ledgered; accepted = w.accepted.0 })
 
-      all_took : (old ++ took g) ++ (e ∷ []) ≡ old ++ took r
-      all_took = append_assoc old (took g) (e ∷ []) ∙ ap (λ (l : List Entry). old ++ l) (sym adds.entries)
+      all_took : (old ++ g) ++ (e ∷ []) ≡ old ++ r
+      all_took = append_assoc old (g) (e ∷ []) ∙ ap (λ (l : List Entry). old ++ l) (sym adds)
 
-      all_count : n + g.count + 1 ≡ n + r.count
-      all_count = omega (arith, adds.count)
+      all_count : n + length g + 1 ≡ n + length r
+      all_count = omega (arith, ap length adds, length-append g (e ∷ []))
 
-      columns : state_of (view s') (old ++ took r) ≡ issue_iak_effect (file_in bs) Before p q x.credential x.certificate
+      columns : state_of (view s') (old ++ r) ≡ issue_iak_effect (file_in bs) Before p q x.credential x.certificate
       unfolding effect_of
       columns = ap (state_of (view s')) (sym all_took) ∙ on.columns
 
@@ -141,12 +127,11 @@ module _ {bs s₀ : List ℕ} {tables₀ : Tables} {s : List ℕ} {tables : Tabl
       issuing_filled = record {
         holds = holds_kept w.holds len v.places;
         places = v.places ∙ w.places;
-        keys = record { words = v.keys.words ∙ w.keys.words; signer = v.keys.signer ∙ w.keys.signer; half = v.keys.half ∙ w.keys.half; terms = v.keys.terms ∙ w.keys.terms };
+        keys = record { signer = v.keys.signer ∙ w.keys.signer; half = v.keys.half ∙ w.keys.half; terms = v.keys.terms ∙ w.keys.terms };
         finds = finds_kept w.finds v.keys;
-        whole = adds.whole;
-        few = omega (arith, w.few, adds.count);
+        few = omega (arith, w.few, all_count);
         ledgered = record {
-          enters = subst (λ (m : ℕ). Enters tables' m (old ++ took r)) all_count (subst (Enters tables' (n + g.count + 1)) all_took on.enters);
+          enters = subst (λ (m : ℕ). Enters tables' m (old ++ r)) all_count (subst (Enters tables' (n + length g + 1)) all_took on.enters);
           boards = subst (Boarded (file_in bs) (tables_in tables').boards) all_took on.boards;
           sound = subst⁻¹ (Invariant (file_in bs)) columns sound;
         };
@@ -159,17 +144,14 @@ module _ {bs s₀ : List ℕ} {tables₀ : Tables} {s : List ℕ} {tables : Tabl
       }
 
 pub issuing_ends :
-    {bs s : List ℕ} {tables : Tables} {s' : List ℕ} {tables' : Tables} {n at : ℕ} {g : Gained} (w₀ : TogetherDone bs s tables n at)
+    {bs s : List ℕ} {tables : Tables} {s' : List ℕ} {tables' : Tables} {n at : ℕ} {g : List Entry} (w₀ : TogetherDone bs s tables n at)
     → ((w : TogetherDone bs s tables n at) → Issuing bs s tables (desk_at bs at) (returning_at bs at) (effect_of (file_in bs) (state_of (view s) w.ledger) (together_at bs at)) [] s' tables' n w.ledger g)
-    → Whole g × DeskLeaves bs s tables n (together_at bs at) s' tables' (took g)
+    → DeskLeaves bs s tables n (together_at bs at) s' tables' g
 unfolding issue_iaks_effect
-issuing_ends {tables' = tables'} {n = n} {g = g} w₀ all = (
-  (all w₀).whole,
-  record {
-    on = λ old o.
-        let v = all (record { here = w₀.here; finds = w₀.finds; ledger = old; ledgered = o.ledgered; accepted = o.accepted }) in
-        record { columns = v.left; enters = subst⁻¹ (λ (m : ℕ). Enters tables' (n + m) (old ++ took g)) (took_length g v.whole) v.ledgered.enters; boards = v.ledgered.boards };
-    places = (all w₀).places;
-    keys = (all w₀).keys;
-  },
-)
+issuing_ends {tables' = tables'} {n = n} {g = g} w₀ all = record {
+  on = λ old o.
+      let v = all (record { here = w₀.here; finds = w₀.finds; ledger = old; ledgered = o.ledgered; accepted = o.accepted }) in
+      record { columns = v.left; enters = v.ledgered.enters; boards = v.ledgered.boards };
+  places = (all w₀).places;
+  keys = (all w₀).keys;
+}

@@ -6,7 +6,7 @@
 -- Assumes nothing.
 use Rattle.tables.specs.declared.columns.Tables.{Tables}
 use mathlib.Core.Path.{◌≡◌, refl, sym, ap, subst, subst⁻¹, ◌∙◌}
-use mathlib.Core.Bool.{Bool, true, false, cond}
+use mathlib.Core.Bool.{Bool, true, false, false≢true, cond}
 use mathlib.Core.List.{List, [], ◌∷◌, ◌++◌, append-nil}
 use Prim.Native.Nat.{ℕ, suc, ◌+◌, ◌-◌, ◌<◌, ◌≤◌}
 use native.Mathlib.Nat.{add_assoc, add-zero}
@@ -17,6 +17,8 @@ use borrow.Author.Tests.{ltb-true}
 use lib.ListN.{length, set, take, drop, length-append}
 use lib.Seq.{take_at, drop_at, length-sets}
 use Rattle.rules.specs.declared.Entry.{Entry}
+use Rattle.rules.specs.declared.Refusal.{Refusal}
+use Rattle.rules.specs.Codes.{number_of, number_in}
 use Rattle.rules.specs.Limits.{file_limit, term_limit, pair_count, command_limit, state_bytes, register_bytes}
 use Rattle.rules.specs.File.{File, Command}
 use Rattle.rules.specs.State.{State}
@@ -27,10 +29,9 @@ use Rattle.reader.specs.Place.{next_place}
 use Rattle.lookup.specs.There.{command_there}
 use Rattle.lookup.specs.Commands.{commands_left, CommandAt, Commands}
 use Rattle.lookup.proofs.Left.{command_here, commands_next, command_long, left_next, left_inside}
-use Rattle.loaded.specs.Loaded.{file_in}
-use Rattle.gained.specs.declared.Gained.{Gained}
-use Rattle.gained.specs.Took.{took, Whole}
-use Rattle.gained.proofs.Took.{took_none, took_length}
+use Rattle.loaded.specs.Loaded.{file_in, Reads}
+use Rattle.loaded.proofs.Standing.{reads_here}
+use Rattle.std.specs.Prelude.{Result as Outcome, Ok, Err, is_ok}
 use Rattle.commands.specs.Standing.{Memory, memory, state_in, desk_kind, Stands, SomeStands, Does, Decided, DeskAccepted, DeskDoes}
 use Rattle.turns.specs.declared.Progress.{Progress}
 use Rattle.turns.specs.declared.Turned.{Turned}
@@ -114,6 +115,18 @@ left_less false h = h
 pub step_less : (bytes : ℕ) (p : Progress) (y count next : ℕ) {q : Progress} → (p.left ≡ 0 → ⊥) → q ≡ stepped bytes p y count next → q.left < p.left
 step_less bytes p y count next some e = subst⁻¹ (λ (q : Progress). q.left < p.left) e (left_less (ltb next bytes) (omega (arith, some)))
 
+-- ---- an outcome
+pub accepted_number : (x : Outcome Unit Refusal) → is_ok x ≡ true → number_in x ≡ 0
+accepted_number (Ok u) e = refl
+accepted_number (Err r) e = absurd (false≢true e)
+
+refused_some : (r : Refusal) → number_of r ≡ 0 → ⊥
+refused_some r e = grind arith
+
+pub number_accepted : (x : Outcome Unit Refusal) → number_in x ≡ 0 → is_ok x ≡ true
+number_accepted (Ok u) e = refl
+number_accepted (Err r) e = absurd (refused_some r e)
+
 -- ---- the turn's own loop: the ledger stays as it is until a desk command is accepted
 pub record Onward (bs : List ℕ) (s : Memory) (tables : Tables) (out : List ℕ) (from : Progress) (s' : Memory) (tables' : Tables) (out' : List ℕ) (p : Progress) : Type 0 where
   pub underway : Underway bs p
@@ -127,21 +140,23 @@ pub record Onward (bs : List ℕ) (s : Memory) (tables : Tables) (out : List ℕ
 pub onward_start : {bs : List ℕ} {s : Memory} {tables : Tables} {out : List ℕ} {p : Progress} → Underway bs p → InBytes s → Onward bs s tables out p s tables out p
 onward_start {bs} w b = record { underway = w; fewer = omega arith; long = refl; registers = refl; bytes = b; stands = λ ledger st. st; leads = λ ledger st. leads_refl bs _ }
 
-module _ {bs : List ℕ} {s : Memory} {tables : Tables} {out : List ℕ} {parties : ℕ} {from : Progress} (ready : TurnReady bs s tables out parties from) {s' : Memory} {tables' : Tables} {out' : List ℕ} {p : Progress} (w : Onward bs s tables out from s' tables' out' p) where
-  pub onward_ends : p.left ≡ 0 → {g : Gained} → Whole g → g.count ≡ 0 → Turns bs s tables out from s' tables' out' (record { gained = g; progress = p })
-  onward_ends z {g} whole none =
-      let same : (ledger : List Entry) → ledger ++ took g ≡ ledger = λ ledger. ap (λ (l : List Entry). ledger ++ l) (took_none g none) ∙ append-nil ledger in
+module _ {bs : List ℕ} {s : Memory} {tables : Tables} {out : List ℕ} {from : Progress} (ready : TurnReady bs s tables out from) {s' : Memory} {tables' : Tables} {out' : List ℕ} {p : Progress} (w : Onward bs s tables out from s' tables' out' p) where
+  pub onward_ends : p.left ≡ 0 → {r : Turned} → r.gained.items ≡ [] → r.progress ≡ p → Turns bs s tables out from s' tables' out' r
+  onward_ends z {r} none e =
+      let same : (ledger : List Entry) → ledger ++ r.gained.items ≡ ledger = λ ledger. ap (λ (l : List Entry). ledger ++ l) none ∙ append-nil ledger in
       record {
-        whole = whole;
         bytes = w.bytes;
-        underway = w.underway;
-        less = λ h. omega (arith, h, z);
-        stands = λ ledger st. subst⁻¹ (Stands bs s' tables' p.issued) (same ledger) (w.stands ledger st);
-        leads = λ ledger st. subst⁻¹ (λ (l : List Entry). Leads bs (moment s out ledger from) (moment s' out' l p)) (same ledger) (w.leads ledger st);
+        underway = subst⁻¹ (Underway bs) e w.underway;
+        less = λ h. omega (arith, h, ap (λ (q : Progress). q.left) e, z);
+        stands = λ ledger st. subst⁻¹ (λ (q : Progress). Stands bs s' tables' q.issued (ledger ++ r.gained.items)) e (subst⁻¹ (Stands bs s' tables' p.issued) (same ledger) (w.stands ledger st));
+        leads = λ ledger st. subst⁻¹ (λ (q : Progress). Leads bs (moment s out ledger from) (moment s' out' (ledger ++ r.gained.items) q)) e (subst⁻¹ (λ (l : List Entry). Leads bs (moment s out ledger from) (moment s' out' l p)) (same ledger) (w.leads ledger st));
       }
 
   pub onward_stands : SomeStands bs s' tables' p.issued
   onward_stands = (ready.stands.0, w.stands ready.stands.0 ready.stands.1)
+
+  pub onward_reads : Reads bs tables'
+  onward_reads = reads_here onward_stands.1.holds onward_stands.1.finds
 
   pub onward_length : length out' ≡ length out
   onward_length = leads_room (w.leads ready.stands.0 ready.stands.1)
@@ -159,27 +174,28 @@ module _ {bs : List ℕ} {s : Memory} {tables : Tables} {out : List ℕ} {partie
     pub step_ready : {count : ℕ} → count ≤ pair_count → StepReady p count
     step_ready h = record { more = more; small = underway_small w.underway more ready.short; counted = w.underway.counted; few = onward_stands.1.enters.few; gained = h }
 
-    module _ {s'' : Memory} {y : ℕ} (d : Decided bs s' tables' p.at s'' y) where
+    module _ {s'' : Memory} {x : Outcome Unit Refusal} (d : Decided bs s' tables' p.at s'' x) {y : ℕ} (byte : y ≡ number_in x) where
       -- a device command, or a refused one
-      pub onward_next : (y ≡ 0 → desk_kind (kind_there bs p.at) ≡ false) → length s''.state ≡ length s'.state → length s''.registers ≡ length s'.registers → InBytes s'' → {q : Progress} {next : ℕ} → next ≡ next_place bs p.at → q ≡ stepped (length bs) p y 0 next
+      pub onward_next : (number_in x ≡ 0 → desk_kind (kind_there bs p.at) ≡ false) → length s''.state ≡ length s'.state → length s''.registers ≡ length s'.registers → InBytes s'' → {q : Progress} {next : ℕ} → next ≡ next_place bs p.at → q ≡ stepped (length bs) p (number_in x) 0 next
           → Onward bs s tables out from s'' tables' (set out' p.done y) q
       onward_next h long registers bytes {q} {next} n e =
-          subst⁻¹ (Onward bs s tables out from s'' tables' (set out' p.done y)) (e ∙ ap (stepped (length bs) p y 0) n)
+          subst⁻¹ (λ (u : ℕ). Onward bs s tables out from s'' tables' (set out' p.done u) q) byte
+          (subst⁻¹ (Onward bs s tables out from s'' tables' (set out' p.done (number_in x))) (e ∙ ap (stepped (length bs) p (number_in x) 0) n)
           (record {
-            underway = underway_next w.underway more y 0;
+            underway = underway_next w.underway more (number_in x) 0;
             fewer = omega (arith, w.fewer, left_less (ltb (next_place bs p.at) (length bs)) more);
             long = long ∙ w.long;
             registers = registers ∙ w.registers;
             bytes = bytes;
             stands = λ ledger st. let z : p.issued + 0 ≡ p.issued = omega arith in subst⁻¹ (λ (m : ℕ). Stands bs s'' tables' m ledger) z (does ledger st).stands;
             leads = λ ledger st. leads_trans (w.leads ledger st) (leads_next 0 more (w.underway.inside more) (does ledger st));
-          })
+          }))
         where
-          does : (ledger : List Entry) → Stands bs s tables from.issued ledger → Does bs s' p.at ledger s'' tables' y p.issued ledger
+          does : (ledger : List Entry) → Stands bs s tables from.issued ledger → Does bs s' p.at ledger s'' tables' (number_in x) p.issued ledger
           does ledger st = d.done h p.issued ledger (w.stands ledger st)
 
       -- an accepted desk command
-      module _ (z : y ≡ 0) (k : desk_kind (kind_there bs p.at) ≡ true) where
+      module _ (z : number_in x ≡ 0) (k : desk_kind (kind_there bs p.at) ≡ true) where
         pub onward_accepted : DeskAccepted bs s'' tables' p.issued p.at
         onward_accepted = subst⁻¹ (λ (u : Memory). DeskAccepted bs u tables' p.issued p.at) (d.same k) (record {
           stands = onward_stands;
@@ -188,24 +204,26 @@ module _ {bs : List ℕ} {s : Memory} {tables : Tables} {out : List ℕ} {partie
           accepted = λ ledger st. sym z ∙ d.decided p.issued ledger st;
         })
 
-        pub onward_last : {v tables'' : List ℕ} {g : Gained} → DeskDoes bs s'' tables' p.issued p.at v tables'' g → InBytes (memory v s''.registers) → {q : Progress} {next : ℕ} → next ≡ next_place bs p.at → q ≡ stepped (length bs) p y g.count next
-            → Turns bs s tables out from (memory v s''.registers) tables'' (set out' p.done y) (record { gained = g; progress = q })
-        onward_last {v} {tables''} {g} desk bytes {q} {next} n e =
-            subst⁻¹ (λ (q : Progress). Turns bs s tables out from (memory v s''.registers) tables'' (set out' p.done y) (record { gained = g; progress = q })) (e ∙ ap (stepped (length bs) p y g.count) n)
+        pub onward_last : {v : List ℕ} {tables'' : Tables} {r : Turned} → DeskDoes bs s'' tables' p.issued p.at v tables'' r.gained.items → InBytes (memory v s''.registers) → {next : ℕ} → next ≡ next_place bs p.at
+            → r.progress ≡ stepped (length bs) p (number_in x) (length r.gained.items) next
+            → Turns bs s tables out from (memory v s''.registers) tables'' (set out' p.done y) r
+        onward_last {v} {tables''} {r} desk bytes {next} n e =
+            let g = r.gained.items in
+            let q = e ∙ ap (stepped (length bs) p (number_in x) (length g)) n in
+            subst⁻¹ (λ (u : ℕ). Turns bs s tables out from (memory v s''.registers) tables'' (set out' p.done u) r) byte
             (record {
-              whole = desk.whole;
               bytes = bytes;
-              underway = underway_next w.underway more y g.count;
-              less = λ h. omega (arith, w.fewer, left_less (ltb (next_place bs p.at) (length bs)) more);
-              stands = λ ledger st. (does ledger st).stands;
-              leads = λ ledger st. leads_trans (w.leads ledger st) (leads_next g.count more (w.underway.inside more) (does ledger st));
+              underway = subst⁻¹ (Underway bs) q (underway_next w.underway more (number_in x) (length g));
+              less = λ h. omega (arith, w.fewer, ap (λ (q : Progress). q.left) q, left_less (ltb (next_place bs p.at) (length bs)) more);
+              stands = λ ledger st. subst⁻¹ (λ (q : Progress). Stands bs (memory v s''.registers) tables'' q.issued (ledger ++ g)) q (does ledger st).stands;
+              leads = λ ledger st. subst⁻¹ (λ (q : Progress). Leads bs (moment s out ledger from) (moment (memory v s''.registers) (set out' p.done (number_in x)) (ledger ++ g) q)) q (leads_trans (w.leads ledger st) (leads_next (length g) more (w.underway.inside more) (does ledger st)));
             })
           where
-            does : (ledger : List Entry) → Stands bs s tables from.issued ledger → Does bs s' p.at ledger (memory v s''.registers) tables'' y (p.issued + g.count) (ledger ++ took g)
+            does : (ledger : List Entry) → Stands bs s tables from.issued ledger → Does bs s' p.at ledger (memory v s''.registers) tables'' (number_in x) (p.issued + length r.gained.items) (ledger ++ r.gained.items)
             does ledger st =
                 let e = d.same k in
-                subst⁻¹ (λ (u : ℕ). Does bs s' p.at ledger (memory v s''.registers) tables'' u (p.issued + g.count) (ledger ++ took g)) z
-                (subst (λ (u : Memory). Does bs u p.at ledger (memory v s''.registers) tables'' 0 (p.issued + g.count) (ledger ++ took g)) e
+                subst⁻¹ (λ (u : ℕ). Does bs s' p.at ledger (memory v s''.registers) tables'' u (p.issued + length r.gained.items) (ledger ++ r.gained.items)) z
+                (subst (λ (u : Memory). Does bs u p.at ledger (memory v s''.registers) tables'' 0 (p.issued + length r.gained.items) (ledger ++ r.gained.items)) e
                 (desk.does ledger (subst⁻¹ (λ (u : Memory). Stands bs u tables' p.issued ledger) e (w.stands ledger st))))
 
 -- ---- the ledger's first places
@@ -230,9 +248,9 @@ pub record Going (bs : List ℕ) (s₀ : Memory) (out₀ : List ℕ) (first n : 
   pub underway : Underway bs v.progress
   pub leads : Leads bs (moment s₀ out₀ [] (starts bs first n)) (moment v.memory v.outcomes entries v.progress)
 
-pub going_start : (bs : List ℕ) (s : Memory) (tables : Tables) (out : List ℕ) (parties first n : ℕ) (l : List Entry) → RunReady bs s tables out parties first
+pub going_start : (bs : List ℕ) (s : Memory) (tables : Tables) (out : List ℕ) (first n : ℕ) (l : List Entry) → RunReady bs s tables out first
     → Going bs s out first n l (record { memory = s; tables = tables; outcomes = out; ledger = l; progress = starts bs first n })
-going_start bs s tables out parties first n l w = record {
+going_start bs s tables out first n l w = record {
   entries = [];
   placed = refl;
   stands = w.stands;
@@ -269,29 +287,28 @@ module _ {bs : List ℕ} {s₀ : Memory} {out₀ : List ℕ} {first n : ℕ} {ol
   pub going_whole : term_limit ≤ length old → length v.ledger ≡ length old
   going_whole room = ap length w.placed ∙ length_onto w.entries old (omega (arith, w.stands.enters.few, w.stands.enters.count, room))
 
-  pub going_ready : length bs ≤ file_limit → (parties : ℕ) → parties ≡ length (file_in bs).roles → command_limit ≤ length out₀ → TurnReady bs v.memory v.tables v.outcomes parties v.progress
-  going_ready short parties are places = record {
+  pub going_ready : length bs ≤ file_limit → command_limit ≤ length out₀ → TurnReady bs v.memory v.tables v.outcomes v.progress
+  going_ready short places = record {
     stands = (w.entries, w.stands);
     underway = w.underway;
     short = short;
     places = omega (arith, leads_room w.leads, places);
-    parties_are = are;
   }
 
   module _ {s : Memory} {tables : Tables} {out : List ℕ} {r : Turned} (told : Turns bs v.memory v.tables v.outcomes v.progress s tables out r) where
-    after_stands : Stands bs s tables r.progress.issued (w.entries ++ took r.gained)
+    after_stands : Stands bs s tables r.progress.issued (w.entries ++ r.gained.items)
     after_stands = told.stands w.entries w.stands
 
     -- the entries gained have their places
-    pub going_few : v.progress.issued + r.gained.count ≤ term_limit
-    going_few = omega (arith, after_stands.enters.few, after_stands.enters.count, w.stands.enters.count, length-append w.entries (took r.gained), took_length r.gained told.whole)
+    pub going_few : v.progress.issued + length r.gained.items ≤ term_limit
+    going_few = omega (arith, after_stands.enters.few, after_stands.enters.count, w.stands.enters.count, length-append w.entries r.gained.items)
 
-    pub going_fits : term_limit ≤ length old → (v.progress.issued + r.gained.count ≤ length v.ledger) × (r.gained.count ≤ pair_count)
-    going_fits room = (omega (arith, going_few, going_whole room, room), told.whole.few)
+    pub going_fits : term_limit ≤ length old → v.progress.issued + length r.gained.items ≤ length v.ledger
+    going_fits room = omega (arith, going_few, going_whole room, room)
 
-    pub going_next : (z : List Entry) → z ≡ onto (w.entries ++ took r.gained) old → Going bs s₀ out₀ first n old (record { memory = s; tables = tables; outcomes = out; ledger = z; progress = r.progress })
+    pub going_next : (z : List Entry) → z ≡ onto (w.entries ++ r.gained.items) old → Going bs s₀ out₀ first n old (record { memory = s; tables = tables; outcomes = out; ledger = z; progress = r.progress })
     going_next z put = record {
-      entries = w.entries ++ took r.gained;
+      entries = w.entries ++ r.gained.items;
       placed = put;
       stands = after_stands;
       bytes = told.bytes;

@@ -12,7 +12,6 @@ use Rattle.state.specs.View.{view}
 use Rattle.state.proofs.Exact.{Bytes}
 use Rattle.lookup.specs.Commands.{commands_left, Commands}
 use Rattle.loaded.specs.Loaded.{file_in}
-use Rattle.gained.specs.Took.{took, Whole}
 use Rattle.commands.specs.Standing.{Memory, state_in, Stands, SomeStands}
 use Rattle.turns.specs.declared.Progress.{Progress}
 use Rattle.turns.specs.declared.Turned.{Turned}
@@ -77,30 +76,27 @@ pub record InBytes (m : Memory) : Type 0 where
   pub registers : Bytes m.registers
 
 -- before a turn: room for an outcome of each command
-pub record TurnReady (bs : List ℕ) (m : Memory) (tables : Tables) (out : List ℕ) (parties : ℕ) (p : Progress) : Type 0 where
+pub record TurnReady (bs : List ℕ) (m : Memory) (tables : Tables) (out : List ℕ) (p : Progress) : Type 0 where
   pub stands : SomeStands bs m tables p.issued
   pub underway : Underway bs p
   pub short : length bs ≤ file_limit
   pub places : command_limit ≤ length out
-  pub parties_are : parties ≡ length (file_in bs).roles
 
 -- what a turn leaves, whatever the ledger, which gains some entries: a later moment, and fewer commands are left
 pub record Turns (bs : List ℕ) (m : Memory) (tables : Tables) (out : List ℕ) (p : Progress) (m' : Memory) (tables' : Tables) (out' : List ℕ) (r : Turned) : Type 0 where
-  pub whole : Whole r.gained
   pub bytes : InBytes m'
   pub underway : Underway bs r.progress
   pub less : 0 < p.left → r.progress.left < p.left
-  pub stands : (ledger : List Entry) → Stands bs m tables p.issued ledger → Stands bs m' tables' r.progress.issued (ledger ++ took r.gained)
+  pub stands : (ledger : List Entry) → Stands bs m tables p.issued ledger → Stands bs m' tables' r.progress.issued (ledger ++ r.gained.items)
   pub leads : (ledger : List Entry) → Stands bs m tables p.issued ledger
-      → Leads bs (record { memory = m; outcomes = out; ledger = ledger; progress = p }) (record { memory = m'; outcomes = out'; ledger = ledger ++ took r.gained; progress = r.progress })
+      → Leads bs (record { memory = m; outcomes = out; ledger = ledger; progress = p }) (record { memory = m'; outcomes = out'; ledger = ledger ++ r.gained.items; progress = r.progress })
 
 -- before the loop: no entry yet, room for an outcome of each command, and commands alone from the first one's place on
-pub record RunReady (bs : List ℕ) (m : Memory) (tables : Tables) (out : List ℕ) (parties first : ℕ) : Type 0 where
+pub record RunReady (bs : List ℕ) (m : Memory) (tables : Tables) (out : List ℕ) (first : ℕ) : Type 0 where
   pub stands : Stands bs m tables 0 []
   pub bytes : InBytes m
   pub short : length bs ≤ file_limit
   pub places : command_limit ≤ length out
-  pub parties_are : parties ≡ length (file_in bs).roles
   pub commands : Commands (Wellformed (file_in bs)) bs first
 
 -- at most n commands from a place on

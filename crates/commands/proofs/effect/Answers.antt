@@ -6,4 +6,4 @@ effect-requires c = let w = c.requires.1 in desk_ready w.stands.1 w.here w.is_de
 
 pub returns : goal.returns
 returns c registers w =
-    record { whole = c.effect.ensures.0; does = λ ledger st. desk_does st w.here w.is_desk (w.accepted ledger st) c.effect.ensures.0 c.effect.ensures.1 c.effect.auto.state }
+    record { does = λ ledger st. desk_does st w.here w.is_desk (w.accepted ledger st) c.effect.ensures c.effect.auto.state }

@@ -1,10 +1,10 @@
-use mathlib.Core.Path.{subst⁻¹, ◌∙◌}
+use mathlib.Core.Path.{subst⁻¹}
 use native.Mathlib.Omega.{arith}
 use Rattle.rules.specs.Limits.{term_limit}
 use Rattle.tables.specs.Columns.{Boards}
 use Rattle.boards.specs.Linked.{Falls}
 use Rattle.loaded.proofs.Boards.{falls_ek, entered_falls}
-use Rattle.loaded.proofs.Standing.{checked_here, kind_declared, term_here}
+use Rattle.loaded.proofs.Standing.{kind_declared, term_here}
 use Rattle.issuance.proofs.Endorsement.{endorsement_kind, endorsement_few, ek_few}
 use Rattle.issuance.proofs.Issued.{certificate_few, iak_issued_lem}
 use Rattle.issuance.proofs.effect_issue_iak.Goals as goal

@@ -1,4 +1,5 @@
--- `learn_term` at t calls `learn_parts` at t, and that calls `learn_term` at lower terms, so the measures are 2t + 1 and 2t.
+-- `learn_term` at t calls `learn_parts` at t, and that calls `learn_term` at lower terms, so the measures are 2t + 1
+-- and 2t.
 use Rattle.std.proofs.Common.{◌+◌, ◌*◌}
 use Rattle.learning.proofs.+learn_parts_learn_term.Given as goal
 

@@ -1,16 +1,17 @@
--- `loader::load` meets its contract: what filling leaves is what loading gives, and the buffer beyond its first part is as it was. Assumes nothing.
-use mathlib.Core.Path.{◌≡◌, refl, sym, ap, subst⁻¹, ◌∙◌}
-use mathlib.Core.List.{List, ◌++◌}
-use Prim.Native.Nat.{ℕ, ◌<◌, ◌≤◌}
+-- `loader::load` meets its contract: what filling leaves is what loading gives, and the buffer beyond its first part is
+-- as it was. Assumes nothing.
+use mathlib.Core.Path.{◌≡◌, sym, ap, ◌∙◌}
+use mathlib.Core.List.{List}
+use Prim.Native.Nat.{ℕ, ◌≤◌}
 use native.Mathlib.Omega.{arith}
-use lib.ListN.{length, get_or, drop}
+use lib.ListN.{length, drop}
 use lib.Seq.{length-take-le}
 use Rattle.std.proofs.Common.{Result, Ok, Err}
 use Rattle.std.specs.Result.{IsErrAnd}
 use Rattle.rules.specs.declared.Counts.{Counts}
 use Rattle.rules.specs.declared.Refused.{Refused}
-use Rattle.rules.specs.Limits.{file_limit, state_bytes}
-use Rattle.rules.specs.Lent.{load_in_numbers, load_answer, load_leaves}
+use Rattle.rules.specs.Limits.{state_bytes}
+use Rattle.rules.specs.Lent.{load_in_numbers, load_answer}
 use Rattle.rules.specs.Load.{load, refused}
 use Rattle.rules.specs.Codes.{number_of}
 use Rattle.state.proofs.Exact.{front}
@@ -34,29 +35,29 @@ returns-then-file-gt-FILE_LIMIT c =
     let a = c.args in
     record { answer = long_answer a.file.now a.state.now c.if-state-lt-STATE_BYTES.false c.if-file-gt-FILE_LIMIT.true; left = sym (long_leaves a.file.now a.state.now c.if-file-gt-FILE_LIMIT.true) }
 
-pub returns-in_err-found : goal.returns-in_err-found
-returns-in_err-found c =
-    let a = c.args in
+pub returns-in_err-found-clause-answer : goal.returns-in_err-found-clause-answer
+returns-in_err-found-clause-answer c =
+    refused-answer c.args.file.now c.args.state.now _ _ c.from_residual.ensures.1 c.in_err-found.ensures.refused.0 c.if-state-lt-STATE_BYTES.false
+
+pub returns-in_err-found-clause-left : goal.returns-in_err-found-clause-left
+returns-in_err-found-clause-left c =
     let w = c.in_err-found.ensures.refused in
-    let room = c.if-state-lt-STATE_BYTES.false in
-    record {
-      answer = refused-answer a.file.now a.state.now _ _ c.from_residual.ensures.1 w.0 room;
-      left = rw w.1 (refused_leaves a.file.now a.state.now _ _ w.0 room c.if-file-gt-FILE_LIMIT.false)
-    }
+    rw w.1 (refused_leaves c.args.file.now c.args.state.now _ _ w.0 c.if-state-lt-STATE_BYTES.false c.if-file-gt-FILE_LIMIT.false)
 
 pub overflow_cast-result-3 : goal.overflow_cast-result-3
 overflow_cast-result-3 c =
     let w = c.in_ok-found.ensures.filled in
     record { fits = omega (arith, w.describes.commands_are, few_commands c.args.file.now w.file w.loads, c.if-file-gt-FILE_LIMIT.false) }
 
-pub returns : goal.returns
-returns c =
+pub returns-clause-answer : goal.returns-clause-answer
+returns-clause-answer c =
+    let w = c.in_ok-found.ensures.filled in
+    final_answer c.args.file.now w.file _ _ _ w.loads w.describes c.args.state.now c.if-state-lt-STATE_BYTES.false
+
+pub returns-clause-left : goal.returns-clause-left
+returns-clause-left c =
     let a = c.args in
     let w = c.in_ok-found.ensures.filled in
-    let room = c.if-state-lt-STATE_BYTES.false in
-    record {
-      answer = final_answer a.file.now w.file _ _ _ w.loads w.describes a.state.now room;
-      left =
-          final_leaves a.file.now w.file _ _ _ w.loads w.describes (c.fill.auto.state ∙ length-take-le state_bytes a.state.now room)
-          (front c.fill.new.state (drop state_bytes a.state.now) (λ i. (c.type_inv.state i).fits)) a.state.now room c.if-file-gt-FILE_LIMIT.false
-    }
+    let long = c.if-state-lt-STATE_BYTES.false in
+    final_leaves a.file.now w.file _ _ _ w.loads w.describes (c.fill.auto.state ∙ length-take-le state_bytes a.state.now long)
+    (front c.fill.new.state (drop state_bytes a.state.now) (λ i. (c.type_inv.state i).fits)) a.state.now long c.if-file-gt-FILE_LIMIT.false

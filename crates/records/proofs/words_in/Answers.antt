@@ -1,17 +1,13 @@
-use native.Mathlib.Omega.{arith}
-use mir.Facts.{Fits-widen}
+use Rattle.std.proofs.Common.{sym}
 use Rattle.rules.specs.Term.{fields_in}
 use Rattle.rules.specs.Load.{term_at}
-use Rattle.rules.specs.Record.{section_of, fields_of, body_length, width, widths}
+use Rattle.records.proofs.Terms.{subject_fields_lem, subject_number}
 use Rattle.records.proofs.words_in.Goals as goal
 
-pub bounds-body-0 : goal.bounds-body-0
-unfolding body_length widths width fields_of section_of
-bounds-body-0 c = omega (arith, rw c.if-kind-eq27.true at c.requires.1)
-
-pub overflow_cast-body : goal.overflow_cast-body
-overflow_cast-body c = Fits-widen tt (c.type_inv.body _)
-
-pub returns-then-kind-eq27 : goal.returns-then-kind-eq27
+pub returns-in-23 : goal.returns-in-23
 unfolding term_at fields_in
-returns-then-kind-eq27 c = rw c.if-kind-eq27.true (cc)
+returns-in-23 c = rw (c.in-23.is, subject_fields_lem) (cc (subject_number c.args.body.now 0))
+
+pub returns-in-25 : goal.returns-in-25
+unfolding term_at fields_in
+returns-in-25 c = rw (c.in-25.is, subject_fields_lem) (cc (subject_number c.args.body.now 2))

@@ -11,7 +11,7 @@ use Rattle.rules.specs.Record.{body_length, fields_of}
 use Rattle.rules.specs.Load.{first}
 use Rattle.tables.specs.Columns.{Terms}
 use Rattle.checks.specs.There.{head_fault}
-use Rattle.checks.specs.Plain.{fields_fault_noted}
+use Rattle.checks.specs.Fields.{fields_fault_noted}
 use Rattle.theorems.proofs.Pieces.{body_at, body_length_lem}
 use Rattle.reader.specs.Place.{next_place}
 use Rattle.reader.proofs.Places.{next_later, next_record}

@@ -1,4 +1,5 @@
--- `scan::enter` meets its contract: each branch is that of `last_fault`, `columns_after` and `signers_after`. Assumes nothing.
+-- `scan::enter` meets its contract: each branch is that of `last_fault`, `columns_after` and `signers_after`. Assumes
+-- nothing.
 use borrow.Author.Tests.{ne_eqb, leb-true}
 use mathlib.Core.Path.{◌≡◌, refl, sym, ap, subst⁻¹, ◌∙◌}
 use mathlib.Core.Bool.{Bool, true, false, cond, not}
@@ -13,7 +14,7 @@ use Rattle.rules.specs.State.{put}
 use Rattle.records.proofs.EachKind.{each_kind}
 use Rattle.state.specs.View.{Columns, view, with_place}
 use Rattle.tables.specs.declared.columns.Tables.{Tables}
-use Rattle.tables.specs.Columns.{Terms, Boards, TableColumns, Unlinked, tables_in, with_signer}
+use Rattle.tables.specs.Columns.{Terms, TableColumns, Unlinked, tables_in, with_signer}
 use Rattle.learning.specs.Noted.{Noted}
 use Rattle.checks.specs.There.{any_alike_there}
 use Rattle.index.specs.Indexed.{Indexed, Halves}

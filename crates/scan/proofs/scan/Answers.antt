@@ -1,5 +1,7 @@
--- `scan::scan` meets its contract. The first loop's invariant: the file declared by the records before `at` is described, its terms are
--- indexed, feeding it the pieces from `at` on is loading the file, and the first command is the first from `at` on. The second's is the same
+-- `scan::scan` meets its contract. The first loop's invariant: the file declared by the records before `at` is
+-- described, its terms are
+-- indexed, feeding it the pieces from `at` on is loading the file, and the first command is the first from `at` on. The
+-- second's is the same
 -- but for the first command, and that commands alone follow.
 -- Assumes nothing.
 use mathlib.Core.Path.{◌≡◌, refl, sym, ap, ◌∙◌}
@@ -10,7 +12,6 @@ use native.Mathlib.Omega.{arith}
 use lib.ListN.{length, get_or}
 use Rattle.std.proofs.Common.{Result, Ok, Err, IfOk}
 use Rattle.std.specs.Result.{is_ok}
-use Rattle.rules.specs.declared.Refusal.{Refusal}
 use Rattle.rules.specs.Record.{section_of, command_section}
 use Rattle.setup.proofs.Terms.{looked_up}
 use Rattle.reader.specs.Place.{next_place}

@@ -1,8 +1,8 @@
 -- `scan::take_record` meets its contract. Assumes nothing.
-use mathlib.Core.Path.{◌≡◌, refl, sym, ap, subst⁻¹, ◌∙◌}
-use mathlib.Core.Bool.{Bool, cond}
+use mathlib.Core.Path.{◌≡◌, refl, sym, ap, ◌∙◌}
+use mathlib.Core.Bool.{cond}
 use mathlib.Core.List.{List}
-use Prim.Native.Nat.{ℕ, ◌<◌, ◌≤◌}
+use Prim.Native.Nat.{ℕ, ◌<◌}
 use native.Mathlib.Omega.{arith}
 use lib.Dec.{eqb}
 use lib.ListN.{length, get_or}
@@ -11,7 +11,7 @@ use Rattle.rules.specs.declared.Refusal.{Refusal}
 use Rattle.rules.specs.Codes.{number_of, number_in}
 use Rattle.rules.specs.Record.{section_of}
 use Rattle.rules.specs.Load.{term_at, load, refused}
-use Rattle.state.specs.View.{Columns, view}
+use Rattle.state.specs.View.{view}
 use Rattle.tables.specs.declared.columns.Tables.{Tables}
 use Rattle.tables.specs.Columns.{tables_in}
 use Rattle.learning.specs.There.{term_there}

@@ -10,4 +10,4 @@ unfolding in_other
 returns c =
     let a = c.args in
     let b : ℕ = get_or a.state.now (8 * a.t + 1) 0 in
-    rw c.power-w.ensures (other_bits b a.party a.t (omega (arith, c.type_inv.state (8 * a.t + 1))) (omega arith))
+    rw c.power-own.ensures (other_bits b a.party a.t (omega (arith, c.type_inv.state (8 * a.t + 1))) (omega arith))

@@ -1,37 +1,28 @@
-use mathlib.Core.Path.{sym, ap, ◌∙◌}
-use Prim.Native.Nat.{ℕ, ◌+◌}
-use native.Mathlib.Omega.{arith}
-use Rattle.rules.specs.Load.{pairs_at}
-use Rattle.together.proofs.Pairs.{pairs_head, pairs_none}
-use Rattle.together.proofs.Issuing.{issuing_as, issuing_start, issuing_ends}
+use mathlib.Core.Path.{refl, sym, ap, ◌∙◌}
+use Rattle.std.proofs.Common.{arith}
+use Rattle.together.specs.Pairs.{pairs_of}
+use Rattle.together.specs.Ready.{returning_at}
+use Rattle.together.proofs.Pairs.{pairs_from, pairs_past}
+use Rattle.together.proofs.Issuing.{issuing_start, issuing_as, pair_ready, pair_adds, issuing_filled, issuing_ends}
 use Rattle.together.proofs.effect.Goals as goal
 
-pub bounds-file-at : goal.bounds-file-at
-bounds-file-at c = omega (arith, c.requires.here.whole)
+pub loop-pair-init : goal.loop-pair-init
+loop-pair-init c w = issuing_as (sym (ap pairs_of c.as_slice-pairs.ensures.value ∙ c.pairs_at-read.ensures)) (sym c.new-gained.ensures) (issuing_start w)
 
-pub overflow_cast-party : goal.overflow_cast-party
-overflow_cast-party c = omega (arith, c.type_inv.file (c.args.at + 1))
+pub effect_issue_iak-e-requires : goal.effect_issue_iak-e-requires
+effect_issue_iak-e-requires c =
+    let v = issuing_as (pairs_from _ _ (record { credential = 0; certificate = 0 }) c.loop-pair-test.true) refl (c.loop-pair.invariant c.requires) in
+    rw c.len.ensures.value (v.holds, pair_ready v)
 
-pub loop-left-init : goal.loop-left-init
-loop-left-init c = (c.requires.here.whole, λ w. issuing_start w _ c.none-gained.ensures)
+pub push-requires : goal.push-requires
+push-requires c =
+    let v = issuing_as (pairs_from _ _ (record { credential = 0; certificate = 0 }) c.loop-pair-test.true) refl (c.loop-pair.invariant c.requires) in
+    (omega arith, pair_adds v)
 
-pub issue_next-gained-requires : goal.issue_next-gained-requires
-issue_next-gained-requires c =
-    let w = c.requires in
-    let l = c.loop-left in
-    let n = c.loop-left-test.true in (
-      omega (arith, l.invariant.0),
-      record { start = _; start_tables = _; returning = _; all = _; more = _; old = _; issuing = issuing_as (pairs_head _ _ _ (omega arith)) (l.invariant.1 w) },
-    )
-
-pub loop-left-preserved : goal.loop-left-preserved
-loop-left-preserved c =
-    let l = c.loop-left in
-    let n = c.loop-left-test.true in
-    (omega (arith, l.invariant.0), λ w. c.issue_next-gained.ensures _ _ _ _ _ _ (issuing_as (pairs_head _ _ _ (omega arith)) (l.invariant.1 w)))
-
-pub shape_of-state : goal.shape_of-state
-shape_of-state c = let w = c.requires in (c.loop-left.invariant.1 w).holds.room ∙ sym w.here.holds.room
+pub loop-pair-preserved : goal.loop-pair-preserved
+loop-pair-preserved c w =
+    let v = issuing_as (pairs_from _ _ (record { credential = 0; certificate = 0 }) c.loop-pair-test.true) refl (c.loop-pair.invariant w) in
+    issuing_filled v (rw c.len.ensures.value at (c.effect_issue_iak-e.ensures (returning_at c.args.file.now c.args.at))) c.push.ensures.items c.effect_issue_iak-e.auto.state
 
 pub returns : goal.returns
-returns c = issuing_ends c.requires (λ w. issuing_as (ap (λ (m : ℕ). pairs_at m c.args.file.now c.loop-left.place) c.loop-left-test.false ∙ pairs_none _ _) (c.loop-left.invariant.1 w))
+returns c = issuing_ends c.requires (λ w. issuing_as (pairs_past _ _ c.loop-pair-test.false) refl (c.loop-pair.invariant w))
