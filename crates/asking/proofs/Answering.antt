@@ -2,7 +2,7 @@
 --     askable     what a run leaves can be asked
 --     ask_ran     the whole promise
 -- Assumes nothing.
-use Rattle.std.proofs.Common.{◌≡◌, refl, sym, ap, ◌∙◌, cond, List, [], ◌∷◌, ℕ, zero, suc, ◌+◌, length, IfOk, Result, Ok, Err}
+use Rattle.std.proofs.Common.{rules, ◌≡◌, refl, sym, ap, subst, ◌∙◌, cond, List, [], ◌∷◌, ℕ, zero, suc, ◌+◌, length, IfOk, Result, Ok, Err}
 use Rattle.tables.specs.declared.columns.Tables.{Tables}
 use Rattle.rules.specs.declared.Entry.{Entry}
 use Rattle.rules.specs.declared.Question.{Question}
@@ -25,8 +25,9 @@ use Rattle.engine.specs.Raw.{ran_in, Ran, Stood}
 use Rattle.asking.specs.Asks.{Askable, Answers}
 
 -- what a run leaves can be asked
-pub askable : {bs : List ℕ} {n : ℕ} {lent after : Lent} {tables : Tables} {r : Finished} → Stood bs n lent after tables r → Askable bs after.state r
-askable w = record { room = w.room; holds = w.stands.holds; parties_are = w.parties_are; terms_are = w.terms_are; few = w.few; issued = w.stands.enters.few }
+pub askable : {bs : List ℕ} {n : ℕ} {lent after : Lent} (tables : Tables) (r : Result Finished Refused) → Ran bs n lent after r → IfOk r (Stood bs n lent after tables) → IfOk r (Askable bs after.state)
+askable tables (Ok r) run w = record { room = w.room; holds = w.stands.holds; parties_are = w.parties_are; terms_are = w.terms_are; few = w.few; issued = w.stands.enters.few }
+askable tables (Err r) run w = search rules
 
 -- the stock is the same beside any registers
 module _ (f : File) (registers : ℕ → ℕ → ℕ) (x : State) where
@@ -65,6 +66,10 @@ module _ (bs : List ℕ) (question : Question) (lent after : Lent) (tables : Tab
   answered_by (Ok r) q left h = ran_by bs lent question r x q left h
   answered_by (Err r) q left h = h [] ∙ refused_by bs lent question (number_of r.refusal) r.place q
 
-  pub ask_ran : (r : Result Finished Refused) → Ran bs (count_of question) lent after r → IfOk r (Stood bs (count_of question) lent after tables) → Answers r question bs after.state x
+  asked_of : (r : Result Finished Refused) → Ran bs (count_of question) lent after r → IfOk r (Stood bs (count_of question) lent after tables) → Answers r question bs after.state x
       → Called (answer_of question bs) (leaves_of question bs) lent after (ask_in_numbers x)
-  ask_ran r run left h = (answered_by r run.answer left h, run.buffers ∙ sym (left_as_run_lem question bs lent))
+  asked_of r run left h = (answered_by r run.answer left h, run.buffers ∙ sym (left_as_run_lem question bs lent))
+
+  pub ask_ran : (n : ℕ) → n ≡ count_of question → (r : Result Finished Refused) → Ran bs n lent after r → IfOk r (Stood bs n lent after tables) → Answers r question bs after.state x
+      → Called (answer_of question bs) (leaves_of question bs) lent after (ask_in_numbers x)
+  ask_ran n e r run left h = asked_of r (subst (λ (m : ℕ). Ran bs m lent after r) e run) (subst (λ (m : ℕ). IfOk r (Stood bs m lent after tables)) e left) h

@@ -13,7 +13,7 @@ use mathlib.Core.List.{List, [], ◌∷◌, ◌++◌}
 use Prim.Native.Nat.{ℕ, zero, suc, ◌-◌, ◌<◌, ◌≤◌}
 use native.Mathlib.Omega.{arith}
 use lib.Dec.{leb}
-use lib.ListN.{length, take, drop, replicate}
+use lib.ListN.{length, drop, replicate}
 use lib.Seq.{take_at, drop_at}
 use borrow.Author.Tests.{le-leb, lt-leb, leb-true}
 use Rattle.rules.specs.declared.Entry.{Entry}
@@ -24,7 +24,7 @@ use Rattle.rules.specs.Limits.{file_limit, term_limit, command_limit, state_byte
 use Rattle.rules.specs.File.{File}
 use Rattle.rules.specs.Load.{load, refused}
 use Rattle.rules.specs.State.{start_registers}
-use Rattle.rules.specs.Lent.{no_entry, refusal, first_part, long_enough, answered, leaves, written, run_answer, run_leaves}
+use Rattle.rules.specs.Lent.{first_part, long_enough, answered, leaves, written, run_answer, run_leaves}
 use Rattle.theorems.proofs.Booleans.{and_true}
 use Rattle.state.proofs.Exact.{Bytes}
 use Rattle.ledger.specs.Placed.{cleared}

@@ -2,7 +2,7 @@
 --     entries_declared, entries_inside, few_steps     what a run leaves is what Path needs
 --     path_short, path_refused, path_none, path_some     what Path answers and leaves is what the rules say
 -- Assumes nothing.
-use Rattle.std.proofs.Common.{◌≡◌, refl, sym, ap, ◌∙◌, Bool, true, false, cond, ◌&&◌, ◌||◌, List, [], ◌∷◌, ◌++◌, ℕ, zero, suc, ◌+◌, ◌-◌, ◌<◌, ◌≤◌, arith, leb, length, get_or, drop, Result, Ok, Err}
+use Rattle.std.proofs.Common.{◌≡◌, refl, sym, ap, ◌∙◌, Bool, true, false, cond, ◌&&◌, ◌||◌, List, [], ◌∷◌, ◌++◌, ℕ, zero, suc, ◌+◌, ◌-◌, ◌<◌, ◌≤◌, arith, leb, length, length-take-le, get_or, take, drop, Result, Ok, Err}
 use mathlib.Core.Bool.{false≢true}
 use native.Mathlib.Decide.{dec_lt}
 use borrow.Author.Tests.{eq-eqb, ne_eqb, le-leb, lt-leb}
@@ -73,8 +73,9 @@ module _ (bs : List ℕ) (n : ℕ) (lent : Lent) (t : ℕ) (list : List ℕ) whe
     unfolding path_leaves
     no_list = sym (ap (λ (b : Bool). cond b (path_listed n t list (load bs)) list) (second_fails (long_enough lent) (leb path_places (length list)) (lt-leb path_places (length list) short)))
 
-    pub path_short : (x : Result ℕ Refused) → path_in_numbers x ≡ refusal 1 0 → PathRan bs n lent t list lent list x
-    path_short x q = ((q ∙ no_answer, no_buffers), no_list)
+    pub path_short : (A : Type 0) (e : Refused) → in_numbers {A = A} (λ _. []) (Err e) ≡ refusal 1 0 → (x : Result ℕ Refused) → x ≡ Err e → PathRan bs n lent t list lent list x
+    unfolding in_numbers
+    path_short A e q x is = ((ap path_in_numbers is ∙ q ∙ no_answer, no_buffers), no_list)
 
   -- a list that is long enough
   module _ (long : path_places ≤ length list) where
@@ -171,9 +172,9 @@ module _ {bs : List ℕ} {n : ℕ} {lent after : Lent} {tables : Tables} {r : Fi
     few_steps q = let k = some_steps q in omega (arith, k.1, shallow k.0)
 
     -- the whole
-    module _ (list : List ℕ) (long : path_places ≤ length list) (run : Ran bs n lent after (Ok r)) (x : Result ℕ Refused) where
-      pub path_none : (e : Refused) → path_in_numbers (Err e) ≡ steps_in tables t → x ≡ Err e → PathRan bs n lent t list after list x
-      path_none e q is =
+    module _ (list : List ℕ) (long : path_places ≤ length list) (run : Ran bs n lent after (Ok r)) where
+      pub path_none : (e : Refused) → path_in_numbers (Err e) ≡ steps_in tables t → (x : Result ℕ Refused) → x ≡ Err e → PathRan bs n lent t list after list x
+      path_none e q x is =
           let k = no_steps e q in
           let p = ran_path bs n lent t list long w.enough w.stands.holds.loads in (
             (
@@ -183,18 +184,18 @@ module _ {bs : List ℕ} {n : ℕ} {lent after : Lent} {tables : Tables} {r : Fi
             sym (p.1 ∙ ap (λ (b : Bool). cond b (steps ledger (depth_of ledger t) t ++ drop (depth_of ledger t + 1) list) list) k.0),
           )
 
-      pub path_some : (d : ℕ) → path_in_numbers (Ok d) ≡ steps_in tables t → x ≡ Ok d → {list' : List ℕ} → list' ≡ climbed tables after.ledger (suc d) t ++ drop (suc d) list → PathRan bs n lent t list after list' x
+      pub path_some : (d : ℕ) → path_in_numbers (Ok d) ≡ steps_in tables t → (ys : List ℕ) → ys ≡ climbed tables after.ledger (length (take (d + 1) list)) t → PathRan bs n lent t list after (ys ++ drop (d + 1) list) (Ok d)
       unfolding in_numbers
-      path_some d q is {list'} written =
+      path_some d q ys written =
           let k = some_steps q in
+          let few = few_steps q in
           let p = ran_path bs n lent t list long w.enough w.stands.holds.loads in
-          let s : suc d ≡ d + 1 = omega arith in (
+          let s : length (take (d + 1) list) ≡ suc d = omega (arith, length-take-le (d + 1) list (omega (arith, few, long))) in (
             (
-              ap path_in_numbers is ∙ ap (λ (m : ℕ). success (m ∷ [])) k.1 ∙ sym (p.0 ∙ ap (λ (b : Bool). cond b (success (depth_of ledger t ∷ [])) (refusal 30 t)) k.0),
+              ap (λ (m : ℕ). success (m ∷ [])) k.1 ∙ sym (p.0 ∙ ap (λ (b : Bool). cond b (success (depth_of ledger t ∷ [])) (refusal 30 t)) k.0),
               run.buffers ∙ buffers bs n lent t list long,
             ),
-            written ∙ ap (λ (xs : List ℕ). xs ++ drop (suc d) list) (climbed_steps lent.ledger w.stands.enters w.ledger d t)
-                ∙ ap (λ (m : ℕ). steps ledger d t ++ drop m list) s
+            ap (λ (xs : List ℕ). xs ++ drop (d + 1) list) (written ∙ ap (λ (m : ℕ). climbed tables after.ledger m t) s ∙ climbed_steps lent.ledger w.stands.enters w.ledger d t)
                 ∙ ap (λ (m : ℕ). steps ledger m t ++ drop (m + 1) list) k.1
                 ∙ sym (p.1 ∙ ap (λ (b : Bool). cond b (steps ledger (depth_of ledger t) t ++ drop (depth_of ledger t + 1) list) list) k.0),
           )

@@ -5,7 +5,7 @@
 --     keeps_ends       after the loop
 -- Assumes nothing.
 use Rattle.tables.specs.declared.columns.Tables.{Tables}
-use mathlib.Core.Path.{◌≡◌, refl, ap, subst⁻¹, ◌∙◌}
+use mathlib.Core.Path.{◌≡◌, refl, subst⁻¹, ◌∙◌}
 use mathlib.Core.List.{List}
 use Prim.Native.Nat.{ℕ, ◌+◌, ◌<◌, ◌≤◌}
 use native.Mathlib.Omega.{arith}

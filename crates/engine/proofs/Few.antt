@@ -6,7 +6,7 @@
 use mathlib.Core.Path.{◌≡◌, refl, sym, ap, ◌∙◌}
 use mathlib.Core.Bool.{Bool, true, false, cond}
 use mathlib.Core.List.{List}
-use Prim.Native.Nat.{ℕ, zero, suc, ◌+◌, ◌<◌, ◌≤◌}
+use Prim.Native.Nat.{ℕ, zero, suc, ◌+◌, ◌≤◌}
 use native.Mathlib.Omega.{arith}
 use lib.Dec.{eqb, ltb, leb}
 use lib.ListN.{length, length-reverse}
@@ -15,7 +15,7 @@ use borrow.Author.Tests.{ltb-true, leb-true, leb-false}
 use Rattle.rules.specs.Limits.{file_limit, command_limit}
 use Rattle.rules.specs.Record.{section_of, command_section}
 use Rattle.rules.specs.File.{File, Command}
-use Rattle.rules.specs.Load.{Load, load, loaded, refused, commands_of}
+use Rattle.rules.specs.Load.{Load, load, loaded, commands_of}
 use Rattle.rules.specs.Run.{first_commands, outcomes_of, accepted, refusals}
 use Rattle.rules.specs.Lent.{answered}
 use Rattle.theorems.proofs.Loading.{Wellformed}

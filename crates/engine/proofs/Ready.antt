@@ -9,7 +9,6 @@ use Prim.Native.Nat.{ℕ, ◌≤◌}
 use native.Mathlib.Omega.{arith}
 use lib.ListN.{length, take}
 use lib.Seq.{length-take-le}
-use Rattle.rules.specs.declared.Entry.{Entry}
 use Rattle.rules.specs.Limits.{file_limit, term_limit, command_limit, state_bytes, register_bytes}
 use Rattle.rules.specs.Lent.{Lent}
 use Rattle.rules.specs.State.{start_registers, start, depth_of}

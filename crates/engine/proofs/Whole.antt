@@ -15,7 +15,7 @@ use borrow.Author.Tests.{le-leb}
 use Rattle.std.specs.Prelude.{Ok, Err}
 use Rattle.rules.specs.declared.Entry.{Entry}
 use Rattle.rules.specs.declared.Refused.{Refused}
-use Rattle.rules.specs.Limits.{file_limit, party_limit, term_limit, state_bytes}
+use Rattle.rules.specs.Limits.{file_limit, party_limit, term_limit}
 use Rattle.rules.specs.File.{File}
 use Rattle.rules.specs.Load.{load, loaded}
 use Rattle.rules.specs.Run.{reached, outcomes_of, accepted, refusals, issued}
@@ -29,7 +29,6 @@ use Rattle.turns.specs.Turns.{Executes}
 use Rattle.beginning.specs.Begins.{Begins, Refuses}
 use Rattle.beginning.proofs.Begins.{Room, enough_room, fill_counts}
 use Rattle.command_loop.specs.Recorded.{within, Recorded}
-use Rattle.engine.specs.declared.Finished.{Finished}
 use Rattle.engine.specs.Raw.{Ran, Stood}
 use Rattle.engine.proofs.Few.{few_counted}
 use Rattle.engine.proofs.Ended.{run_is, entries_are, LoadedLeft, loaded_left}

@@ -1,7 +1,6 @@
 -- What a run answers and leaves by the rules, and what calls above it start from.
 use Rattle.std.specs.Prelude.{◌≡◌, true, List, [], ◌∷◌, ℕ, ◌+◌, ◌≤◌, length, Result}
 use Rattle.tables.specs.declared.columns.Tables.{Tables}
-use Rattle.rules.specs.declared.Entry.{Entry}
 use Rattle.rules.specs.declared.Refused.{Refused}
 use Rattle.rules.specs.Limits.{term_limit, command_limit, state_bytes}
 use Rattle.rules.specs.Run.{reached, accepted, refusals, issued}

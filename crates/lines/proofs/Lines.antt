@@ -3,6 +3,7 @@
 --     listed_fault     so is a refusal of the run
 -- Assumes nothing.
 use Rattle.std.proofs.Common.{◌≡◌, refl, sym, ap, subst, ◌∙◌, true, List, [], ◌∷◌, ◌++◌, ℕ, ◌+◌, ◌*◌, ◌≤◌, arith, length, take, Result, Ok, Err}
+use Rattle.std.proofs.Math.ListN.{replicate, length-replicate}
 use lib.Seq.{take_at}
 use borrow.Author.Tests.{le-leb}
 use Rattle.tables.specs.declared.columns.Tables.{Tables}
@@ -23,6 +24,7 @@ use Rattle.decimal.proofs.Writing.{written_then, written_length}
 use Rattle.lister.specs.Text.{refusal_bytes, entry_bytes, total_bytes, fault_bytes, listing_bytes, Listed}
 use Rattle.lister.proofs.Room.{listed}
 use Rattle.engine.proofs.Few.{loaded_short, all_commands_lem}
+use Rattle.engine.specs.Runs.{lent_with}
 use Rattle.engine.specs.declared.Finished.{Finished}
 use Rattle.engine.specs.Raw.{ran_in, Ran, Stood}
 
@@ -69,14 +71,20 @@ enough : (lent : Lent) → state_bytes ≤ length lent.state → term_limit ≤ 
 unfolding long_enough
 enough lent s l o g = rw (le-leb state_bytes (length lent.state) s, le-leb term_limit (length lent.ledger) l, le-leb command_limit (length lent.outcomes) o, le-leb register_bytes (length lent.registers) g) refl
 
-module _ (bs : List ℕ) (lent : Lent) {after : Lent} where
+-- of buffers of zeros
+pub enough_zeros : (e : Entry) → long_enough (lent_with (replicate state_bytes 0) (replicate term_limit e) (replicate command_limit 0) (replicate register_bytes 0)) ≡ true
+enough_zeros e =
+    enough (lent_with (replicate state_bytes 0) (replicate term_limit e) (replicate command_limit 0) (replicate register_bytes 0)) (omega (arith, length-replicate {A = ℕ} state_bytes 0)) (omega (arith, length-replicate term_limit e))
+    (omega (arith, length-replicate {A = ℕ} command_limit 0)) (omega (arith, length-replicate {A = ℕ} register_bytes 0))
+
+module _ (bs : List ℕ) (lent : Lent) where
   abbrev n : ℕ
   n = length bs
 
   -- the lines of a run
-  text_is : {tables : Tables} (r : Finished) → Ran bs n lent after (Ok r) → Stood bs n lent after tables r
+  text_is : {after : Lent} {tables : Tables} (r : Finished) → Ran bs n lent after (Ok r) → Stood bs n lent after tables r
       → refusal_lines 0 (take (r.progress.accepted + r.progress.refused) after.outcomes) ++ (entry_lines (take r.progress.issued after.ledger) ++ line 0x54 (r.progress.accepted ∷ r.progress.refused ∷ r.progress.issued ∷ [])) ≡ listing bs
-  text_is r run st =
+  text_is {after} r run st =
       let file = file_in bs in
       let a = r.progress.accepted in
       let b = r.progress.refused in
@@ -92,19 +100,19 @@ module _ (bs : List ℕ) (lent : Lent) {after : Lent} where
       ∙ lines_of file n (all_commands_lem bs file loads)
       ∙ listing_by bs (loaded file) loads
 
-  pub listed_run : {tables : Tables} (r : Finished) → Ran bs n lent after (Ok r) → Stood bs n lent after tables r → {t₀ t₁ t₂ t₃ : List ℕ} {at next end : ℕ} → listing_bytes ≤ length t₀
+  pub listed_run : {after : Lent} {tables : Tables} (r : Finished) → Ran bs n lent after (Ok r) → Stood bs n lent after tables r → {t₀ t₁ t₂ t₃ : List ℕ} {at next end : ℕ} → listing_bytes ≤ length t₀
       → Written t₀ 0 (refusal_lines 0 (take (r.progress.accepted + r.progress.refused) after.outcomes)) t₁ at → at ≤ 0 + refusal_bytes * (r.progress.accepted + r.progress.refused)
       → Written t₁ at (entry_lines (take r.progress.issued after.ledger)) t₂ next × (next ≤ at + entry_bytes * r.progress.issued)
       → Written t₂ next (line 0x54 (r.progress.accepted ∷ r.progress.refused ∷ r.progress.issued ∷ [])) t₃ end → end ≤ next + total_bytes
       → Listed (listing bs) t₀ t₃ end
-  listed_run r run st {t₀} {t₁} {t₂} {t₃} {at} {next} {end} room head short mid last few =
+  listed_run {after} r run st {t₀} {t₁} {t₂} {t₃} {at} {next} {end} room head short mid last few =
       listed (subst (λ (t : List ℕ). Written t₀ 0 t t₃ end) (text_is r run st) (written_then head (written_then mid.0 last)))
       (omega (arith, short, mid.1, few, st.few, st.stands.enters.few)) room
 
-  pub listed_fault : (r : Refused) → Ran bs n lent after (Err r) → long_enough lent ≡ true → {t t' : List ℕ} {end : ℕ} → listing_bytes ≤ length t
+  pub listed_fault : {after : Lent} (r : Refused) → Ran bs n lent after (Err r) → long_enough lent ≡ true → {t t' : List ℕ} {end : ℕ} → listing_bytes ≤ length t
       → Written t 0 (line 0x46 (number_of r.refusal ∷ r.place ∷ [])) t' end → end ≤ 0 + fault_bytes → Listed (listing bs) t t' end
   unfolding in_numbers
-  listed_fault r run long {t} {t'} {end} room only few =
+  listed_fault {after} r run long {t} {t'} {end} room only few =
       let number = number_of r.refusal in
       let e : load bs ≡ refused number r.place = answered_refusal n (load bs) number r.place (run.answer ∙ run_by bs n lent long) in
       listed (subst (λ (xs : List ℕ). Written t 0 xs t' end) (lines_refused number r.place ∙ listing_by bs (refused number r.place) e) only) (omega (arith, few)) room

@@ -13,8 +13,7 @@ use Rattle.rules.specs.Limits.{file_limit}
 use Rattle.rules.specs.Record.{section_of, body_length, party_section, term_section, setup_section, Piece, whole, fault, cut, pieces}
 use Rattle.rules.specs.File.{File}
 use Rattle.rules.specs.Load.{term_at, setup_at, command_at, record_fault, with_party, with_term, with_setup, with_command, enter, Load, loaded, refused, settle, step, feed, empty_file, load}
-use Rattle.records.specs.Codes.{body_limit}
-use Rattle.records.proofs.Lengths.{body_small}
+use Rattle.records.proofs.Lengths.{body_limit, body_small}
 
 -- the bytes of a record at most
 abbrev pub record_limit : ℕ

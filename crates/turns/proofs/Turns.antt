@@ -1,8 +1,9 @@
 -- The loop over commands: what it has done at a moment, as work left.
---     leads-refl, leads-trans, leads-next, leads-room                 from a moment to another; by a command
---     underway-start, underway-here, underway-next                    how far the run is
---     Onward, onward-start, onward-next, onward-last, onward-ends     the turn's own loop
---     Going, going_start, going-ready, going-fits, going_next, going-ends     the loop over turns, on the lent places
+--     leads_refl, leads_trans, leads_next, leads_room                 from a moment to another; by a command
+--     underway_start, underway_here, underway_next                    how far the run is
+--     accepted_number, number_accepted                                an outcome in numbers
+--     Onward, onward_start, onward_next, onward_last, onward_ends     the turn's own loop
+--     Going, going_start, going_ready, going_fits, going_next, going_ends     the loop over turns, on the lent places
 -- Assumes nothing.
 use Rattle.tables.specs.declared.columns.Tables.{Tables}
 use mathlib.Core.Path.{◌≡◌, refl, sym, ap, subst, subst⁻¹, ◌∙◌}

@@ -1,4 +1,4 @@
-use Rattle.std.proofs.Common.{arith, ap, sym, ◌∙◌, ℕ, replicate}
+use Rattle.std.proofs.Common.{arith, ap, ◌∙◌, ℕ, replicate}
 use Rattle.std.proofs.Math.Seq.{length-take-le}
 use Rattle.std.proofs.lemmas.Result.{err_from_is_err_and}
 use Rattle.rules.specs.Limits.{command_limit, state_bytes, register_bytes}

@@ -1,6 +1,41 @@
-use Rattle.std.proofs.Common.{arith}
+use Rattle.std.proofs.Common.{◌≡◌, ◌+◌, ℕ, arith, sym, Err, Result, length-take-le}
+use Rattle.std.proofs.lemmas.Grind.{common_steps}
+use Rattle.rules.specs.declared.Refused.{Refused}
 use Rattle.calls.proofs.Paths.{entries_declared, entries_inside, few_steps, path_short, path_refused, path_none, path_some}
 use Rattle.calls.proofs.path.Goals as goal
 
-pub steps_of-steps-requires : goal.steps_of-steps-requires
-steps_of-steps-requires c = ?
+pub returns-in_err-check_room : goal.returns-in_err-check_room
+returns-in_err-check_room c =
+    let e = c.in_err-check_room in
+    let is : c.from_residual.result ≡ Err e.field-0.0 = grind (arith, common_steps) in
+    path_short _ _ _ _ _ e.ensures.short _ e.field-0.0 e.ensures.number c.from_residual.result is
+
+pub returns-in_err-run : goal.returns-in_err-run
+returns-in_err-run c =
+    let e = c.in_err-run in
+    let is : c.from_residual-in_err-run.result ≡ Err e.field-0.0 = grind (arith, common_steps) in
+    path_refused _ _ _ _ _ c.in_ok-check_room.ensures.room e.field-0.0 e.ensures.rules c.from_residual-in_err-run.result is
+
+pub steps_of-requires : goal.steps_of-requires
+steps_of-requires c = entries_declared c.in_ok-run.ensures.stands
+
+pub returns-in_err-steps : goal.returns-in_err-steps
+returns-in_err-steps c =
+    let e = c.in_err-steps in
+    let r = c.in_ok-run.ensures in
+    let is : c.from_residual-in_err-steps.result ≡ Err e.field-0.0 = grind (arith, common_steps) in
+    path_none r.stands _ _ c.in_ok-check_room.ensures.room r.rules e.field-0.0 e.ensures c.from_residual-in_err-steps.result is
+
+pub slice_bounds-climb-end : goal.slice_bounds-climb-end
+slice_bounds-climb-end c = let few = few_steps c.in_ok-run.ensures.stands _ c.in_ok-steps.ensures in omega (arith, few, c.in_ok-check_room.ensures.room)
+
+pub slice_bounds-climb-end-2 : goal.slice_bounds-climb-end-2
+slice_bounds-climb-end-2 c =
+    let few = few_steps c.in_ok-run.ensures.stands _ c.in_ok-steps.ensures in
+    sym (length-take-le (c.in_ok-steps.steps + 1) c.args.list.now (omega (arith, few, c.in_ok-check_room.ensures.room)))
+
+pub climb-requires : goal.climb-requires
+climb-requires c = (entries_declared c.in_ok-run.ensures.stands, entries_inside c.in_ok-run.ensures.stands c.run.auto.ledger)
+
+pub returns : goal.returns
+returns c = let r = c.in_ok-run.ensures in path_some r.stands _ _ c.in_ok-check_room.ensures.room r.rules _ c.in_ok-steps.ensures c.climb.new.list c.climb.ensures
