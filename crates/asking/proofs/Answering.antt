@@ -2,9 +2,8 @@
 --     askable     what a run leaves can be asked
 --     ask_ran     the whole promise
 -- Assumes nothing.
-use Rattle.std.proofs.Common.{rules, ◌≡◌, refl, sym, ap, subst, ◌∙◌, cond, List, [], ◌∷◌, ℕ, zero, suc, ◌+◌, length, IfOk, Result, Ok, Err}
+use Rattle.std.proofs.Common.{rules, ◌≡◌, refl, sym, ap, subst, ◌∙◌, cond, List, [], ℕ, zero, suc, ◌+◌, length, IfOk, Result, Ok, Err}
 use Rattle.tables.specs.declared.columns.Tables.{Tables}
-use Rattle.rules.specs.declared.Entry.{Entry}
 use Rattle.rules.specs.declared.Question.{Question}
 use Rattle.rules.specs.declared.Question.TheVariants.{Totals, Stock}
 use Rattle.rules.specs.declared.Told.{Told}

@@ -2,7 +2,7 @@
 --     entries_declared, entries_inside, few_steps     what a run leaves is what Path needs
 --     path_short, path_refused, path_none, path_some     what Path answers and leaves is what the rules say
 -- Assumes nothing.
-use Rattle.std.proofs.Common.{◌≡◌, refl, sym, ap, ◌∙◌, Bool, true, false, cond, ◌&&◌, ◌||◌, List, [], ◌∷◌, ◌++◌, ℕ, zero, suc, ◌+◌, ◌-◌, ◌<◌, ◌≤◌, arith, leb, length, length-take-le, get_or, take, drop, Result, Ok, Err}
+use Rattle.std.proofs.Common.{◌≡◌, refl, sym, ap, ◌∙◌, Bool, true, false, cond, ◌&&◌, List, [], ◌∷◌, ◌++◌, ℕ, suc, ◌+◌, ◌<◌, ◌≤◌, arith, leb, length, length-take-le, get_or, take, drop, Result, Ok, Err}
 use mathlib.Core.Bool.{false≢true}
 use native.Mathlib.Decide.{dec_lt}
 use borrow.Author.Tests.{eq-eqb, ne_eqb, le-leb, lt-leb}
@@ -10,10 +10,10 @@ use Rattle.tables.specs.declared.columns.Tables.{Tables}
 use Rattle.rules.specs.declared.Entry.{Entry}
 use Rattle.rules.specs.declared.Refused.{Refused}
 use Rattle.rules.specs.Codes.{number_of}
-use Rattle.rules.specs.Limits.{term_limit, depth_limit, path_places}
+use Rattle.rules.specs.Limits.{depth_limit, path_places}
 use Rattle.rules.specs.Load.{Load, loaded, refused, load}
 use Rattle.rules.specs.File.{File}
-use Rattle.rules.specs.State.{State, listed, depth_of, parent_of}
+use Rattle.rules.specs.State.{State, listed, depth_of}
 use Rattle.rules.specs.Run.{reached}
 use Rattle.rules.specs.Lent.{Answer, success, refusal, in_numbers, path_in_numbers, Lent, Called, long_enough, answered, run_answer, run_leaves, asked, steps, steps_from, path_answer, path_buffers, path_written, path_listed, path_leaves}
 use Rattle.theorems.proofs.Ledgers.{listed_found}
@@ -22,7 +22,7 @@ use Rattle.loaded.specs.Loaded.{file_in}
 use Rattle.commands.specs.Standing.{Blank}
 use Rattle.loaded.proofs.Ledger.{entry_inside, column_none, column_listed}
 use Rattle.engine.specs.declared.Finished.{Finished}
-use Rattle.engine.specs.Raw.{ran_in, Ran, Stood}
+use Rattle.engine.specs.Raw.{Ran, Stood}
 use Rattle.path.specs.Climbing.{EntriesDeclared, EntriesInside, steps_in, climbed}
 use Rattle.path.proofs.Climbing.{climbed_steps}
 

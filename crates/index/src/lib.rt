@@ -123,6 +123,7 @@ pub fn enter_term(
     requires { EntersTerm file.now state.old links.old tables.old body.now kind at terms }
     ensures refusal { number_in result ≡ refuse_unless 9 (not (any_alike_there file.now (view state.old).place (term_at kind body.now) terms)) }
     ensures left { view state.new ≡ cond (eqb (number_in result) 0) (with_place (view state.old) (put (view state.old).place terms at)) (view state.old) }
+    ensures keys { (tables_in tables.new).signer ≡ (tables_in tables.old).signer }
     ensures indexed { number_in result ≡ 0 → Indexed file.now (view state.new).place links.new tables.new (terms + 1) }
 {
     let words = records::words_in(kind, body);

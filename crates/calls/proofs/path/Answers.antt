@@ -1,6 +1,5 @@
-use Rattle.std.proofs.Common.{◌≡◌, ◌+◌, ℕ, arith, sym, Err, Result, length-take-le}
+use Rattle.std.proofs.Common.{◌≡◌, ◌+◌, arith, sym, Err, length-take-le}
 use Rattle.std.proofs.lemmas.Grind.{common_steps}
-use Rattle.rules.specs.declared.Refused.{Refused}
 use Rattle.calls.proofs.Paths.{entries_declared, entries_inside, few_steps, path_short, path_refused, path_none, path_some}
 use Rattle.calls.proofs.path.Goals as goal
 
