@@ -1,6 +1,6 @@
 -- The faults of the fields of a body, one field after the other. Assumes nothing.
 use mathlib.Core.Path.{◌≡◌, refl, sym, ap, ◌∙◌}
-use mathlib.Core.List.{List, [], ◌∷◌}
+use mathlib.Core.List.{List, ◌∷◌}
 use Prim.Native.Nat.{ℕ, zero, suc, ◌+◌, ◌<◌, ◌≤◌}
 use native.Mathlib.Omega.{arith}
 use lib.ListN.{length, get_or, drop}
@@ -10,7 +10,7 @@ use Rattle.rules.specs.declared.Field.{Field}
 use Rattle.rules.specs.declared.Field.TheVariants.{RoleField}
 use Rattle.rules.specs.declared.Refusal.{Refusal}
 use Rattle.rules.specs.Codes.{number_of}
-use Rattle.rules.specs.Record.{width, widths}
+use Rattle.rules.specs.Record.{body_length, fields_of, width, widths}
 use Rattle.rules.specs.Load.{first}
 use Rattle.tables.specs.Columns.{Terms}
 use Rattle.checks.specs.There.{field_fault_noted}
@@ -44,3 +44,30 @@ module _ (xs : List Field) (i : ℕ) (h : i < length xs) where
 pub none_left : (xs : List Field) (i : ℕ) → length xs ≤ i → (v : Terms) (parties terms at : ℕ) (body : List ℕ) → fields_fault_noted v parties terms (drop i xs) at body ≡ 0
 unfolding fields_fault_noted
 none_left xs i h v parties terms at body = rw (drop_all i xs h) refl
+
+-- where a walk over the fields of a kind's body stands: what is left of them is in the body, and what is wrong with it is
+-- all that is wrong
+pub record Walk (v : Terms) (parties terms k : ℕ) (body : List ℕ) (xs : List Field) (i : ℕ) : Type 0 where
+  pub inside : i + widths xs ≤ length body
+  pub left : fields_fault_noted v parties terms (fields_of k) 0 body ≡ fields_fault_noted v parties terms xs i body
+
+pub walk_begins : (v : Terms) (parties terms k : ℕ) (body : List ℕ) {xs : List Field} → body_length k ≤ length body → xs ≡ fields_of k → Walk v parties terms k body xs 0
+unfolding body_length
+walk_begins v parties terms k body l e = record { inside = omega (arith, l, ap widths e); left = rw e refl }
+
+module _ {v : Terms} {parties terms k i : ℕ} {body : List ℕ} (xs : List Field) (j : ℕ) (w : Walk v parties terms k body (drop j xs) i) where
+  pub walk_done : length xs ≤ j → fields_fault_noted v parties terms (fields_of k) 0 body ≡ 0
+  walk_done h = w.left ∙ none_left xs j h v parties terms i body
+
+  module _ (h : j < length xs) where
+    pub walk_here : i + width (get_or xs j RoleField) ≤ length body
+    walk_here = omega (arith, widths_left xs j h, w.inside)
+
+    pub walk_refused : (r : Refusal) → number_of r ≡ field_fault_noted v parties terms (get_or xs j RoleField) i body → number_of r ≡ fields_fault_noted v parties terms (fields_of k) 0 body
+    walk_refused r e = first_refused _ _ _ e ∙ sym (w.left ∙ faults_left xs j h v parties terms i body)
+
+    pub walk_next : {m : ℕ} → 0 ≡ field_fault_noted v parties terms (get_or xs j RoleField) i body → m ≡ width (get_or xs j RoleField) → Walk v parties terms k body (drop (j + 1) xs) (i + m)
+    walk_next e n = record {
+      inside = omega (arith, widths_left xs j h, w.inside, n);
+      left = w.left ∙ faults_left xs j h v parties terms i body ∙ first_passed _ e ∙ rw n refl;
+    }

@@ -119,7 +119,7 @@ impl<'a> Declared<'a> {
 
     // 7, 8 at a field of a body.
     #[tactic(auto, unfolding(crate::specs::There::field_fault_noted, rules::specs::Record::width))]
-    fn check_field(&self, field: Field, body: &[u8], i: usize) -> Result<(), Refusal>
+    pub fn check_field(&self, field: Field, body: &[u8], i: usize) -> Result<(), Refusal>
         requires { i + width_of field ≤ length body.now }
         ensures { number_in result ≡ field_fault_noted (tables_in self.now.tables.now).terms self.now.parties self.now.terms field i body.now }
     {
@@ -137,19 +137,6 @@ impl<'a> Declared<'a> {
             Field::HashedPair => self.check_inner(body, i, TermKind::Hash, TermKind::Pair),
             Field::SignedQuote => self.check_inner(body, i, TermKind::Signature, TermKind::Quote),
         }
-    }
-
-    // The same at all fields of a kind's body, one after the other.
-    fn check_each(&self, kind: u8, body: &[u8]) -> Result<(), Refusal>
-        requires { body_length kind ≤ length body.now }
-        ensures { number_in result ≡ fields_fault_noted (tables_in self.now.tables.now).terms self.now.parties self.now.terms (fields_of kind) 0 body.now }
-    {
-        let mut i = 0;
-        for field in records::fields_of(kind) {
-            self.check_field(*field, body, i)?;
-            i += records::width(*field);
-        }
-        Ok(())
     }
 
     // The fields of a 10 or a 11.
@@ -241,25 +228,25 @@ impl<'a> Declared<'a> {
         self.check_pair(body, 14)
     }
 
-    // The same, of the most frequent terms without a walk from field to field.
+    // Whether a body is of the most frequent terms and its fields are right, without a walk from field to field; false
+    // says nothing.
     #[tactic(auto, unfolding(rules::specs::Record::section_of, rules::specs::Record::fields_of, rules::specs::Record::body_length, rules::specs::Record::widths, rules::specs::Record::width, crate::specs::There::field_fault_noted, crate::specs::Fields::fields_fault_noted, rules::specs::Load::first))]
-    pub fn check_fields(&self, kind: u8, body: &[u8]) -> Result<(), Refusal>
+    pub fn seen_right(&self, kind: u8, body: &[u8]) -> bool
         requires { body_length kind ≤ length body.now }
-        ensures { number_in result ≡ fields_fault_noted (tables_in self.now.tables.now).terms self.now.parties self.now.terms (fields_of kind) 0 body.now }
+        ensures { result ≡ true → fields_fault_noted (tables_in self.now.tables.now).terms self.now.parties self.now.terms (fields_of kind) 0 body.now ≡ 0 }
     {
         match kind {
-            0x10 | 0x11 => self.check_key(body),
-            0x12 => self.check_term(body, 0),
-            0x13 => self.check_signature(body),
-            0x16 => Ok(()),
-            0x19 => self.check_certificate(body),
-            0x1A => self.check_terms(body),
-            _ => self.check_each(kind, body),
+            0x10 | 0x11 => self.check_key(body).is_ok(),
+            0x12 => self.check_term(body, 0).is_ok(),
+            0x13 => self.check_signature(body).is_ok(),
+            0x16 => true,
+            0x19 => self.check_certificate(body).is_ok(),
+            0x1A => self.check_terms(body).is_ok(),
+            _ => false,
         }
     }
 
-    // Whether a body is of the most frequent commands and its fields are right, without a walk from field to field;
-    // false says nothing.
+    // The same of the most frequent commands.
     #[tactic(auto, unfolding(rules::specs::Record::section_of, rules::specs::Record::fields_of, rules::specs::Record::body_length, rules::specs::Record::widths, rules::specs::Record::width))]
     fn is_right(&self, kind: u8, body: &[u8]) -> bool
         requires { body_length kind ≤ length body.now }

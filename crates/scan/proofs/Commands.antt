@@ -1,7 +1,7 @@
 -- The records after the first command's: a record is a command's where the section so far is that of the commands, or it
 -- is the first.
 -- Assumes nothing.
-use mathlib.Core.Path.{◌≡◌, refl, ap, ◌∙◌}
+use mathlib.Core.Path.{◌≡◌, ap, subst}
 use mathlib.Core.Logic.{◌⊎◌, inl, inr}
 use mathlib.Core.List.{List}
 use Prim.Native.Nat.{ℕ, ◌<◌, ◌≤◌}
@@ -9,7 +9,7 @@ use native.Mathlib.Omega.{arith}
 use lib.ListN.{length, get_or}
 use borrow.Author.Tests.{le-ltb}
 use Rattle.rules.specs.Record.{section_of, command_section}
-use Rattle.rules.specs.Load.{first, load, refused}
+use Rattle.rules.specs.Load.{first}
 use Rattle.tables.specs.Columns.{Terms, tables_in}
 use Rattle.tables.specs.declared.columns.Tables.{Tables}
 use Rattle.checks.specs.There.{head_fault}
@@ -18,8 +18,8 @@ use Rattle.records.proofs.Lengths.{section_most}
 use Rattle.theorems.proofs.Pieces.{body_at}
 use Rattle.reader.specs.Place.{next_place}
 use Rattle.scan.specs.declared.Tally.{Tally}
-use Rattle.scan.specs.Describes.{counted, checked_fault, Stands, Reached}
-use Rattle.scan.proofs.Scanning.{checked_refused, order, command_taken}
+use Rattle.scan.specs.Describes.{counted, checked_fault, Stands}
+use Rattle.scan.proofs.Scanning.{order, command_taken}
 
 -- a command whose fields are seen to be right at once is right
 pub plain_right : {bs : List ℕ} {v : Terms} {parties terms at end : ℕ} (section : ℕ) → section ≤ command_section → Plain bs v parties terms at end → checked_fault bs v section parties terms at ≡ 0
@@ -28,14 +28,6 @@ plain_right {bs} {at = at} section o d =
     let w = d.whole in
     let e = d.ends in
     rw (d.command, le-ltb (length bs) (next_place bs at) (omega arith), le-ltb command_section section o) d.right
-
-module _ {bs : List ℕ} {v : Terms} {section parties terms at : ℕ} (w : Reached bs v section parties terms at) where
-  pub reached_order : section ≤ command_section
-  reached_order = let o = w.here.in_order in let e = w.section_is in omega arith
-
-  -- 3 to 8
-  pub reached_refused : at < length bs → (x : ℕ) → 0 < x → x ≡ checked_fault bs v section parties terms at → load bs ≡ refused x at
-  reached_refused h x l e = checked_refused w.here w.noted h x l (e ∙ rw (w.section_is, w.parties_is, w.terms_is) refl)
 
 -- the section so far is that of the commands, or the record at hand is the first of them
 abbrev pub Begun : List ℕ → Tally → ℕ → Type 0
@@ -59,3 +51,9 @@ module _ {bs s links : List ℕ} {tables : Tables} {n : Tally} {at : ℕ} (w : S
       → Stands bs s links tables m next × Begun bs m next × (m.parties ≡ n.parties) × (m.terms ≡ n.terms)
   unfolding counted
   commands_next c e = (rw (c, e) next_command, inl (ap (λ (t : Tally). t.section) c), ap (λ (t : Tally). t.parties) c, ap (λ (t : Tally). t.terms) c)
+
+-- at the file's end
+pub stands_end : {bs s links : List ℕ} {tables : Tables} {n : Tally} {at : ℕ} → Stands bs s links tables n at → length bs ≤ at → Stands bs s links tables n (length bs)
+stands_end {bs} {s} {links} {tables} {n} {at} w h =
+    let e : at ≡ length bs = let i = w.here.inside in omega arith in
+    subst (Stands bs s links tables n) e w

@@ -14,8 +14,6 @@ use native.Mathlib.Omega.{arith}
 use lib.Dec.{eqb, ltb}
 use lib.ListN.{length, get_or, take, drop, replicate}
 use borrow.Author.Tests.{eqb-true, ltb-false}
-use Rattle.std.proofs.Common.{Result, Ok, Err, IfErr}
-use Rattle.std.specs.Result.{IsErrAnd}
 use Rattle.rules.specs.declared.Refusal.{Refusal}
 use Rattle.rules.specs.declared.Refusal.TheVariants as refusal
 use Rattle.rules.specs.Codes.{number_of}
@@ -96,11 +94,6 @@ number_some refusal.SubjectOfAnotherEk = omega arith
 number_some refusal.PairsEmptyOrAlike = omega arith
 number_some refusal.RegisterShowsOther = omega arith
 number_some refusal.NoBoards = omega arith
-
--- what holds of the refusal that a `?` hands on
-pub err_same : {A : Type 0} (P : ℕ → Type 0) (r : Result A Refusal) (e : Refusal) → IsErrAnd r (λ x. x ≡ e) → P (number_of e) → IfErr r (λ x. P (number_of x))
-err_same P (Ok x) e h p = tt
-err_same P (Err x) e h p = subst⁻¹ (λ (y : Refusal). P (number_of y)) h p
 
 -- a number that is not 0
 some : (x : ℕ) → 0 < x → (m : ℕ) × (x ≡ suc m)

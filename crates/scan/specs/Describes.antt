@@ -11,7 +11,6 @@ use Rattle.state.specs.View.{Columns, view, with_place}
 use Rattle.tables.specs.declared.columns.Tables.{Tables}
 use Rattle.tables.specs.Columns.{Terms, EmptyTables, tables_in}
 use Rattle.learning.specs.There.{term_there}
-use Rattle.learning.specs.Noted.{Noted}
 use Rattle.index.specs.Indexed.{Indexed}
 use Rattle.checks.specs.There.{TermsThere, role_there, any_alike_there, head_fault}
 use Rattle.checks.specs.Fields.{fields_fault_noted}
@@ -112,16 +111,11 @@ pub record Stands (bs s links : List ℕ) (tables : Tables) (n : Tally) (at : �
   pub here : At bs s (tables_in tables).signer n at
   pub indexed : Indexed bs (view s).place links tables n.terms
 
--- the scan stands at a place, whatever the state and the signing keys; the tables have the terms
-pub record Reached (bs : List ℕ) (v : Terms) (section parties terms at : ℕ) : Type 0 where
-  pub state : List ℕ
-  pub signers : ℕ → ℕ
-  pub tally : Tally
-  pub here : At bs state signers tally at
-  pub noted : Noted bs (view state).place v tally.terms
-  pub section_is : tally.section ≡ section
-  pub parties_is : tally.parties ≡ parties
-  pub terms_is : tally.terms ≡ terms
+-- it stands where the commands begin, or at the file's end
+pub record Begins (bs s : List ℕ) (tables : Tables) (n : Tally) (at : ℕ) : Type 0 where
+  pub links : List ℕ
+  pub stands : Stands bs s links tables n at
+  pub begun : at < length bs → section_of (get_or bs at 0) ≡ command_section
 
 -- what the scan starts from
 pub record ScanReady (bs s : List ℕ) (tables : Tables) : Type 0 where

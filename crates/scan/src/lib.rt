@@ -11,7 +11,7 @@ ghost use Rattle.learning.specs.There.{term_there};
 ghost use Rattle.index.specs.Indexed.{Indexed};
 ghost use Rattle.reader.specs.Place.{next_place};
 ghost use Rattle.lookup.specs.Commands.{commands_from};
-ghost use Rattle.scan.specs.Describes.{counted, EnterReady, checked_fault, last_fault, columns_after, signers_after, Stands, Reached, ScanReady, ScanResult};
+ghost use Rattle.scan.specs.Describes.{counted, EnterReady, last_fault, columns_after, signers_after, Stands, Begins, ScanReady, ScanResult};
 
 use checks::Declared;
 use rules::{Refusal, Refused};
@@ -50,23 +50,6 @@ pub struct Scanned {
     pub tally: Tally,
 }
 
-// 3 to 8 at the record that stands from a place to another, after one of a section.
-fn check_record(
-    file: &[u8],
-    declared: Declared,
-    section: u8,
-    at: usize,
-    end: usize,
-) -> Result<(), Refusal>
-    requires { (at < length file.now) × (end ≡ next_place file.now at) }
-    ensures { number_in result ≡ checked_fault file.now (tables_in declared.entry.tables.now).terms section declared.entry.parties declared.entry.terms at }
-{
-    let kind = file[at];
-    let own = records::section_of(kind);
-    declared.check_head(own, end, file.len(), section)?;
-    declared.check_fields(kind, &file[at + 1..end])
-}
-
 // 9 to 12 at a record whose fields are right; where none applies the record is noted.
 fn enter(
     file: &[u8],
@@ -92,48 +75,97 @@ fn enter(
     }
 }
 
-// A record before the commands, from a place to another: the first of 3 to 12 that applies; where none does the record
-// is noted.
-fn take_record(
-    file: &[u8],
-    state: &mut [u8],
-    links: &mut [u16; index::LINKS],
-    tables: &mut Tables,
-    section: u8,
-    at: usize,
-    end: usize,
-    n: Tally,
-) -> Result<(), Refusal>
-    requires { Stands file.now state.old links.old tables.old n at × (at < length file.now) × (end ≡ next_place file.now at) × (section ≡ section_of (get_or file.now at 0)) }
-    ensures refused { IfErr result (λ r. load file.now ≡ refused (number_of r) at) }
-    ensures taken { IfOk result (λ _. Stands file.now state.new links.new tables.new (counted section n) end) }
+// The records before the commands: the first of 3 to 12 that applies to one of them ends the scan of the file.
+fn scan_records(file: &[u8], state: &mut [u8], tables: &mut Tables) -> Result<Scanned, Refused>
+    requires { ScanReady file.now state.old tables.old }
+    ensures refused { IfErr result (λ x. load file.now ≡ refused (number_of x.refusal) x.place) }
+    ensures stands { IfOk result (λ x. Begins file.now state.new tables.new x.tally x.first) }
+    ensures first { IfOk result (λ x. x.first ≡ commands_from (length file.now) file.now 0) }
+{
+    let mut links = [0u16; index::LINKS];
+    let mut n = Tally::default();
+    let mut at = 0;
+    'records: loop {
+        if file.len() <= at {
+            break 'records Ok(Scanned {
+                first: at,
+                tally: n,
+            });
+        }
+        let kind = file[at];
+        let section = records::section_of(kind);
+        if section == 4 {
+            break 'records Ok(Scanned {
+                first: at,
+                tally: n,
+            });
+        }
+        let place = at as u32;
+        let end = reader::next_place(file, at);
+        let declared = Declared {
+            tables,
+            parties: n.parties,
+            terms: n.terms,
+        };
+        if let Err(refusal) = declared.check_head(section, end, file.len(), n.section) {
+            break 'records Err(Refused { refusal, place });
+        }
+        let body = &file[at + 1..end];
+        if !declared.seen_right(kind, body) {
+            let mut offset = 0;
+            for field in records::fields_of(kind) {
+                if let Err(refusal) = declared.check_field(*field, body, offset) {
+                    break 'records Err(Refused { refusal, place });
+                }
+                offset += records::width(*field);
+            }
+        }
+        if let Err(refusal) = enter(file, state, &mut links, tables, body, kind, section, at, n) {
+            break 'records Err(Refused { refusal, place });
+        }
+        n.count(section);
+        at = end;
+    }
+}
+
+// The commands, after what was scanned before: the first of 3 to 8 that applies to one of them ends the scan. One whose
+// fields are seen to be right at once is passed.
+fn scan_commands(file: &[u8], tables: &Tables, before: Scanned) -> Result<Tally, Refused>
+    requires { (state : List ℕ) × Begins file.now state tables.now before.tally before.first }
+    ensures refused { IfErr result (λ x. load file.now ≡ refused (number_of x.refusal) x.place) }
+    ensures passed { IfOk result (λ n. (state links : List ℕ) → Stands file.now state links tables.now before.tally before.first → Stands file.now state links tables.now n (length file.now)) }
 {
     let declared = Declared {
         tables,
-        parties: n.parties,
-        terms: n.terms,
+        parties: before.tally.parties,
+        terms: before.tally.terms,
     };
-    check_record(file, declared, n.section, at, end)?;
-    let body = &file[at + 1..end];
-    enter(file, state, links, tables, body, file[at], section, at, n)
-}
-
-// 3 to 8 at a record after the first command's: one of a command whose fields are seen to be right at once is passed.
-fn check_command(
-    file: &[u8],
-    declared: Declared,
-    section: u8,
-    at: usize,
-    end: usize,
-) -> Result<(), Refusal>
-    requires { Reached file.now (tables_in declared.tables.now).terms section declared.parties declared.terms at × (at < length file.now) × (end ≡ next_place file.now at) }
-    ensures refused { IfErr result (λ r. load file.now ≡ refused (number_of r) at) }
-    ensures right { IfOk result (λ _. checked_fault file.now (tables_in declared.entry.tables.now).terms section declared.entry.parties declared.entry.terms at ≡ 0) }
-{
-    if declared.is_plain(file, at, end) {
-        return Ok(());
+    let mut n = before.tally;
+    let mut at = before.first;
+    'commands: loop {
+        if file.len() <= at {
+            break 'commands Ok(n);
+        }
+        let end = reader::next_place(file, at);
+        if !declared.is_plain(file, at, end) {
+            let place = at as u32;
+            let kind = file[at];
+            let own = records::section_of(kind);
+            if let Err(refusal) = declared.check_head(own, end, file.len(), n.section) {
+                break 'commands Err(Refused { refusal, place });
+            }
+            let body = &file[at + 1..end];
+            let mut offset = 0;
+            for operand in records::fields_of(kind) {
+                if let Err(refusal) = declared.check_field(*operand, body, offset) {
+                    break 'commands Err(Refused { refusal, place });
+                }
+                offset += records::width(*operand);
+            }
+        }
+        n.count(4);
+        at = end;
     }
-    check_record(file, declared, section, at, end)
 }
 
 // The scan of the file: the records before the commands, then the commands; it ends at the first refusal.
@@ -143,38 +175,10 @@ pub fn scan(file: &[u8], state: &mut [u8], tables: &mut Tables) -> Result<Scanne
     ensures first { IfOk result (λ x. x.first ≡ commands_from (length file.now) file.now 0) }
     ensures indexed { IfOk result (λ x. (links : List ℕ) × Indexed file.now (view state.new).place links tables.new x.tally.terms) }
 {
-    let mut links = [0u16; index::LINKS];
-    let mut n = Tally::default();
-    let mut at = 0;
-    'records: while at < file.len() {
-        let section = records::section_of(file[at]);
-        if section == 4 {
-            break;
-        }
-        let end = reader::next_place(file, at);
-        take_record(file, state, &mut links, tables, section, at, end, n).map_err(|refusal| {
-            Refused {
-                refusal,
-                place: at as u32,
-            }
-        })?;
-        n.count(section);
-        at = end;
-    }
-    let first = at;
-    let declared = Declared {
-        tables,
-        parties: n.parties,
-        terms: n.terms,
-    };
-    'commands: while at < file.len() {
-        let end = reader::next_place(file, at);
-        check_command(file, declared, n.section, at, end).map_err(|refusal| Refused {
-            refusal,
-            place: at as u32,
-        })?;
-        n.count(4);
-        at = end;
-    }
-    Ok(Scanned { first, tally: n })
+    let before = scan_records(file, state, tables)?;
+    let tally = scan_commands(file, tables, before)?;
+    Ok(Scanned {
+        first: before.first,
+        tally,
+    })
 }
