@@ -1,12 +1,12 @@
 -- What is asked after a run: what it needs of what the run left, and what is answered.
-use Rattle.std.specs.Prelude.{◌≡◌, List, [], ◌∷◌, ℕ, ◌+◌, ◌≤◌, length, take, Result, Ok, Err}
+use Rattle.std.specs.Prelude.{◌≡◌, List, [], ◌∷◌, ℕ, ◌^◌, ◌<◌, ◌≤◌, length, take, Result, Ok, Err}
 use Rattle.rules.specs.declared.Entry.{Entry}
 use Rattle.rules.specs.declared.Question.{Question}
 use Rattle.rules.specs.declared.Question.TheVariants.{Totals, Stock}
 use Rattle.rules.specs.declared.Told.{Told}
 use Rattle.rules.specs.declared.Refused.{Refused}
 use Rattle.rules.specs.Codes.{number_of}
-use Rattle.rules.specs.Limits.{term_limit, command_limit, state_bytes}
+use Rattle.rules.specs.Limits.{state_bytes}
 use Rattle.rules.specs.File.{File}
 use Rattle.rules.specs.State.{State}
 use Rattle.rules.specs.Lent.{Answer, success, refusal}
@@ -28,8 +28,7 @@ pub record Askable (bs s : List ℕ) (r : Finished) : Type 0 where
   pub holds : Holds bs (take state_bytes s)
   pub parties_are : r.begun.parties ≡ length (file_in bs).roles
   pub terms_are : r.begun.terms ≡ length (file_in bs).terms
-  pub few : r.progress.accepted + r.progress.refused ≤ command_limit
-  pub issued : r.progress.issued ≤ term_limit
+  pub few : (r.progress.accepted < 2 ^ 32) × ((r.progress.refused < 2 ^ 32) × (r.progress.issued < 2 ^ 32))
 
 -- what is told where there is a run, else the run's refusal
 abbrev pub told_by : Result Finished Refused → Question → File → State → Answer

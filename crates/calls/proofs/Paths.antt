@@ -127,10 +127,10 @@ module _ {bs : List ℕ} {n : ℕ} {lent after : Lent} {tables : Tables} {r : Fi
   pub entries_declared : EntriesDeclared tables
   entries_declared = record {
     declared = λ c more.
-    let m = listed_found ledger c (column_listed c w.stands.enters more) in
-    let g = w.stands.kept.sound.entries m.place m.entry m.here in
-    let k = known_declared (file_in bs) _ w.stands.kept.blank _ m.entry.certificate g.known in
-    omega (arith, k, m.same, w.stands.holds.there.few);
+        let m = listed_found ledger c (column_listed c w.stands.enters more) in
+        let g = w.stands.kept.sound.entries m.place m.entry m.here in
+        let k = known_declared (file_in bs) _ w.stands.kept.blank _ m.entry.certificate g.known in
+        omega (arith, k, m.same, w.stands.holds.there.few);
   }
 
   pub entries_inside : length after.ledger ≡ length lent.ledger → EntriesInside tables after.ledger

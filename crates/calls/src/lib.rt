@@ -25,15 +25,7 @@ pub fn ask(
 {
     let n = asking::count_of(question);
     let mut tables = Tables::new();
-    let done = engine::run(
-        file,
-        n,
-        state,
-        ledger,
-        outcomes,
-        registers,
-        &mut tables,
-    );
+    let done = engine::run(file, n, state, ledger, outcomes, registers, &mut tables);
     asking::answer(done, question, file, state)
 }
 
@@ -55,15 +47,7 @@ pub fn path(
 {
     path::check_room(list)?;
     let mut tables = Tables::new();
-    engine::run(
-        file,
-        n,
-        state,
-        ledger,
-        outcomes,
-        registers,
-        &mut tables,
-    )?;
+    engine::run(file, n, state, ledger, outcomes, registers, &mut tables)?;
     let steps = path::steps_of(&tables, term)?;
     path::climb(&tables, ledger, &mut list[..=steps as usize], term);
     Ok(steps)

@@ -23,7 +23,10 @@ fn two_terms(file: &[u8], at: usize) -> (usize, usize)
     ensures first { result.0 ≡ word file.now (at + 2) }
     ensures second { result.1 ≡ word file.now (at + 4) }
 {
-    (records::word_at(file, at + 2) as usize, records::word_at(file, at + 4) as usize)
+    (
+        records::word_at(file, at + 2) as usize,
+        records::word_at(file, at + 4) as usize,
+    )
 }
 
 // What the desk command at a place decides.

@@ -33,6 +33,8 @@ pub fn run(
     ensures stands { IfOk result (Stood file.now n (lent_with state.old ledger.old outcomes.old registers.old) (lent_with state.new ledger.new outcomes.new registers.new) tables.new) }
 {
     let begun = beginning::begin(file, state, ledger, outcomes, registers, tables)?;
-    let progress = command_loop::run_commands(file, state, ledger, outcomes, registers, tables, begun, n);
+    let progress = command_loop::run_commands(
+        file, state, ledger, outcomes, registers, tables, begun, n,
+    );
     Ok(Finished { begun, progress })
 }

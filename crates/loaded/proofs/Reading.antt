@@ -25,13 +25,14 @@ use Rattle.rules.specs.declared.Term.{Term}
 use Rattle.rules.specs.declared.Term.TheVariants.{PublicKey, PrivateKey, Hash, Signature, Attest, Credential, Number, IdevidRequest, LdevidRequest, Certificate, Pair, Register, Quote}
 use Rattle.rules.specs.Limits.{party_limit, term_limit}
 use Rattle.rules.specs.Term.{idevid_request_kind, certificate_kind, kind_of, fields_in, subject_fields, attributes_of, subject_of}
-use Rattle.rules.specs.File.{is_role, role_of, is_kind, kind, term, field, subject, attributes, paired, half_in, signs_for, signs_for_role, is_signing_key, is_signing_key_for}
+use Rattle.rules.specs.File.{is_role, role_of, is_kind, kind, term, field, subject, attributes, paired, half_in, signs_for, signs_for_role, is_signing_key, is_signing_key_for, idevid_key}
 use Rattle.tables.specs.Columns.{field_words, one_more, tables_in, field_of}
 use Rattle.checks.specs.There.{role_there}
 use Rattle.index.specs.Indexed.{passes}
 use Rattle.theorems.proofs.Terms.{setup_finds, signs_given, signs_role_given}
 use Rattle.loaded.specs.Loaded.{file_in, Reads, subject_by}
 use Rattle.loaded.proofs.Standing.{kind_declared, checked_reads}
+use Rattle.loaded.proofs.Declared.{idevid_key_declared}
 use Rattle.loaded.proofs.Halves.{paired_half}
 
 module _ {bs : List ℕ} {tables : Tables} (r : Reads bs tables) where
@@ -166,6 +167,10 @@ module _ {bs : List ℕ} {tables : Tables} (r : Reads bs tables) (t : ℕ) where
 
   pub request_declared : kind (file_in bs) t ≡ idevid_request_kind → t < length (file_in bs).terms
   request_declared e = kind_declared bs e (λ z. omega arith)
+
+  pub request_key : kind (file_in bs) t ≡ idevid_request_kind → field (file_in bs) t 3 < length (file_in bs).terms
+  unfolding idevid_key
+  request_key e = idevid_key_declared (checked_reads r) (request_declared e) e
 
   pub certificate_declared : kind (file_in bs) t ≡ certificate_kind → t < length (file_in bs).terms
   certificate_declared e = kind_declared bs e (λ z. omega arith)

@@ -197,6 +197,7 @@ impl<'a> Loaded<'a> {
         ensures subject { result.subject ≡ subject (file_in self.now.file.now) t }
         ensures certificate { result.certificate ≡ idevid_certificate (file_in self.now.file.now) t }
         ensures key { result.key ≡ idevid_key (file_in self.now.file.now) t }
+        ensures declared { result.key < length (file_in self.now.file.now).terms }
     {
         IdevidRequest {
             subject: subject_of(self.tables.field_of(t, 0), self.tables.field_of(t, 1)),

@@ -22,6 +22,9 @@ is_kind_kind_lem f t {k} e = eqb-true (kind f t) k e
 
 module _ (x : Loaded) (t : ℕ) where
   module _ (l : t < length (file_in x.file.now).terms) where
+    pub few_within : t < term_limit
+    few_within = let few = x.reads.finds.few in omega arith
+
     pub left_within : is_kind (file_in x.file.now) pair_kind t ≡ true → left_of (file_in x.file.now) t < length (file_in x.file.now).terms
     left_within e = left_declared (checked_reads x.reads) l (is_kind_kind_lem _ t e)
 
@@ -72,4 +75,4 @@ module _ (x : Loaded) (t : ℕ) where
   pub signer_within : kind (file_in x.file.now) t ≡ certificate_kind → signer (file_in x.file.now) t < length (file_in x.file.now).terms
   signer_within e = signer_declared (checked_reads x.reads) (kind_declared x.file.now e (λ q. omega arith)) e
 
-pub ruleset within = (is_kind_kind_lem, left_within, right_within, message_within, signing_key_within, signer_within, certified_key_within, idevid_key_within, idevid_certificate_is, credential_within, credential_term_within, credential_number_within, ldevid_request_within, ldevid_message_within, ldevid_certificate_is, attested_key_within, certificate_few)
+pub ruleset within = (few_within, is_kind_kind_lem, left_within, right_within, message_within, signing_key_within, signer_within, certified_key_within, idevid_key_within, idevid_certificate_is, credential_within, credential_term_within, credential_number_within, ldevid_request_within, ldevid_message_within, ldevid_certificate_is, attested_key_within, certificate_few)

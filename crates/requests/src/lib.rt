@@ -3,7 +3,7 @@
 
 ghost use Rattle.std.specs.Prelude.{◌≡◌, ◌<◌, ℕ, length, IfOk};
 ghost use Rattle.rules.specs.Codes.{number_in, kind_number};
-ghost use Rattle.rules.specs.Limits.{party_limit};
+ghost use Rattle.rules.specs.Limits.{party_limit, term_limit};
 ghost use Rattle.rules.specs.Term.{certificate_kind, is_tpm_subject, is_device_subject};
 ghost use Rattle.rules.specs.File.{kind, message, signing_key, attested_key};
 ghost use Rattle.rules.specs.Desk.{form_tests, proof_tests};
@@ -51,13 +51,16 @@ pub fn form(loaded: &Loaded, q: usize, expected: TermKind) -> Result<Request, Re
 }
 
 // The proof of a key: the signature is over the body's hash, by the key's private half.
-#[tactic(auto, unfolding(theorems::specs::Chain::chain, rules::specs::Desk::proof_tests, rules::specs::Desk::request_body, rules::specs::Desk::request_signature))]
+#[tactic(auto, using(loaded::proofs::Reading::pair_read, loaded::proofs::Reading::some_is), unfolding(theorems::specs::Chain::chain, rules::specs::Desk::proof_tests, rules::specs::Desk::request_body, rules::specs::Desk::request_signature))]
 pub fn proof_of_key(loaded: &Loaded, request: Request, key: usize) -> Result<(), Refusal>
-    requires { (key < length (file_in loaded.now.file.now).terms) × (request.signer < length (file_in loaded.now.file.now).terms) }
-    ensures { (q : ℕ) → Names (file_in loaded.now.file.now) q request.body request.content request.signer → number_in result ≡ chain (proof_tests (file_in loaded.now.file.now) q key) }
+    requires { (key < term_limit) × (request.signer < term_limit) }
+    ensures { (q : ℕ) → key < length (file_in loaded.now.file.now).terms → Names (file_in loaded.now.file.now) q request.body request.content request.signer → number_in result ≡ chain (proof_tests (file_in loaded.now.file.now) q key) }
 {
     ensure(request.content == request.body, Refusal::NoProof)?;
-    ensure(loaded.is_pair(key, request.signer), Refusal::NoProof)
+    ensure(
+        loaded.tables.half_of(key) == Some(request.signer),
+        Refusal::NoProof,
+    )
 }
 
 // Whether a Subject is a TPM.

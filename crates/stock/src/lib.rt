@@ -40,11 +40,7 @@ fn stock_of(file: &[u8], state: &[u8], terms: usize, desk: usize) -> u32
 }
 
 // Whole boards and the numbers left over, by the IAKs per board; 39 where these are 0 or the party is no OEM desk.
-#[tactic(
-    auto,
-    using(crate::proofs::Counting::desk_here, crate::proofs::Counting::no_desk),
-    unfolding(rules::specs::Stock::boards_left, rules::specs::Lent::in_numbers)
-)]
+#[tactic(auto, using(crate::proofs::Counting::desk_here, crate::proofs::Counting::no_desk), unfolding(rules::specs::Stock::boards_left, rules::specs::Lent::in_numbers))]
 pub fn boards_left(
     file: &[u8],
     state: &[u8],

@@ -36,8 +36,8 @@ use Rattle.together.proofs.Pairs.{formed_both, apart_at}
 -- what a pair is judged by, as tests in their order
 pub judged_cond : (f : File) (s : State) (p q : ℕ) (before : List IakPair) (x : IakPair) → judged f s p q before x
     ≡ cond (is_among x.credential (credentials_of before)) 25
-      (cond (eqb (outcome f s (issue_iak p q x.credential x.certificate)) 0) (cond (others_end f s.request (subject f x.certificate) (ek_of f (s.request x.credential)) before) 0 31)
-      (outcome f s (issue_iak p q x.credential x.certificate)))
+    (cond (eqb (outcome f s (issue_iak p q x.credential x.certificate)) 0) (cond (others_end f s.request (subject f x.certificate) (ek_of f (s.request x.credential)) before) 0 31)
+    (outcome f s (issue_iak p q x.credential x.certificate)))
 unfolding judged first refuse_unless
 judged_cond f s p q before x = ap (cond (is_among x.credential (credentials_of before)) 25) (go (outcome f s (issue_iak p q x.credential x.certificate)) (others_end f s.request (subject f x.certificate) (ek_of f (s.request x.credential)) before))
   where
@@ -63,7 +63,7 @@ module _ {bs s : List ℕ} {tables : Tables} {at : ℕ} {all : List IakPair} (v 
     S = state_of (view s) ledger
 
     module _ (before : List IakPair) (own : IakPair) (beyond : List IakPair) (split : all ≡ before ++ (own ∷ beyond)) (a : PairsAccepted (file_in bs) S (desk_at bs at) (returning_at bs at) before)
-      {x : ℕ} (d : x ≡ judged (file_in bs) S (desk_at bs at) (returning_at bs at) before own) where
+        {x : ℕ} (d : x ≡ judged (file_in bs) S (desk_at bs at) (returning_at bs at) before own) where
       -- the outcome of the pair after those before it
       after_those : outcome (file_in bs) (issue_iaks_effect (file_in bs) S (desk_at bs at) (returning_at bs at) before) (issue_iak (desk_at bs at) (returning_at bs at) own.credential own.certificate) ≡ x
       after_those =

@@ -92,7 +92,9 @@ fn others_end(loaded: &Loaded, state: &[u8], wanted: Subject, ek: usize, pairs: 
     ensures { result ≡ others_end (file_in loaded.now.file.now) (view state.now).request wanted ek (pairs_of pairs.now) }
 {
     for x in pairs {
-        if loaded.certificate(x.certificate).subject == wanted && ek_asked(loaded, state, x.credential) != ek {
+        if loaded.certificate(x.certificate).subject == wanted
+            && ek_asked(loaded, state, x.credential) != ek
+        {
             return false;
         }
     }
@@ -112,13 +114,26 @@ fn judge(
     ensures judged { (entries : ℕ) (ledger : List Entry) → Ledgered loaded.now.file.now state.now loaded.now.tables.now entries ledger → number_in result ≡ judged (file_in loaded.now.file.now) (state_of (view state.now) ledger) (desk_at loaded.now.file.now at) (returning_at loaded.now.file.now at) (pairs_of before.now) (pair_of pair) }
     ensures requested { OnOk result (Requested (file_in loaded.now.file.now) ((view state.now).request pair.credential)) }
 {
-    ensure(!has_credential(before, pair.credential), Refusal::CredentialNotOpen)?;
+    ensure(
+        !has_credential(before, pair.credential),
+        Refusal::CredentialNotOpen,
+    )?;
     let party = loaded.file[at + 1] as usize;
     let other = loaded.file[at + 2] as usize;
-    issuance::decide_issue_iak(loaded, state, party, other, pair.credential, pair.certificate)?;
+    issuance::decide_issue_iak(
+        loaded,
+        state,
+        party,
+        other,
+        pair.credential,
+        pair.certificate,
+    )?;
     let wanted = loaded.certificate(pair.certificate).subject;
     let ek = ek_asked(loaded, state, pair.credential);
-    ensure(others_end(loaded, state, wanted, ek, before), Refusal::SubjectOfAnotherEk)
+    ensure(
+        others_end(loaded, state, wanted, ek, before),
+        Refusal::SubjectOfAnotherEk,
+    )
 }
 
 // The same of each pair, up to the first that is refused.
@@ -162,7 +177,15 @@ pub fn effect(
     let mut gained = Gained::new();
     for pair in pairs {
         let n = entries + gained.len();
-        let e = issuance::effect_issue_iak(file, state, tables, n, party, pair.credential, pair.certificate);
+        let e = issuance::effect_issue_iak(
+            file,
+            state,
+            tables,
+            n,
+            party,
+            pair.credential,
+            pair.certificate,
+        );
         gained.push(e);
     }
     gained

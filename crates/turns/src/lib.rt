@@ -101,7 +101,10 @@ pub fn turn(
         if decided.is_ok() && commands::is_desk(file[at]) {
             let gained = commands::effect(file, state, tables, p.issued, at);
             p.step(file.len(), decided, gained.len(), next);
-            return Turned { gained, progress: p };
+            return Turned {
+                gained,
+                progress: p,
+            };
         }
         p.step(file.len(), decided, 0, next);
     }

@@ -28,13 +28,16 @@ loop-x-preserved c =
     let f = file_in c.args.loaded.now.file.now in
     let e = pairs_from c.args.pairs.now c.loop-x.x-index (record { credential = 0; certificate = 0 }) c.loop-x-test.true in
     let formed = subst (PairsFormed f) e c.loop-x.invariant.0 in
-    let requested = subst (PairsRequested f (view c.args.state.now).request) e c.loop-x.invariant.1 in
-    (formed.2, requested.1, elim c.else-eq.branch [
-      else-eq-via-then-eq+else-ek_asked-ek w ↦ c.loop-x.invariant.2 ∙ ends_same _ _ _ _ _ _ e (sym w.ek_asked.ensures ∙ w.if-ek_asked-ek.false)
-    | else-eq-via-else-eq w ↦
-        let n : c.certificate.result.subject ≡ c.args.wanted → ⊥ = search rules in
-        c.loop-x.invariant.2 ∙ ends_other _ _ _ _ _ _ e (λ h. n (c.certificate.ensures.subject ∙ h))
-    ])
+    let requested = subst (PairsRequested f (view c.args.state.now).request) e c.loop-x.invariant.1 in (
+      formed.2,
+      requested.1,
+      elim c.else-eq.branch [
+        | else-eq-via-then-eq+else-ek_asked-ek w ↦ c.loop-x.invariant.2 ∙ ends_same _ _ _ _ _ _ e (sym w.ek_asked.ensures ∙ w.if-ek_asked-ek.false)
+        | else-eq-via-else-eq w ↦
+            let n : c.certificate.result.subject ≡ c.args.wanted → ⊥ = search rules in
+            c.loop-x.invariant.2 ∙ ends_other _ _ _ _ _ _ e (λ h. n (c.certificate.ensures.subject ∙ h))
+      ],
+    )
 
 pub returns : goal.returns
 returns c = sym (c.loop-x.invariant.2 ∙ ends_none _ _ _ _ (pairs_past _ _ c.loop-x-test.false))
