@@ -1,4 +1,5 @@
-// What stands before the first command: the first parts of the lent buffers are cleared, and a file is loaded into them.
+// What stands before the first command: the first parts of the lent buffers are cleared, and a file is loaded into
+// them.
 #![tactic(auto)]
 
 ghost use Rattle.std.specs.Prelude.{IfOk, IfErr};

@@ -30,8 +30,8 @@ pub extern "C" fn birdweekly_load(file: &[u8], state: &mut [u8]) -> LoadNumbers
     LoadNumbers::from(loader::load(file, state))
 }
 
-// What Run answers: number 0 with the commands accepted and refused and the certificates issued, or the refusal with its
-// place.
+// What Run answers: number 0 with the commands accepted and refused and the certificates issued, or the refusal with
+// its place.
 #[repr(C)]
 #[derive(Clone, Copy)]
 pub struct RunNumbers {
@@ -62,7 +62,7 @@ pub struct StockNumbers {
     pub rest: u32,
 }
 
-// An answer as numbers: its values in order, 0 where it has fewer.
+// An answer as numbers: its values in order, 0 where it has fewer. A struct each stands for C, which names the fields.
 #[derive(Clone, Copy)]
 struct Numbers {
     number: u32,

@@ -8,8 +8,9 @@ ghost use Rattle.boards.specs.Linked.{Falls, entry_of};
 
 use tables::Tables;
 
-// The place of an entry with a serial number. The walk passes entries of its bucket alone, at most 64 where each serial number is linked
-// once: law lists-short of proofs/Bound.antt.
+// The lists of the buckets are indices in the tables: no heap. The place of an entry with a serial number. The walk
+// passes entries of its bucket alone, at most 64 where each serial number is linked once: law lists-short of
+// proofs/Bound.antt.
 pub fn entry_of(tables: &Tables, serial: u16) -> Option<usize>
     requires { Falls (tables_in tables.now).boards term_limit }
     ensures { one_more result ≡ entry_of (tables_in tables.now).boards serial }

@@ -9,8 +9,8 @@ ghost use Rattle.engine.specs.Runs.{lent_with};
 use rules::{Entry, Question, Refused, Told};
 use tables::Tables;
 
-// Loads a file, executes the commands that a question is asked after, on lent buffers of any length, and answers it. Run is
-// the question for the totals of the first n commands.
+// Loads a file, executes the commands that a question is asked after, on lent buffers of any length, and answers it.
+// Run is the question for the totals of the first n commands.
 pub fn ask(
     file: &[u8],
     question: Question,

@@ -1,4 +1,5 @@
-// Lists each stored scenario file that an argument names. A file whose name begins with "cut_" is listed at each length, from 0 up.
+// Lists each stored scenario file that an argument names. A file whose name begins with "cut_" is listed at each
+// length, from 0 up.
 #![tactic(auto)]
 
 use std::env::{Env, FillError};
@@ -38,8 +39,8 @@ fn run_case<R: Files + Print + Eprint>(rt: &R, name: &str) -> io::Result<()> {
     list_whole(&mut to, name, &file[..n])
 }
 
-// Lists the file that argument i names. Answers whether there is such an argument. One that is too long for a path, or no
-// text, names no file.
+// Lists the file that argument i names. Answers whether there is such an argument. One that is too long for a path,
+// or no text, names no file.
 fn run_argument<R: Env + Files + Print + Eprint>(rt: &R, i: usize) -> io::Result<bool> {
     let mut name = [0u8; NAME_BYTES];
     let length = match rt.arg(i, &mut name) {

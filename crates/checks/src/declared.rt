@@ -214,7 +214,7 @@ impl<'a> Declared<'a> {
         self.check_kind(body, 3, TermKind::Certificate.number())
     }
 
-    // Of a 43.
+    // Of a 43: a line a pair, since the places are known.
     #[tactic(auto, using(crate::proofs::Fields::refused_some), unfolding(crate::specs::There::field_fault_noted, crate::specs::Fields::fields_fault_noted, rules::specs::Load::first, rules::specs::Record::width))]
     fn check_pairs(&self, body: &[u8]) -> Result<(), Refusal>
         requires { 18 ≤ length body.now }

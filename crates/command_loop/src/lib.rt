@@ -23,6 +23,7 @@ pub fn run_commands(
     ensures { Recorded file.now state.old ledger.old outcomes.old registers.old begun n state.new ledger.new outcomes.new registers.new tables.new result }
 {
     let mut p = Progress::start(file, begun, n);
+    // A turn says how many are left, so there is no sequence to go through.
     while p.left != 0 {
         let turned = turns::turn_within(file, state, registers, tables, outcomes, p);
         ledger::append_gained(ledger, p.issued, &turned.gained);

@@ -9,6 +9,9 @@ ghost use Rattle.decimal.specs.Text.{Room, Written, TakenAway};
 // Digits of a number of 64 bits at most.
 pub const DIGITS: usize = 20;
 
+// Text goes into a lent buffer from a place on, and the next place is answered: no heap, and the listing's buffer is
+// lent.
+
 // One byte.
 pub fn byte_into(out: &mut [u8], at: usize, b: u8) -> usize
     requires { at < length out.old }
@@ -70,7 +73,7 @@ struct Taken {
     left: u64,
 }
 
-// Takes a power away as often as it can be.
+// Takes a power away as often as it can be: request 2 of document 02 wants no division.
 fn take_away(x: u64, power: u64) -> Taken
     requires { x < 10 * power }
     ensures { TakenAway x power result.times result.left }

@@ -29,7 +29,7 @@ fn two_terms(file: &[u8], at: usize) -> (usize, usize)
     )
 }
 
-// What the desk command at a place decides.
+// What the desk command at a place decides, by its kind, a byte of the file.
 pub fn decide(loaded: &Loaded, state: &[u8], at: usize) -> Result<(), Refusal>
     requires { Holds loaded.now.file.now state.now × CommandAt (Wellformed (file_in loaded.now.file.now)) loaded.now.file.now at × ((0x3D < kind_there loaded.now.file.now at) × (kind_there loaded.now.file.now at < 0x44)) × SomeLedger loaded.now.file.now state.now loaded.now.tables.now × OpenRequested loaded.now.file.now state.now }
     ensures { DecidesListed loaded.now.file.now state.now loaded.now.tables.now (command_there loaded.now.file.now at) result }

@@ -351,7 +351,7 @@ pub fn effect_activate(loaded: &Loaded, state: &mut [u8], party: usize, r: usize
     loaded.learn(state, party, loaded.credential(r).number);
 }
 
-// What the device command at a place decides.
+// What the device command at a place decides, by its kind, a byte of the file.
 #[tactic(auto, using(crate::proofs::Read::read))]
 fn decide(loaded: &Loaded, state: &[u8], at: usize) -> Result<(), Refusal>
     requires { Holds loaded.now.file.now state.now × CommandAt (Wellformed (file_in loaded.now.file.now)) loaded.now.file.now at × (kind_there loaded.now.file.now at < 0x3E) }

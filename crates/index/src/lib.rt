@@ -21,6 +21,7 @@ pub const BUCKETS: usize = 1024;
 // The largest prime below it.
 pub const PRIME: u64 = 1021;
 
+// Links are an array of indices: no heap.
 pub const LINKS: usize = BUCKETS + 2 * rules::TERM_LIMIT;
 
 // Where a new term enters: the free entry at the end of its key's way; and the other half of its key pair, where it was

@@ -57,6 +57,7 @@ pub fn read<R: Read>(from: &mut R, file: &mut [u8]) -> io::Result<usize>
     ensures end { IfOk result (λ n. n < length file.new → IsAtEnd (R.remaining from.new)) }
 {
     let mut at = 0;
+    // How far to go on is what a read gives.
     while at < file.len() {
         let n = from.read(&mut file[at..])?;
         if n == 0 {

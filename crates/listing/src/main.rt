@@ -1,4 +1,5 @@
-// Reads a scenario file from standard input and lists it. One byte more than a file may have is read, so a longer file is seen.
+// Reads a scenario file from standard input and lists it. One byte more than a file may have is read, so a longer
+// file is seen.
 #![tactic(auto)]
 
 use std::io;

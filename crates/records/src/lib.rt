@@ -19,7 +19,7 @@ pub fn word_at(s: &[u8], i: usize) -> u16
     u16::from_be_bytes([s[i], s[i + 1]])
 }
 
-// The section of a kind, 0 where there is none.
+// The section of a kind, 0 where there is none. The kind byte is matched over ranges: the form that document 01 names.
 #[tactic(auto, unfolding(rules::specs::Record::section_of))]
 pub fn section_of(kind: u8) -> u8
     ensures { result ≡ section_of kind }
@@ -33,7 +33,7 @@ pub fn section_of(kind: u8) -> u8
     }
 }
 
-// The fields of a kind's body, in their order.
+// The fields of a kind's body, in their order. A kind is a byte of the file, here and below: the format is bytes.
 #[tactic(auto, unfolding(rules::specs::Record::section_of, rules::specs::Record::fields_of))]
 pub fn fields_of(kind: u8) -> &'static [Field]
     ensures { result.now ≡ fields_of kind }

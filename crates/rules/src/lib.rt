@@ -43,7 +43,7 @@ pub const PAIR_WIDTH: usize = 4;
 
 pub const EMPTY_FIELD: u16 = 0xFFFF;
 
-// The marks of a used number, and of an open and a closed credential.
+// The marks of a used number, and of an open and a closed credential: bytes of the lent state.
 pub const NUMBER_USED: u8 = 1;
 
 pub const CREDENTIAL_OPEN: u8 = 2;
@@ -204,8 +204,8 @@ pub struct Signers {
     pub owner: bool,
 }
 
-// A family of certificates that desks issue: the attributes of its keys, the role of the desk that signs it, the attributes of its
-// parent's key, and who may have signed the parent.
+// A family of certificates that desks issue: the attributes of its keys, the role of the desk that signs it, the
+// attributes of its parent's key, and who may have signed the parent.
 #[derive(Clone, Copy)]
 pub struct Family {
     pub key: Attributes,
@@ -365,8 +365,8 @@ pub struct Boards {
     pub rest: u32,
 }
 
-// What is asked of a file and lent buffers: the totals of its first n commands (Run); the boards left in a party's stock of numbers, by the
-// IAKs per board.
+// What is asked of a file and lent buffers: the totals of its first n commands (Run); the boards left in a party's
+// stock of numbers, by the IAKs per board.
 #[derive(Clone, Copy)]
 pub enum Question {
     Totals(usize),

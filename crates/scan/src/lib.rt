@@ -17,7 +17,7 @@ use checks::Declared;
 use rules::{Refusal, Refused};
 use tables::Tables;
 
-// The section and the counts so far.
+// The section and the counts so far; the section is the rules' number.
 #[derive(Clone, Copy, Default)]
 pub struct Tally {
     pub section: u8,

@@ -42,6 +42,9 @@ fn has_bit(byte: u8, party: usize) -> bool
     (byte >> party) % 2 == 1
 }
 
+// The readers and writers of columns below differ in a column and its width alone; each has a name and a promise of its
+// own, and one by a column's number would be no plainer. The columns are bytes of a lent buffer: the C interface.
+
 // Whether a party knows a term.
 pub fn knows(state: &[u8], party: usize, t: usize) -> bool
     requires { (party < party_limit) × (row_width * t + row_width ≤ length state.now) }
@@ -143,7 +146,7 @@ pub fn note_desk(state: &mut [u8], t: usize, desk: u8)
     state[ROW * t + DESK] = desk;
 }
 
-// A number in two bytes, high byte first.
+// A number in two bytes, high byte first: two lines, which registers::show has too.
 fn note_word(state: &mut [u8], at: usize, x: usize)
     requires { (x < 65536) × (at + 1 < length state.old) }
     ensures { state.new ≡ word_put state.old at x }

@@ -11,10 +11,11 @@ pub const FIELDS: usize = 4;
 // Serial numbers with the same low ten bits share a bucket.
 pub const BUCKETS: usize = 1024;
 
-// Each party's signing key. The private half of each public key, and the place and the depth of each certificate's entry in the ledger. The
-// kind of each term and its fields. The ledger's entries by their Subject's serial number: of each bucket, the entry that was linked last; of
-// each place of the ledger, the serial number that its entry is linked by, the entry that was linked before it in its bucket, and the EK at
-// the end of its path. Keys, halves and entries are one more than their number, 0 where there is none.
+// Each party's signing key. The private half of each public key, and the place and the depth of each certificate's
+// entry in the ledger. The kind of each term and its fields. The ledger's entries by their Subject's serial number:
+// of each bucket, the entry that was linked last; of each place of the ledger, the serial number that its entry is
+// linked by, the entry that was linked before it in its bucket, and the EK at the end of its path. Keys, halves and
+// entries are one more than their number, 0 where there is none.
 #[derive(Drop)]
 pub struct Tables {
     signers: [u16; rules::PARTY_LIMIT],

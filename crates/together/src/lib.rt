@@ -1,5 +1,5 @@
-// All IAKs of a board together, 43: what the command decides and leaves. All pairs are judged on the state before the command, and none is
-// written before all are.
+// All IAKs of a board together, 43: what the command decides and leaves. All pairs are judged on the state before the
+// command, and none is written before all are.
 #![tactic(auto)]
 
 ghost use Rattle.std.specs.Prelude.{◌≡◌, List, ℕ, ◌+◌, ◌*◌, ◌<◌, ◌≤◌, length, OnOk};
@@ -56,7 +56,7 @@ fn has_credential(pairs: &[Pair], c: usize) -> bool
     pairs.iter().any(|x| c == x.credential)
 }
 
-// Whether some pair has a certificate.
+// Whether some pair has a certificate. A field given by a closure would be no plainer than a line each.
 fn has_certificate(pairs: &[Pair], r: usize) -> bool
     ensures { result ≡ is_among r (certificates_of (pairs_of pairs.now)) }
 {
@@ -91,6 +91,7 @@ fn others_end(loaded: &Loaded, state: &[u8], wanted: Subject, ek: usize, pairs: 
     requires { Holds loaded.now.file.now state.now × PairsFormed (file_in loaded.now.file.now) (pairs_of pairs.now) × PairsRequested (file_in loaded.now.file.now) (view state.now).request (pairs_of pairs.now) }
     ensures { result ≡ others_end (file_in loaded.now.file.now) (view state.now).request wanted ek (pairs_of pairs.now) }
 {
+    // A closure for `all` would need what these calls ask as a clause of its own.
     for x in pairs {
         if loaded.certificate(x.certificate).subject == wanted
             && ek_asked(loaded, state, x.credential) != ek
@@ -160,7 +161,8 @@ pub fn decide(loaded: &Loaded, state: &[u8], at: usize) -> Result<(), Refusal>
     judge_all(loaded, state, at, &pairs)
 }
 
-// What an accepted 43 leaves: what a 3F of each pair leaves, one after the other. Answers the entries that the ledger gains.
+// What an accepted 43 leaves: what a 3F of each pair leaves, one after the other. Answers the entries that the ledger
+// gains.
 pub fn effect(
     file: &[u8],
     state: &mut [u8],

@@ -92,6 +92,7 @@ pub fn turn(
     ensures { Turns file.now (memory state.old registers.old) tables.old outcomes.old from (memory state.new registers.new) tables.new outcomes.new result }
 {
     let mut p = from;
+    // The next command's place is known when this one is read, so there is no sequence to go through.
     while p.left != 0 {
         let at = p.at;
         let next = reader::next_place(file, at);
