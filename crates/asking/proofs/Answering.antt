@@ -25,7 +25,7 @@ use Rattle.asking.specs.Asks.{Askable, Answers}
 
 -- what a run leaves can be asked
 pub askable : {bs : List ℕ} {n : ℕ} {lent after : Lent} (tables : Tables) (r : Result Finished Refused) → Ran bs n lent after r → IfOk r (Stood bs n lent after tables) → IfOk r (Askable bs after.state)
-askable tables (Ok r) run w = record { room = w.room; holds = w.stands.holds; parties_are = w.parties_are; terms_are = w.terms_are; few = (omega (arith, w.few), omega (arith, w.few), omega (arith, w.stands.enters.few)) }
+askable tables (Ok r) run w = record { room = w.room; holds = w.stands.holds; parties_are = w.parties_are; terms_are = w.terms_are; few = (omega (arith, w.few), (omega (arith, w.few), omega (arith, w.stands.enters.few))) }
 askable tables (Err r) run w = search rules
 
 -- the stock is the same beside any registers
