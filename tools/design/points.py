@@ -5,7 +5,7 @@ KIND = r'0x(?:01|1[0-9A-C]|2[0-2]|3[0-9A-F]|4[0-5])\b'
 CHOOSERS = '''asking::count_of asking::told device::decide_made device::decide_checked device::effect_made
 device::execute quotes::execute desk::decide desk::effect commands::decide commands::effect setup::enter_setup
 scan::enter checks::is_plain checks::seen_right checks::field_fault checks::command_fault checks::made_fault
-learning::learn_parts turns::turn'''
+learning::learn_parts turns::turn device::decide device::effect checks::check_field checks::is_right'''
 
 POINTS = {
     1: [
@@ -22,7 +22,8 @@ POINTS = {
             r'(entry_of\(.*\)|\b(entry|half|same|other|e)) [!=]= 0|\b(entry|half|other|e)( as usize)? - 1\b'),
         ('fields that hold one', 'code', r'^ +pub (same|other|free): usize,'),
         ('0 for no kind, no section, no fields; no half', 'named',
-            'index::other_half records::section_of records::fields_in checks::seen_right path::parent_by'),
+            'index::other_half records::section_of records::fields_in checks::seen_right path::parent_by '
+            'path::parent_of'),
         ('no key as a number', 'code', r'NO_KEY'),
         ('zeros for no entry or no term', 'code', r'^ +(certificate|subject): (0|Subject::Tpm\(0\)),'),
         ('constants for roles and marks', 'code',
@@ -32,7 +33,7 @@ POINTS = {
         ('kinds as numbers: compared, matched or passed', 'code', r'^(?! +0x[0-9A-F]+,$).*\b' + KIND),
         ('kinds, roles, marks as numbers: parameters and fields', 'code',
             r'\b(kind|role|mark|outer|inner): u(8|16)\b|pub desk: u8|TermOf\(u8\)'),
-        ('a tag in place of a Subject', 'code', r'\btag\b|tag_at\(|file\[at \+ 3\] != 0'),
+        ('a tag in place of a Subject', 'code', r'\btag\b|tag_at\(|file\[at \+ 3\] [!=]= 0'),
         ('sections as numbers', 'code',
             r'\b(own|section) (==|<) \w+ \{|section: ([04]|section|u8),|section: u8[,)]|file\.len\(\), 4,'),
         ('packed field codes', 'code', r'^const FIELDS|^ +FIELDS$|field_table\(|fields_in\(|low_field\(|fields / 256'),
@@ -65,7 +66,8 @@ POINTS = {
         ('checks of a record', 'groups', [
             'checks::made_right checks::sent_right checks::issue_right checks::pairs_right',
             'checks::signature_right checks::certificate_right']),
-        ('the scan of records and of commands', 'groups', ['scan::scan scan::scan_commands']),
+        ('the scan of records and of commands', 'groups',
+            ['scan::scan scan::scan_commands', 'scan::scan_records scan::scan_commands']),
         ('the length of a body, twice', 'groups', ['records::body_length records::length_of']),
         ('counts with branches that differ in one field', 'named', 'scan::count turns::step'),
         ('equal refusals of requests', 'code', r'return (Request|Attested) \{'),
@@ -133,7 +135,7 @@ POINTS = {
         ('tables, parties and terms', 'takes', 'tables parties terms'),
         ('state, ledger, outcomes and registers', 'takes', 'state ledger outcomes registers'),
         ('a list of bytes and where it ends (out, at)', 'takes', 'out at'),
-        ('Holds', 'says', r'\bHolds file'),
+        ('Holds', 'says', r'\bHolds \w'),
         ('Finds', 'says', r'\bFinds \w'),
         ('parties ≡ length', 'says', r'parties ≡ length'),
         ('terms ≡ length', 'says', r'terms ≡ length'),
@@ -166,7 +168,7 @@ POINTS = {
     ],
     7: [
         ('functions that choose a step by a kind, a section, a field or a question', 'named', CHOOSERS),
-        ('tests by which they choose', 'within', (CHOOSERS, r'match (kind|field|question|parts_of\(.*\)) \{|'
+        ('tests by which they choose', 'within', (CHOOSERS, r'match (kind|field|question|file\[at\]|parts_of\(.*\)) \{|'
             r'if (kind|section) (==|<|<=|>=|>|!=) \w+ \{|if let Field::|if commands::is_desk')),
     ],
     8: [
