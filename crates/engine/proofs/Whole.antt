@@ -98,6 +98,7 @@ module _ {bs : List ℕ} {n : ℕ} (lent between after : Lent) {tables' tables :
         state = ap (state_in (within after.state after.registers)) (sym entries_here) ∙ run_here;
         parties_are = ap (λ (x : Begun). x.parties) w.begun ∙ counts.0;
         terms_are = ap (λ (x : Begun). x.terms) w.begun ∙ counts.1;
+        first_is = ap (λ (x : Begun). x.first) w.begun ∙ w.filled.first_is;
         enough = w.enough;
         ledger = ap (λ (u : Lent). u.ledger) left.buffers ∙ loaded_ledger n (file_in bs) lent;
         long = room.ledger;

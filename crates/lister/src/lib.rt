@@ -46,7 +46,7 @@ fn refusal_line(out: &mut [u8], at: usize, ordinal: usize, number: u8) -> usize
 
 // "I certificate parent depth".
 #[tactic(auto, using(crate::proofs::Room::entry_short))]
-fn entry_line(out: &mut [u8], at: usize, e: Entry) -> usize
+pub fn ledger_line(out: &mut [u8], at: usize, e: Entry) -> usize
     requires { at + entry_bytes ≤ length out.old }
     ensures written { Written out.old at (entry_line e) out.new result }
     ensures upper_bound { result ≤ at + entry_bytes }
@@ -117,7 +117,7 @@ pub fn entries_into(ledger: &[Entry], out: &mut [u8], at: usize, issued: usize) 
 {
     let mut next = at;
     for i in 0..issued {
-        next = entry_line(out, next, ledger::read_one(ledger, i));
+        next = ledger_line(out, next, ledger::read_one(ledger, i));
     }
     next
 }
