@@ -1,16 +1,18 @@
 -- The faults of the fields of a body, one field after the other. Assumes nothing.
+use mathlib.Core.Bool.{true, false≢true}
 use mathlib.Core.Path.{◌≡◌, refl, sym, ap, ◌∙◌}
 use mathlib.Core.List.{List, ◌∷◌}
-use Prim.Native.Nat.{ℕ, zero, suc, ◌+◌, ◌<◌, ◌≤◌}
+use Prim.Native.Nat.{ℕ, zero, suc, ◌+◌, ◌-◌, ◌<◌, ◌≤◌}
 use native.Mathlib.Omega.{arith}
 use lib.ListN.{length, get_or, drop}
-use Rattle.std.proofs.Common.{add-one, drop-cons}
+use Rattle.std.proofs.Common.{add-one, drop-cons, Result, Ok, Err}
+use Rattle.std.specs.Result.{is_ok}
 use Rattle.std.proofs.lemmas.List.{drop_all}
 use Rattle.rules.specs.declared.Field.{Field}
 use Rattle.rules.specs.declared.Field.TheVariants.{RoleField}
 use Rattle.rules.specs.declared.Refusal.{Refusal}
-use Rattle.rules.specs.Codes.{number_of}
-use Rattle.rules.specs.Record.{body_length, fields_of, width, widths}
+use Rattle.rules.specs.Codes.{number_of, number_in}
+use Rattle.rules.specs.Record.{body_length, section_of, fields_of, width, widths}
 use Rattle.rules.specs.Load.{first}
 use Rattle.tables.specs.Columns.{Terms}
 use Rattle.checks.specs.There.{field_fault_noted}
@@ -44,6 +46,22 @@ module _ (xs : List Field) (i : ℕ) (h : i < length xs) where
 pub none_left : (xs : List Field) (i : ℕ) → length xs ≤ i → (v : Terms) (parties terms at : ℕ) (body : List ℕ) → fields_fault_noted v parties terms (drop i xs) at body ≡ 0
 unfolding fields_fault_noted
 none_left xs i h v parties terms at body = rw (drop_all i xs h) refl
+
+-- the fields of a kind's body that were checked are right, whatever the parties
+pub right_of : (v : Terms) (terms m k : ℕ) (body : List ℕ) (r : Result Unit Refusal) → fields_of k ≡ fields_of m → ((parties : ℕ) → number_in r ≡ fields_fault_noted v parties terms (fields_of m) 0 body) → is_ok r ≡ true
+    → (parties : ℕ) → fields_fault_noted v parties terms (fields_of k) 0 body ≡ 0
+right_of v terms m k body (Ok _) e h o parties = rw e (sym (h parties))
+right_of v terms m k body (Err x) e h o parties = absurd (false≢true o)
+
+-- a private key has the fields of a public one
+pub key_fields : (k : ℕ) → 0x10 ≤ k → k < 0x12 → fields_of k ≡ fields_of 0x10
+unfolding section_of fields_of
+key_fields k l u = let e : k ≡ 0x10 + (k - 0x10) = omega (arith, l) in rw e (go (k - 0x10) (omega (arith, l, u)))
+  where
+    go : (d : ℕ) → d < 2 → fields_of (0x10 + d) ≡ fields_of 0x10
+    go zero h = refl
+    go (suc zero) h = refl
+    go (suc (suc d)) h = absurd (omega (arith, h))
 
 -- where a walk over the fields of a kind's body stands: what is left of them is in the body, and what is wrong with it is
 -- all that is wrong

@@ -1,6 +1,6 @@
 // Records checked by the parties and the terms declared so far: refusals 3 to 8.
 
-ghost use Rattle.std.specs.Prelude.{◌≡◌, ◌⊎◌, true, [], ◌∷◌, ◌+◌, ◌<◌, ◌≤◌, ltb, length, get_or};
+ghost use Rattle.std.specs.Prelude.{◌≡◌, ◌⊎◌, true, [], ◌∷◌, ℕ, ◌+◌, ◌<◌, ◌≤◌, ltb, length, get_or};
 ghost use Rattle.rules.specs.declared.Field.TheVariants.{IdentifierField, AttributesField, SubjectField, PartyField, AnyTerm, TermOf, IakPairField};
 ghost use Rattle.rules.specs.Codes.{number_in, kind_number};
 ghost use Rattle.rules.specs.Term.{public_key_kind, private_key_kind, hash_kind, signature_kind, certificate_kind};
@@ -143,7 +143,7 @@ impl<'a> Declared<'a> {
     #[tactic(auto, using(crate::proofs::Fields::refused_some), unfolding(crate::specs::There::field_fault_noted, crate::specs::Fields::fields_fault_noted, rules::specs::Load::first, rules::specs::Record::width))]
     fn check_key(&self, body: &[u8]) -> Result<(), Refusal>
         requires { 3 ≤ length body.now }
-        ensures { number_in result ≡ fields_fault_noted (tables_in self.now.tables.now).terms self.now.parties self.now.terms (IdentifierField ∷ AttributesField ∷ []) 0 body.now }
+        ensures { (parties : ℕ) → number_in result ≡ fields_fault_noted (tables_in self.now.tables.now).terms parties self.now.terms (IdentifierField ∷ AttributesField ∷ []) 0 body.now }
     {
         check_range(body[2] as usize, Attributes::LIMIT)
     }
@@ -152,7 +152,7 @@ impl<'a> Declared<'a> {
     #[tactic(auto, using(crate::proofs::Fields::refused_some), unfolding(crate::specs::There::field_fault_noted, crate::specs::Fields::fields_fault_noted, rules::specs::Load::first, rules::specs::Record::width))]
     fn check_signature(&self, body: &[u8]) -> Result<(), Refusal>
         requires { 4 ≤ length body.now }
-        ensures { number_in result ≡ fields_fault_noted (tables_in self.now.tables.now).terms self.now.parties self.now.terms (AnyTerm ∷ TermOf private_key_kind ∷ []) 0 body.now }
+        ensures { (parties : ℕ) → number_in result ≡ fields_fault_noted (tables_in self.now.tables.now).terms parties self.now.terms (AnyTerm ∷ TermOf private_key_kind ∷ []) 0 body.now }
     {
         self.check_term(body, 0)?;
         self.check_kind(body, 2, TermKind::PrivateKey.number())
@@ -162,7 +162,7 @@ impl<'a> Declared<'a> {
     #[tactic(auto, using(crate::proofs::Fields::refused_some), unfolding(crate::specs::There::field_fault_noted, crate::specs::Fields::fields_fault_noted, rules::specs::Load::first, rules::specs::Record::width))]
     fn check_certificate(&self, body: &[u8]) -> Result<(), Refusal>
         requires { 7 ≤ length body.now }
-        ensures { number_in result ≡ fields_fault_noted (tables_in self.now.tables.now).terms self.now.parties self.now.terms (TermOf public_key_kind ∷ SubjectField ∷ TermOf private_key_kind ∷ []) 0 body.now }
+        ensures { (parties : ℕ) → number_in result ≡ fields_fault_noted (tables_in self.now.tables.now).terms parties self.now.terms (TermOf public_key_kind ∷ SubjectField ∷ TermOf private_key_kind ∷ []) 0 body.now }
     {
         self.check_kind(body, 0, TermKind::PublicKey.number())?;
         check_range(body[2] as usize, 2)?;
@@ -173,7 +173,7 @@ impl<'a> Declared<'a> {
     #[tactic(auto, using(crate::proofs::Fields::refused_some), unfolding(crate::specs::There::field_fault_noted, crate::specs::Fields::fields_fault_noted, rules::specs::Load::first, rules::specs::Record::width))]
     fn check_terms(&self, body: &[u8]) -> Result<(), Refusal>
         requires { 4 ≤ length body.now }
-        ensures { number_in result ≡ fields_fault_noted (tables_in self.now.tables.now).terms self.now.parties self.now.terms (AnyTerm ∷ AnyTerm ∷ []) 0 body.now }
+        ensures { (parties : ℕ) → number_in result ≡ fields_fault_noted (tables_in self.now.tables.now).terms parties self.now.terms (AnyTerm ∷ AnyTerm ∷ []) 0 body.now }
     {
         self.check_term(body, 0)?;
         self.check_term(body, 2)
@@ -233,7 +233,7 @@ impl<'a> Declared<'a> {
     #[tactic(auto, unfolding(rules::specs::Record::section_of, rules::specs::Record::fields_of, rules::specs::Record::body_length, rules::specs::Record::widths, rules::specs::Record::width, crate::specs::There::field_fault_noted, crate::specs::Fields::fields_fault_noted, rules::specs::Load::first))]
     pub fn seen_right(&self, kind: u8, body: &[u8]) -> bool
         requires { body_length kind ≤ length body.now }
-        ensures { result ≡ true → fields_fault_noted (tables_in self.now.tables.now).terms self.now.parties self.now.terms (fields_of kind) 0 body.now ≡ 0 }
+        ensures { result ≡ true → (parties : ℕ) → fields_fault_noted (tables_in self.now.tables.now).terms parties self.now.terms (fields_of kind) 0 body.now ≡ 0 }
     {
         match kind {
             0x10 | 0x11 => self.check_key(body).is_ok(),

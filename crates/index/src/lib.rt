@@ -134,9 +134,9 @@ pub fn enter_term(
     links[vacancy.at] = (terms + 1) as u16;
     if let Some(half) = vacancy.half {
         if kind == 0x10 {
-            tables.note_half(terms, half);
+            tables.note_half(terms, Some(half));
         } else {
-            tables.note_half(half, terms);
+            tables.note_half(half, Some(terms));
         }
     }
     Ok(())

@@ -129,7 +129,7 @@ fn append(tables: &mut Tables, n: usize, certificate: usize, depth: u16, ek: u16
     requires { (n < term_limit) × (certificate < term_limit) }
     ensures { Appends tables.old n certificate depth ek tables.new }
 {
-    tables.note_entry(certificate, n);
+    tables.note_entry(certificate, Some(n));
     tables.note_depth(certificate, depth);
     tables.note_ek(n, ek);
 }

@@ -11,12 +11,15 @@ use borrow.Author.Tests.{ltb-true, ltb-false}
 use Rattle.std.proofs.Common.{Result, Ok, Err, IfOk}
 use Rattle.std.specs.Result.{is_err}
 use Rattle.rules.specs.declared.Refused.{Refused}
-use Rattle.rules.specs.Limits.{state_bytes}
+use Rattle.rules.specs.Limits.{party_limit, state_bytes}
 use Rattle.rules.specs.File.{File}
 use Rattle.state.specs.View.{view}
 use Rattle.tables.specs.declared.columns.Tables.{Tables}
 use Rattle.tables.specs.Columns.{tables_in}
+use Rattle.tables.proofs.Stores.{zeros_at}
+use Rattle.index.specs.Tree.{link_count}
 use Rattle.index.specs.Indexed.{Indexed}
+use Rattle.index.proofs.Empty.{indexed_none}
 use Rattle.index.proofs.Fields.{kind_follows, field_follows}
 use Rattle.index.proofs.Halves.{half_follows}
 use Rattle.lookup.specs.Commands.{commands_from}
@@ -31,7 +34,14 @@ cleared s e l = rw (← l) e
 
 -- what the scan starts from
 pub scan_ready : {bytes old x : List ℕ} {tables : Tables} → FillReady bytes old tables → x ≡ replicate (length old) 0 → length x ≡ length old → ScanReady bytes x tables
-scan_ready r e l = record { short = r.short; room = l ∙ r.room; clear = rw r.room at e; empty = r.empty }
+scan_ready r e l = record {
+  short = r.short;
+  room = l ∙ r.room;
+  clear = rw r.room at e;
+  unsigned = λ p _. rw r.empty.signers (zeros_at party_limit p);
+  links = replicate link_count 0;
+  indexed = indexed_none _ _ _ _ refl r.empty;
+}
 
 module _ (bytes s links : List ℕ) (tables : Tables) (n : Tally) (indexed : Indexed bytes (view s).place links tables n.terms) where
   -- a half is a declared term

@@ -106,7 +106,7 @@ empty_of m bs s signers clear l room unsigned =
     }
 
 pub described_empty : (bs s : List ℕ) (tables : Tables) → ScanReady bs s tables → Describes empty_file bs s (tables_in tables).signer (record { section = 0; parties = 0; terms = 0; commands = 0 }) 0
-described_empty bs s tables r = empty_of state_bytes bs s (tables_in tables).signer r.clear r.room (omega arith) (λ p _. rw r.empty.signers (zeros_at party_limit p))
+described_empty bs s tables r = empty_of state_bytes bs s (tables_in tables).signer r.clear r.room (omega arith) r.unsigned
 
 -- what the columns say of the terms is kept where the places are
 there_kept : (bs s s' : List ℕ) (n : ℕ) → length s' ≡ length s → (view s).place ≡ (view s').place → TermsThere bs s n → TermsThere bs s' n

@@ -27,7 +27,7 @@ use Rattle.learning.specs.Noted.{Noted}
 use Rattle.checks.specs.There.{head_fault}
 use Rattle.checks.specs.Fields.{fields_fault_noted}
 use Rattle.index.specs.Tree.{link_count}
-use Rattle.index.proofs.Empty.{indexed_none}
+use Rattle.index.proofs.Empty.{indexed_anew}
 use Rattle.records.proofs.Lengths.{section_most}
 use Rattle.theorems.proofs.Loading.{entered, empty_good}
 use Rattle.theorems.proofs.Pieces.{body_at, load_from, feed_end}
@@ -57,7 +57,7 @@ pub at_start : {bs s links : List ℕ} {tables : Tables} {n : Tally} → (n.sect
     → ScanReady bs s tables → links ≡ replicate link_count 0 → Stands bs s links tables n 0
 at_start {bs} {s} {links} {tables} z r e =
     subst⁻¹ (λ (m : Tally). Stands bs s links tables m 0) (λ i. record { section = z.0 i; parties = z.1.0 i; terms = z.1.1.0 i; commands = z.1.1.1 i })
-    (record { here = at_none bs s tables r; indexed = indexed_none bs (view s).place links tables e r.empty })
+    (record { here = at_none bs s tables r; indexed = indexed_anew r.indexed links e })
 
 -- a refusal's number is not 0
 pub number_some : (r : Refusal) → 0 < number_of r

@@ -9,7 +9,7 @@ use Rattle.rules.specs.Load.{first, refuse_unless, term_at, setup_at, feed, load
 use Rattle.rules.specs.State.{taught, put}
 use Rattle.state.specs.View.{Columns, view, with_place}
 use Rattle.tables.specs.declared.columns.Tables.{Tables}
-use Rattle.tables.specs.Columns.{Terms, EmptyTables, tables_in}
+use Rattle.tables.specs.Columns.{Terms, tables_in}
 use Rattle.learning.specs.There.{term_there}
 use Rattle.index.specs.Indexed.{Indexed}
 use Rattle.checks.specs.There.{TermsThere, role_there, any_alike_there, head_fault}
@@ -117,12 +117,14 @@ pub record Begins (bs s : List ℕ) (tables : Tables) (n : Tally) (at : ℕ) : T
   pub stands : Stands bs s links tables n at
   pub begun : at < length bs → section_of (get_or bs at 0) ≡ command_section
 
--- what the scan starts from
+-- what the scan starts from: no party has a signing key, and the tables are indexed for no term
 pub record ScanReady (bs s : List ℕ) (tables : Tables) : Type 0 where
   pub short : length bs ≤ file_limit
   pub room : length s ≡ state_bytes
   pub clear : s ≡ replicate state_bytes 0
-  pub empty : EmptyTables tables
+  pub unsigned : (p : ℕ) → p < party_limit → (tables_in tables).signer p ≡ 0
+  pub links : List ℕ
+  pub indexed : Indexed bs (view s).place links tables 0
 
 -- what the scan leaves: the file that the bytes declare, described; or the refusal
 pub record ScanResult (bs s : List ℕ) (signers : ℕ → ℕ) (r : Result Scanned Refused) : Type 0 where

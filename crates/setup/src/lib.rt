@@ -57,7 +57,7 @@ pub fn enter_setup(
             if !before.may_sign(party, t) {
                 return Err(Refusal::NotASigner);
             }
-            tables.note_signer(party, t);
+            tables.note_signer(party, Some(t));
         }
     }
     Ok(())

@@ -1,6 +1,6 @@
 // The columns of the tables, and what reads and notes them.
 
-ghost use Rattle.std.specs.Prelude.{◌≡◌, ◌<◌, ◌+◌};
+ghost use Rattle.std.specs.Prelude.{◌≡◌, ◌<◌, IfSome};
 ghost use Rattle.rules.specs.Limits.{party_limit, term_limit};
 ghost use Rattle.rules.specs.State.{put};
 ghost use Rattle.tables.specs.Columns.{field_words, serial_buckets, one_more, EmptyTables, tables_in, field_of, with_signer, with_half, with_entry, with_depth, with_terms, with_boards, with_kind, with_field, with_ek, linked};
@@ -28,6 +28,17 @@ pub struct Tables {
     serials: [u16; rules::TERM_LIMIT],
     earlier: [u16; rules::TERM_LIMIT],
     eks: [u16; rules::TERM_LIMIT],
+}
+
+// One more than a number, 0 for none.
+fn one_more(n: Option<usize>) -> u16
+    requires { IfSome n (λ i. i < 65535) }
+    ensures { result ≡ one_more n }
+{
+    match n {
+        Some(i) => (i + 1) as u16,
+        None => 0,
+    }
 }
 
 impl Tables {
@@ -129,31 +140,31 @@ impl Tables {
         self.eks[place]
     }
 
-    // A party's signing key is noted.
+    // A party's signing key is noted, or that there is none.
     #[tactic(auto, using(crate::proofs::Stores::column_put))]
-    pub fn note_signer(&mut self, party: usize, key: usize)
-        requires { (party < party_limit) × (key < term_limit) }
-        ensures { tables_in self.new ≡ with_signer (tables_in self.old) (put (tables_in self.old).signer party (key + 1)) }
+    pub fn note_signer(&mut self, party: usize, key: Option<usize>)
+        requires { (party < party_limit) × IfSome key (λ n. n < 65535) }
+        ensures { tables_in self.new ≡ with_signer (tables_in self.old) (put (tables_in self.old).signer party (one_more key)) }
     {
-        self.signers[party] = (key + 1) as u16;
+        self.signers[party] = one_more(key);
     }
 
-    // A public key's private half is noted.
+    // A public key's private half is noted, or that there is none.
     #[tactic(auto, using(crate::proofs::Stores::column_put))]
-    pub fn note_half(&mut self, t: usize, half: usize)
-        requires { (t < term_limit) × (half < term_limit) }
-        ensures { tables_in self.new ≡ with_half (tables_in self.old) (put (tables_in self.old).half t (half + 1)) }
+    pub fn note_half(&mut self, t: usize, half: Option<usize>)
+        requires { (t < term_limit) × IfSome half (λ n. n < 65535) }
+        ensures { tables_in self.new ≡ with_half (tables_in self.old) (put (tables_in self.old).half t (one_more half)) }
     {
-        self.halves[t] = (half + 1) as u16;
+        self.halves[t] = one_more(half);
     }
 
-    // The place of a certificate's entry is noted.
+    // The place of a certificate's entry is noted, or that there is none.
     #[tactic(auto, using(crate::proofs::Stores::column_put))]
-    pub fn note_entry(&mut self, t: usize, place: usize)
-        requires { (t < term_limit) × (place < term_limit) }
-        ensures { tables_in self.new ≡ with_entry (tables_in self.old) (put (tables_in self.old).entry t (place + 1)) }
+    pub fn note_entry(&mut self, t: usize, place: Option<usize>)
+        requires { (t < term_limit) × IfSome place (λ n. n < 65535) }
+        ensures { tables_in self.new ≡ with_entry (tables_in self.old) (put (tables_in self.old).entry t (one_more place)) }
     {
-        self.entries[t] = (place + 1) as u16;
+        self.entries[t] = one_more(place);
     }
 
     // The depth of a certificate's entry is noted.

@@ -25,7 +25,7 @@ right c =
       | then-not-seen_right+else-loop-field-test w ↦
           sym (fields_left _ _ _ _ _ _ c.section_of-section.ensures c.next_place-end.ensures c.in_default.ensures (sym (walk_done _ _ w.loop-field.invariant.walk w.loop-field-test.false)))
       | else-not-seen_right w ↦
-          sym (fields_left _ _ _ _ _ _ c.section_of-section.ensures c.next_place-end.ensures c.in_default.ensures (sym (c.seen_right.ensures w.if-not-seen_right.false)))
+          sym (fields_left _ _ _ _ _ _ c.section_of-section.ensures c.next_place-end.ensures c.in_default.ensures (sym (c.seen_right.ensures w.if-not-seen_right.false _)))
     ]
 
 pub records-init : goal.records-init
@@ -76,7 +76,7 @@ enter-requires c =
       | then-not-seen_right+else-loop-field-test w ↦
           sym (fields_left _ _ _ _ _ _ c.section_of-section.ensures c.next_place-end.ensures c.in_default.ensures (sym (walk_done _ _ w.loop-field.invariant.walk w.loop-field-test.false)))
       | else-not-seen_right w ↦
-          sym (fields_left _ _ _ _ _ _ c.section_of-section.ensures c.next_place-end.ensures c.in_default.ensures (sym (c.seen_right.ensures w.if-not-seen_right.false)))
+          sym (fields_left _ _ _ _ _ _ c.section_of-section.ensures c.next_place-end.ensures c.in_default.ensures (sym (c.seen_right.ensures w.if-not-seen_right.false _)))
     ] in
     let a = asks w (omega arith) z (body_same _ _ _ c.next_place-end.ensures) in
     (c.section_of-section.ensures, a.0, w.indexed, refl, a.1)
