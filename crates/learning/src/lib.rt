@@ -59,7 +59,7 @@ pub fn learn_term(tables: &Tables, state: &mut [u8], party: usize, t: usize)
 
 // The party learns each part of term t.
 #[cycle(learn_parts_learn_term)]
-fn learn_parts(tables: &Tables, state: &mut [u8], party: usize, t: usize)
+pub fn learn_parts(tables: &Tables, state: &mut [u8], party: usize, t: usize)
     requires { Ready (tables_in tables.now).terms state.old party t }
     ensures { view state.new ≡ with_knows (view state.old) (learn_parts_noted (tables_in tables.now).terms party t (view state.old).knows) }
 {
