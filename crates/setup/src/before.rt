@@ -1,7 +1,6 @@
 // What set-up records 20 to 22 are allowed by: the parties and the terms, the signing keys and the TPM tables so far.
 
 ghost use Rattle.std.specs.Prelude.{◌≡◌, ◌*◌, ◌<◌, ◌≤◌, length};
-ghost use Rattle.rules.specs.Codes.{role_number};
 ghost use Rattle.rules.specs.Limits.{party_limit};
 ghost use Rattle.rules.specs.Attributes.{has as has_flag};
 ghost use Rattle.rules.specs.Term.{attributes_of};
@@ -30,13 +29,11 @@ pub struct Before<'a> {
 impl<'a> Before<'a> {
     // Whether a key is the signing key of one of the parties of a role.
     #[tactic(auto, using(crate::proofs::Signing::signs_found))]
-    fn signs_for_role(&self, role: Role, key: usize) -> bool
-        ensures { result ≡ signs_there self.now.file.now (tables_in self.now.tables.now).signer (role_number role) key self.now.parties }
+    pub fn signs_for_role(&self, role: u8, key: usize) -> bool
+        ensures { result ≡ signs_there self.now.file.now (tables_in self.now.tables.now).signer role key self.now.parties }
     {
         for p in 0..self.parties {
-            if self.tables.signer_of(p) == Some(key)
-                && checks::role_of(self.file, p) == role.number()
-            {
+            if self.tables.signer_of(p) == Some(key) && checks::role_of(self.file, p) == role {
                 return true;
             }
         }
@@ -63,7 +60,7 @@ impl<'a> Before<'a> {
             0x19 => {
                 self.file[at + 3] == 0
                     && self.signs_for_role(
-                        Role::TpmMaker,
+                        Role::TpmMaker.number(),
                         records::word_at(self.file, at + 6) as usize,
                     )
             }
