@@ -14,10 +14,10 @@ pub fn fill(file: &[u8], state: &mut [u8], tables: &mut Tables) -> Result<Scanne
     requires { FillReady file.now state.old tables.old }
     ensures { FillResult file.now state.new tables.new result }
 {
-    state.fill(0);
+    state::clear(state);
     let found = scan::scan(file, state, tables);
     if found.is_err() {
-        state.fill(0);
+        state::clear(state);
     }
     found
 }
