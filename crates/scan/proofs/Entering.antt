@@ -32,7 +32,6 @@ use Rattle.theorems.proofs.Pieces.{body_at, body_length_lem}
 use Rattle.theorems.proofs.Terms.{declared}
 use Rattle.tables.specs.declared.columns.Tables.{Tables}
 use Rattle.tables.specs.Columns.{tables_in}
-use Rattle.tables.proofs.Stores.{zeros_at}
 use Rattle.state.specs.View.{Columns, view, with_knows, with_table, with_place}
 use Rattle.state.proofs.Exact.{view_zero}
 use Rattle.learning.specs.There.{kind_there, term_there, TermRecord, parts_there, learn_there}
