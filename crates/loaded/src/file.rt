@@ -1,15 +1,16 @@
 // What the code keeps of a loaded file, and what it reads of it.
 #![tactic(auto, using(crate::proofs::Reading::field_read), unfolding(rules::specs::File::hashed_term, rules::specs::File::message, rules::specs::File::signing_key, rules::specs::File::attested_key, rules::specs::File::credential_term, rules::specs::File::credential_number, rules::specs::File::credential_key, rules::specs::File::idevid_certificate, rules::specs::File::idevid_key, rules::specs::File::ldevid_message, rules::specs::File::ldevid_certificate, rules::specs::File::certified_key, rules::specs::File::signer, rules::specs::File::left_of, rules::specs::File::right_of, rules::specs::File::register_of, rules::specs::File::quoted_value, rules::specs::File::quote_number))]
 
-ghost use Rattle.std.specs.Prelude.{◌≡◌, ◌<◌, ◌≤◌, length};
-ghost use Rattle.rules.specs.Limits.{party_limit, state_bytes};
+ghost use Rattle.std.specs.Prelude.{◌≡◌, ◌+◌, ◌<◌, ◌≤◌, eqb, length};
+ghost use Rattle.rules.specs.Limits.{party_limit, term_limit, state_bytes};
 ghost use Rattle.rules.specs.Codes.{role_number, kind_number};
 ghost use Rattle.rules.specs.Attributes.{same_attributes};
 ghost use Rattle.rules.specs.Term.{idevid_request_kind, certificate_kind};
 ghost use Rattle.rules.specs.File.{is_role, is_kind, kind, field, subject, attributes, paired, half_in, signs_for, signs_for_role, signs_for_some, hashed_term, message, signing_key, attested_key, credential_term, credential_number, credential_key, idevid_certificate, idevid_key, ldevid_message, ldevid_certificate, certified_key, signer, left_of, right_of, register_of, quoted_value, quote_number};
 ghost use Rattle.rules.specs.Device.{key_has};
 ghost use Rattle.state.specs.View.{view};
-ghost use Rattle.tables.specs.Columns.{field_words};
+ghost use Rattle.tables.specs.Columns.{field_words, tables_in};
+ghost use Rattle.index.specs.Indexed.{passes};
 ghost use Rattle.loaded.specs.Loaded.{file_in, Reads, Holds, Learns, subject_by};
 
 use crate::terms::{Certificate, Credential, IdevidRequest, LdevidRequest, Pair, Quote, Signature};
@@ -94,20 +95,30 @@ impl<'a> Loaded<'a> {
         self.attribute_bits(t) / flag as u16 % 2 == 1
     }
 
-    // Whether a public and a private key are a pair.
-    #[tactic(auto, using(crate::proofs::Reading::pair_read, crate::proofs::Reading::some_is))]
-    pub fn is_pair(&self, key: usize, half: usize) -> bool
-        requires { (key < length (file_in self.now.file.now).terms) × (half < length (file_in self.now.file.now).terms) }
-        ensures { result ≡ paired (file_in self.now.file.now) key half }
+    // Whether a term is noted as the private half of a key.
+    #[tactic(auto, using(crate::proofs::Reading::some_is))]
+    pub fn is_half(&self, key: usize, half: usize) -> bool
+        requires { key < term_limit }
+        ensures { result ≡ eqb ((tables_in self.now.tables.now).half key) (half + 1) }
     {
         self.tables.half_of(key) == Some(half)
     }
 
-    // Whether a party's TPM holds the private half of a public key.
+    // Whether a public and a private key are a pair.
+    #[tactic(auto, using(crate::proofs::Reading::pair_read, crate::proofs::Reading::few_read))]
+    pub fn is_pair(&self, key: usize, half: usize) -> bool
+        requires { (key < length (file_in self.now.file.now).terms) × (half < length (file_in self.now.file.now).terms) }
+        ensures { result ≡ paired (file_in self.now.file.now) key half }
+    {
+        self.is_half(key, half)
+    }
+
+    // Whether a party's TPM holds the private half of a public key: the one that is noted, which is a declared key's own.
     #[tactic(auto, using(crate::proofs::Reading::halves))]
     pub fn holds_half(&self, state: &[u8], party: usize, key: usize) -> bool
-        requires { (state_bytes ≤ length state.now) × (party < length (file_in self.now.file.now).roles) × (key < length (file_in self.now.file.now).terms) }
-        ensures { result ≡ half_in (file_in self.now.file.now) ((view state.now).table party) key }
+        requires { (state_bytes ≤ length state.now) × (party < party_limit) × (key < term_limit) }
+        ensures noted { result ≡ passes ((view state.now).table party) ((tables_in self.now.tables.now).half key) }
+        ensures half { key < length (file_in self.now.file.now).terms → result ≡ half_in (file_in self.now.file.now) ((view state.now).table party) key }
     {
         match self.tables.half_of(key) {
             Some(half) => state::in_table(state, party, half),
