@@ -57,7 +57,7 @@ impl<'a> Loaded<'a> {
     }
 
     // A field of a term.
-    fn field(&self, t: usize, i: usize) -> usize
+    pub fn field(&self, t: usize, i: usize) -> usize
         requires { (t < length (file_in self.now.file.now).terms) × (i < field_words) }
         ensures { result ≡ field (file_in self.now.file.now) t i }
     {
@@ -66,7 +66,7 @@ impl<'a> Loaded<'a> {
 
     // The attributes of a key, as a number; 0 of another term.
     #[tactic(auto, using(crate::proofs::Reading::key_bits, crate::proofs::Reading::other_bits))]
-    fn attribute_bits(&self, t: usize) -> u16
+    pub fn attribute_bits(&self, t: usize) -> u16
         requires { t < length (file_in self.now.file.now).terms }
         ensures { result ≡ (attributes (file_in self.now.file.now) t).bits }
     {
