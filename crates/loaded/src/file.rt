@@ -129,7 +129,7 @@ impl<'a> Loaded<'a> {
     // Whether a key is the signing key of a party.
     #[tactic(auto, using(crate::proofs::Reading::signs_read, crate::proofs::Reading::some_is))]
     pub fn signs(&self, party: usize, key: usize) -> bool
-        requires { (party < party_limit) × (key < length (file_in self.now.file.now).terms) }
+        requires { party < party_limit }
         ensures { result ≡ signs_for (file_in self.now.file.now) party key }
     {
         self.tables.signer_of(party) == Some(key)
@@ -137,7 +137,6 @@ impl<'a> Loaded<'a> {
 
     // Whether a key is the signing key of a party of a role.
     pub fn signs_for_role(&self, role: Role, key: usize) -> bool
-        requires { key < length (file_in self.now.file.now).terms }
         ensures { result ≡ signs_for_role (file_in self.now.file.now) (role_number role) key }
     {
         for p in 0..rules::PARTY_LIMIT {
@@ -151,7 +150,6 @@ impl<'a> Loaded<'a> {
     // Whether a key is the signing key of one who may sign.
     #[tactic(auto, unfolding(rules::specs::File::signs_for_some))]
     pub fn signs_for_some(&self, who: Signers, key: usize) -> bool
-        requires { key < length (file_in self.now.file.now).terms }
         ensures { result ≡ signs_for_some (file_in self.now.file.now) who key }
     {
         who.maker && self.signs_for_role(Role::TpmMaker, key)
