@@ -6,7 +6,7 @@ ghost use Rattle.rules.specs.Limits.{party_limit, term_limit, state_bytes};
 ghost use Rattle.rules.specs.Codes.{role_number, kind_number};
 ghost use Rattle.rules.specs.Attributes.{same_attributes};
 ghost use Rattle.rules.specs.Term.{idevid_request_kind, certificate_kind};
-ghost use Rattle.rules.specs.File.{is_role, is_kind, kind, field, subject, attributes, paired, half_in, signs_for, signs_for_role, signs_for_some, hashed_term, message, signing_key, attested_key, credential_term, credential_number, credential_key, idevid_certificate, idevid_key, ldevid_message, ldevid_certificate, certified_key, signer, left_of, right_of, register_of, quoted_value, quote_number};
+ghost use Rattle.rules.specs.File.{is_role, is_kind, term, kind, field, subject, attributes, paired, half_in, signs_for, signs_for_role, signs_for_some, hashed_term, message, signing_key, attested_key, credential_term, credential_number, credential_key, idevid_certificate, idevid_key, ldevid_message, ldevid_certificate, certified_key, signer, left_of, right_of, register_of, quoted_value, quote_number};
 ghost use Rattle.rules.specs.Device.{key_has};
 ghost use Rattle.state.specs.View.{view};
 ghost use Rattle.tables.specs.Columns.{field_words, tables_in};
@@ -14,7 +14,7 @@ ghost use Rattle.index.specs.Indexed.{passes};
 ghost use Rattle.loaded.specs.Loaded.{file_in, Reads, Holds, Learns, subject_by};
 
 use crate::terms::{Certificate, Credential, IdevidRequest, LdevidRequest, Pair, Quote, Signature};
-use rules::{Attributes, Role, Signers, Subject, TermKind};
+use rules::{Attributes, Role, Signers, Subject, Term, TermKind};
 use tables::Tables;
 
 // The bytes of a file that loads, and the tables by which its terms are read.
@@ -162,7 +162,7 @@ impl<'a> Loaded<'a> {
         requires { t < length (file_in self.now.file.now).terms }
         ensures { result ≡ hashed_term (file_in self.now.file.now) t }
     {
-        self.field(t, 0)
+        self.field(t, 0) // the term
     }
 
     // A signature.
@@ -182,7 +182,7 @@ impl<'a> Loaded<'a> {
         requires { t < length (file_in self.now.file.now).terms }
         ensures { result ≡ attested_key (file_in self.now.file.now) t }
     {
-        self.field(t, 0)
+        self.field(t, 0) // the key
     }
 
     // A credential.
@@ -199,8 +199,19 @@ impl<'a> Loaded<'a> {
         }
     }
 
+    // An IDevID request as a term.
+    pub fn idevid_request_of(&self, t: usize) -> Term
+        requires { kind (file_in self.now.file.now) t ≡ idevid_request_kind }
+        ensures { result ≡ term (file_in self.now.file.now) t }
+    {
+        Term::IdevidRequest(
+            subject_of(self.tables.field_of(t, 0), self.tables.field_of(t, 1)),
+            self.tables.field_of(t, 2),
+            self.tables.field_of(t, 3),
+        )
+    }
+
     // An IDevID request.
-    #[tactic(auto, using(crate::proofs::Reading::requests), unfolding(rules::specs::File::idevid_certificate, rules::specs::File::idevid_key))]
     pub fn idevid_request(&self, t: usize) -> IdevidRequest
         requires { kind (file_in self.now.file.now) t ≡ idevid_request_kind }
         ensures subject { result.subject ≡ subject (file_in self.now.file.now) t }
@@ -208,10 +219,13 @@ impl<'a> Loaded<'a> {
         ensures key { result.key ≡ idevid_key (file_in self.now.file.now) t }
         ensures declared { result.key < length (file_in self.now.file.now).terms }
     {
+        let Term::IdevidRequest(subject, certificate, key) = self.idevid_request_of(t) else {
+            unreachable!()
+        };
         IdevidRequest {
-            subject: subject_of(self.tables.field_of(t, 0), self.tables.field_of(t, 1)),
-            certificate: self.field(t, 2),
-            key: self.field(t, 3),
+            subject,
+            certificate: certificate as usize,
+            key: key as usize,
         }
     }
 
@@ -227,18 +241,32 @@ impl<'a> Loaded<'a> {
         }
     }
 
+    // A certificate as a term.
+    pub fn certificate_of(&self, t: usize) -> Term
+        requires { kind (file_in self.now.file.now) t ≡ certificate_kind }
+        ensures { result ≡ term (file_in self.now.file.now) t }
+    {
+        Term::Certificate(
+            self.tables.field_of(t, 0),
+            subject_of(self.tables.field_of(t, 1), self.tables.field_of(t, 2)),
+            self.tables.field_of(t, 3),
+        )
+    }
+
     // A certificate.
-    #[tactic(auto, using(crate::proofs::Reading::certificates), unfolding(rules::specs::File::certified_key, rules::specs::File::signer))]
     pub fn certificate(&self, t: usize) -> Certificate
         requires { kind (file_in self.now.file.now) t ≡ certificate_kind }
         ensures key { result.key ≡ certified_key (file_in self.now.file.now) t }
         ensures subject { result.subject ≡ subject (file_in self.now.file.now) t }
         ensures signer { result.signer ≡ signer (file_in self.now.file.now) t }
     {
+        let Term::Certificate(certified, subject, signer) = self.certificate_of(t) else {
+            unreachable!()
+        };
         Certificate {
-            key: self.field(t, 0),
-            subject: subject_of(self.tables.field_of(t, 1), self.tables.field_of(t, 2)),
-            signer: self.field(t, 3),
+            key: certified as usize,
+            subject,
+            signer: signer as usize,
         }
     }
 
@@ -259,7 +287,7 @@ impl<'a> Loaded<'a> {
         requires { t < length (file_in self.now.file.now).terms }
         ensures { result ≡ register_of (file_in self.now.file.now) t }
     {
-        self.field(t, 0)
+        self.field(t, 0) // the register
     }
 
     // A quote body.
