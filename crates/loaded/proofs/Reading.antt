@@ -2,7 +2,9 @@
 --     role_read, role_room       the role of a party
 --     kind_read, field_read      the kind and the fields of a term
 --     key_bits, other_bits       its attributes
---     request_subject, certificate_subject     its Subject, by two fields
+--     request_term, certificate_term     an IDevID request and a certificate, by their four fields
+--     idevid_found, certificate_found    a term of the kind has its constructor
+--     idevid_subject to certificate_signer     the fields of a request and of a certificate, by its constructor
 --     half_read, half_declared, pair_read      the private half of a key
 --     signs_read, signs_declared               the signing key of a party, which is declared
 --     role_signs, none_signs     a signing key of a party of a role
@@ -11,21 +13,22 @@
 use Rattle.tables.specs.declared.columns.Tables.{Tables}
 use mathlib.Core.Path.{◌≡◌, refl, sym, ap, ◌∙◌}
 use mathlib.Core.Bool.{Bool, true, false, ◌&&◌}
-use mathlib.Core.List.{List}
+use mathlib.Core.List.{List, [], ◌∷◌}
 use Rattle.std.proofs.Common.{Option, None, Some}
 use Rattle.std.specs.Option.{option_eq}
-use Prim.Native.Nat.{ℕ, ◌+◌, ◌*◌, ◌<◌, ◌≤◌}
+use Prim.Native.Nat.{ℕ, suc, ◌+◌, ◌*◌, ◌<◌, ◌≤◌}
 use native.Mathlib.Omega.{arith}
 use native.Mathlib.Numerals.{add-one}
 use lib.Dec.{eqb}
 use lib.ListN.{length, get_or}
 use borrow.Author.Tests.{eqb-true, eqb-false, eq-eqb, ne_eqb}
+use Rattle.rules.specs.declared.Subject.{Subject}
 use Rattle.rules.specs.declared.Subject.TheVariants.{Tpm, Device}
 use Rattle.rules.specs.declared.Term.{Term}
 use Rattle.rules.specs.declared.Term.TheVariants.{PublicKey, PrivateKey, Hash, Signature, Attest, Credential, Number, IdevidRequest, LdevidRequest, Certificate, Pair, Register, Quote}
 use Rattle.rules.specs.Limits.{party_limit, term_limit}
 use Rattle.rules.specs.Term.{idevid_request_kind, certificate_kind, kind_of, fields_in, subject_fields, attributes_of, subject_of}
-use Rattle.rules.specs.File.{is_role, role_of, is_kind, kind, term, field, subject, attributes, paired, half_in, signs_for, signs_for_role, is_signing_key, is_signing_key_for, idevid_key}
+use Rattle.rules.specs.File.{File, is_role, role_of, is_kind, kind, term, field, subject, attributes, paired, half_in, signs_for, signs_for_role, is_signing_key, is_signing_key_for, idevid_certificate, idevid_key, certified_key, signer}
 use Rattle.tables.specs.Columns.{field_words, one_more, tables_in, field_of}
 use Rattle.checks.specs.There.{role_there}
 use Rattle.index.specs.Indexed.{passes}
@@ -122,39 +125,116 @@ bits_of_other (Pair t u) h = refl
 bits_of_other (Register i) h = refl
 bits_of_other (Quote i t n) h = refl
 
-subject_of_request : (x : Term) → kind_of x ≡ idevid_request_kind → subject_of x ≡ subject_by (get_or (fields_in x) 0 0) (get_or (fields_in x) 1 0)
-unfolding kind_of fields_in subject_fields subject_of subject_by
-subject_of_request (PublicKey id a) e = absurd (omega arith)
-subject_of_request (PrivateKey id a) e = absurd (omega arith)
-subject_of_request (Hash t) e = absurd (omega arith)
-subject_of_request (Signature t k) e = absurd (omega arith)
-subject_of_request (Attest k) e = absurd (omega arith)
-subject_of_request (Credential t n k) e = absurd (omega arith)
-subject_of_request (Number id) e = absurd (omega arith)
-subject_of_request (IdevidRequest (Tpm n) c k) e = refl
-subject_of_request (IdevidRequest (Device n) c k) e = refl
-subject_of_request (LdevidRequest t c) e = absurd (omega arith)
-subject_of_request (Certificate k s p) e = absurd (omega arith)
-subject_of_request (Pair t u) e = absurd (omega arith)
-subject_of_request (Register i) e = absurd (omega arith)
-subject_of_request (Quote i t n) e = absurd (omega arith)
+-- an IDevID request and a certificate, by their four fields
+request_fields :
+    (x : Term) → kind_of x ≡ idevid_request_kind
+    → IdevidRequest (subject_by (get_or (fields_in x) 0 0) (get_or (fields_in x) 1 0)) (get_or (fields_in x) 2 0) (get_or (fields_in x) 3 0) ≡ x
+unfolding kind_of fields_in subject_fields subject_by
+request_fields (PublicKey id a) e = absurd (omega arith)
+request_fields (PrivateKey id a) e = absurd (omega arith)
+request_fields (Hash t) e = absurd (omega arith)
+request_fields (Signature t k) e = absurd (omega arith)
+request_fields (Attest k) e = absurd (omega arith)
+request_fields (Credential t n k) e = absurd (omega arith)
+request_fields (Number id) e = absurd (omega arith)
+request_fields (IdevidRequest (Tpm n) c k) e = refl
+request_fields (IdevidRequest (Device n) c k) e = refl
+request_fields (LdevidRequest t c) e = absurd (omega arith)
+request_fields (Certificate k s p) e = absurd (omega arith)
+request_fields (Pair t u) e = absurd (omega arith)
+request_fields (Register i) e = absurd (omega arith)
+request_fields (Quote i t n) e = absurd (omega arith)
 
-subject_of_certificate : (x : Term) → kind_of x ≡ certificate_kind → subject_of x ≡ subject_by (get_or (fields_in x) 1 0) (get_or (fields_in x) 2 0)
-unfolding kind_of fields_in subject_fields subject_of subject_by
-subject_of_certificate (PublicKey id a) e = absurd (omega arith)
-subject_of_certificate (PrivateKey id a) e = absurd (omega arith)
-subject_of_certificate (Hash t) e = absurd (omega arith)
-subject_of_certificate (Signature t k) e = absurd (omega arith)
-subject_of_certificate (Attest k) e = absurd (omega arith)
-subject_of_certificate (Credential t n k) e = absurd (omega arith)
-subject_of_certificate (Number id) e = absurd (omega arith)
-subject_of_certificate (IdevidRequest s c k) e = absurd (omega arith)
-subject_of_certificate (LdevidRequest t c) e = absurd (omega arith)
-subject_of_certificate (Certificate k (Tpm n) p) e = refl
-subject_of_certificate (Certificate k (Device n) p) e = refl
-subject_of_certificate (Pair t u) e = absurd (omega arith)
-subject_of_certificate (Register i) e = absurd (omega arith)
-subject_of_certificate (Quote i t n) e = absurd (omega arith)
+certificate_fields :
+    (x : Term) → kind_of x ≡ certificate_kind
+    → Certificate (get_or (fields_in x) 0 0) (subject_by (get_or (fields_in x) 1 0) (get_or (fields_in x) 2 0)) (get_or (fields_in x) 3 0) ≡ x
+unfolding kind_of fields_in subject_fields subject_by
+certificate_fields (PublicKey id a) e = absurd (omega arith)
+certificate_fields (PrivateKey id a) e = absurd (omega arith)
+certificate_fields (Hash t) e = absurd (omega arith)
+certificate_fields (Signature t k) e = absurd (omega arith)
+certificate_fields (Attest k) e = absurd (omega arith)
+certificate_fields (Credential t n k) e = absurd (omega arith)
+certificate_fields (Number id) e = absurd (omega arith)
+certificate_fields (IdevidRequest s c k) e = absurd (omega arith)
+certificate_fields (LdevidRequest t c) e = absurd (omega arith)
+certificate_fields (Certificate k (Tpm n) p) e = refl
+certificate_fields (Certificate k (Device n) p) e = refl
+certificate_fields (Pair t u) e = absurd (omega arith)
+certificate_fields (Register i) e = absurd (omega arith)
+certificate_fields (Quote i t n) e = absurd (omega arith)
+
+-- a term of one of these kinds has no other constructor
+one_certificate : (x : Term) → kind_of x ≡ certificate_kind → ((k : ℕ) (s : Subject) (p : ℕ) → x ≡ Certificate k s p → ⊥) → ⊥
+unfolding kind_of
+one_certificate (PublicKey id a) q none = omega arith
+one_certificate (PrivateKey id a) q none = omega arith
+one_certificate (Hash t) q none = omega arith
+one_certificate (Signature t k) q none = omega arith
+one_certificate (Attest k) q none = omega arith
+one_certificate (Credential t n k) q none = omega arith
+one_certificate (Number id) q none = omega arith
+one_certificate (IdevidRequest s c k) q none = omega arith
+one_certificate (LdevidRequest t c) q none = omega arith
+one_certificate (Certificate k s p) q none = none k s p refl
+one_certificate (Pair t u) q none = omega arith
+one_certificate (Register i) q none = omega arith
+one_certificate (Quote i t n) q none = omega arith
+
+one_idevid : (x : Term) → kind_of x ≡ idevid_request_kind → ((s : Subject) (c k : ℕ) → x ≡ IdevidRequest s c k → ⊥) → ⊥
+unfolding kind_of
+one_idevid (PublicKey id a) q none = omega arith
+one_idevid (PrivateKey id a) q none = omega arith
+one_idevid (Hash t) q none = omega arith
+one_idevid (Signature t k) q none = omega arith
+one_idevid (Attest k) q none = omega arith
+one_idevid (Credential t n k) q none = omega arith
+one_idevid (Number id) q none = omega arith
+one_idevid (IdevidRequest s c k) q none = none s c k refl
+one_idevid (LdevidRequest t c) q none = omega arith
+one_idevid (Certificate k s p) q none = omega arith
+one_idevid (Pair t u) q none = omega arith
+one_idevid (Register i) q none = omega arith
+one_idevid (Quote i t n) q none = omega arith
+
+pub certificate_found : (f : File) (t : ℕ) {x : Term} → x ≡ term f t → kind f t ≡ certificate_kind → ((k : ℕ) (s : Subject) (p : ℕ) → x ≡ Certificate k s p → ⊥) → ⊥
+unfolding kind
+certificate_found f t {x} e q none = one_certificate x (ap kind_of e ∙ q) none
+
+pub idevid_found : (f : File) (t : ℕ) {x : Term} → x ≡ term f t → kind f t ≡ idevid_request_kind → ((s : Subject) (c k : ℕ) → x ≡ IdevidRequest s c k → ⊥) → ⊥
+unfolding kind
+idevid_found f t {x} e q none = one_idevid x (ap kind_of e ∙ q) none
+
+-- the fields after a Subject
+after : (s : Subject) (more : List ℕ) (i : ℕ) → get_or (subject_fields s more) (suc (suc i)) 0 ≡ get_or more i 0
+unfolding subject_fields
+after (Tpm n) more i = refl
+after (Device n) more i = refl
+
+module _ (f : File) (t : ℕ) {a b : ℕ} {s : Subject} where
+  pub idevid_subject : term f t ≡ IdevidRequest s a b → subject f t ≡ s
+  unfolding subject subject_of
+  idevid_subject e = ap subject_of e
+
+  pub idevid_certificate_lem : term f t ≡ IdevidRequest s a b → idevid_certificate f t ≡ a
+  unfolding idevid_certificate field fields_in
+  idevid_certificate_lem e = ap (λ (x : Term). get_or (fields_in x) 2 0) e ∙ after s (a ∷ b ∷ []) 0
+
+  pub idevid_key_lem : term f t ≡ IdevidRequest s a b → idevid_key f t ≡ b
+  unfolding idevid_key field fields_in
+  idevid_key_lem e = ap (λ (x : Term). get_or (fields_in x) 3 0) e ∙ after s (a ∷ b ∷ []) 1
+
+  pub certificate_key : term f t ≡ Certificate a s b → certified_key f t ≡ a
+  unfolding certified_key field fields_in
+  certificate_key e = ap (λ (x : Term). get_or (fields_in x) 0 0) e
+
+  pub certificate_subject : term f t ≡ Certificate a s b → subject f t ≡ s
+  unfolding subject subject_of
+  certificate_subject e = ap subject_of e
+
+  pub certificate_signer : term f t ≡ Certificate a s b → signer f t ≡ b
+  unfolding signer field fields_in
+  certificate_signer e = ap (λ (x : Term). get_or (fields_in x) 3 0) e ∙ after s (b ∷ []) 0
 
 module _ {bs : List ℕ} {tables : Tables} (r : Reads bs tables) (t : ℕ) where
   pub key_bits : t < length (file_in bs).terms → (tables_in tables).terms.kind t ≤ 0x11 → (attributes (file_in bs) t).bits ≡ field_of (tables_in tables).terms t 1
@@ -168,24 +248,23 @@ module _ {bs : List ℕ} {tables : Tables} (r : Reads bs tables) (t : ℕ) where
   pub request_declared : kind (file_in bs) t ≡ idevid_request_kind → t < length (file_in bs).terms
   request_declared e = kind_declared bs e (λ z. omega arith)
 
-  pub request_key : kind (file_in bs) t ≡ idevid_request_kind → field (file_in bs) t 3 < length (file_in bs).terms
-  unfolding idevid_key
+  pub request_key : kind (file_in bs) t ≡ idevid_request_kind → idevid_key (file_in bs) t < length (file_in bs).terms
   request_key e = idevid_key_declared (checked_reads r) (request_declared e) e
 
   pub certificate_declared : kind (file_in bs) t ≡ certificate_kind → t < length (file_in bs).terms
   certificate_declared e = kind_declared bs e (λ z. omega arith)
 
-  pub request_subject : kind (file_in bs) t ≡ idevid_request_kind → subject (file_in bs) t ≡ subject_by (field_of (tables_in tables).terms t 0) (field_of (tables_in tables).terms t 1)
-  unfolding subject kind field
-  request_subject e =
-      let l = request_declared e in
-      subject_of_request (term (file_in bs) t) e ∙ rw (r.finds.field_is t 0 l (omega arith), r.finds.field_is t 1 l (omega arith)) refl
+  pub request_term : {a b c d : ℕ} {s : Subject} → kind (file_in bs) t ≡ idevid_request_kind → a ≡ field_of (tables_in tables).terms t 0 → b ≡ field_of (tables_in tables).terms t 1 → s ≡ subject_by a b → c ≡ field_of (tables_in tables).terms t 2 → d ≡ field_of (tables_in tables).terms t 3 → IdevidRequest s c d ≡ term (file_in bs) t
+  unfolding kind field
+  request_term k p q e u v =
+      let l = request_declared k in
+      rw (e, p, q, u, v, r.finds.field_is t 0 l (omega arith), r.finds.field_is t 1 l (omega arith), r.finds.field_is t 2 l (omega arith), r.finds.field_is t 3 l (omega arith)) (request_fields (term (file_in bs) t) k)
 
-  pub certificate_subject : kind (file_in bs) t ≡ certificate_kind → subject (file_in bs) t ≡ subject_by (field_of (tables_in tables).terms t 1) (field_of (tables_in tables).terms t 2)
-  unfolding subject kind field
-  certificate_subject e =
-      let l = certificate_declared e in
-      subject_of_certificate (term (file_in bs) t) e ∙ rw (r.finds.field_is t 1 l (omega arith), r.finds.field_is t 2 l (omega arith)) refl
+  pub certificate_term : {a b c d : ℕ} {s : Subject} → kind (file_in bs) t ≡ certificate_kind → a ≡ field_of (tables_in tables).terms t 0 → b ≡ field_of (tables_in tables).terms t 1 → c ≡ field_of (tables_in tables).terms t 2 → s ≡ subject_by b c → d ≡ field_of (tables_in tables).terms t 3 → Certificate a s d ≡ term (file_in bs) t
+  unfolding kind field
+  certificate_term k p q u e v =
+      let l = certificate_declared k in
+      rw (e, p, q, u, v, r.finds.field_is t 0 l (omega arith), r.finds.field_is t 1 l (omega arith), r.finds.field_is t 2 l (omega arith), r.finds.field_is t 3 l (omega arith)) (certificate_fields (term (file_in bs) t) k)
 
 -- whether the term of an entry passes
 pub passes_none : (test : ℕ → Bool) → passes test 0 ≡ false
@@ -206,7 +285,3 @@ some_is (Some m) n = go (eqb m n) refl
     go false e = let q = eqb-false m n e in sym (ne_eqb (m + 1) (n + 1) (λ z. q (omega arith)))
 
 pub ruleset halves = (half_read, half_declared, few_read, passes_none, passes_some)
-
-pub ruleset requests = (field_read, request_subject)
-
-pub ruleset certificates = (field_read, certificate_subject)

@@ -1,19 +1,20 @@
 // What the code keeps of a loaded file, and what it reads of it.
 #![tactic(auto, using(crate::proofs::Reading::field_read), unfolding(rules::specs::File::hashed_term, rules::specs::File::message, rules::specs::File::signing_key, rules::specs::File::attested_key, rules::specs::File::credential_term, rules::specs::File::credential_number, rules::specs::File::credential_key, rules::specs::File::idevid_certificate, rules::specs::File::idevid_key, rules::specs::File::ldevid_message, rules::specs::File::ldevid_certificate, rules::specs::File::certified_key, rules::specs::File::signer, rules::specs::File::left_of, rules::specs::File::right_of, rules::specs::File::register_of, rules::specs::File::quoted_value, rules::specs::File::quote_number))]
 
-ghost use Rattle.std.specs.Prelude.{◌≡◌, ◌<◌, ◌≤◌, length};
-ghost use Rattle.rules.specs.Limits.{party_limit, state_bytes};
+ghost use Rattle.std.specs.Prelude.{◌≡◌, ◌+◌, ◌<◌, ◌≤◌, eqb, length};
+ghost use Rattle.rules.specs.Limits.{party_limit, term_limit, state_bytes};
 ghost use Rattle.rules.specs.Codes.{role_number, kind_number};
 ghost use Rattle.rules.specs.Attributes.{same_attributes};
 ghost use Rattle.rules.specs.Term.{idevid_request_kind, certificate_kind};
-ghost use Rattle.rules.specs.File.{is_role, is_kind, kind, field, subject, attributes, paired, half_in, signs_for, signs_for_role, signs_for_some, hashed_term, message, signing_key, attested_key, credential_term, credential_number, credential_key, idevid_certificate, idevid_key, ldevid_message, ldevid_certificate, certified_key, signer, left_of, right_of, register_of, quoted_value, quote_number};
+ghost use Rattle.rules.specs.File.{is_role, is_kind, term, kind, field, subject, attributes, paired, half_in, signs_for, signs_for_role, signs_for_some, hashed_term, message, signing_key, attested_key, credential_term, credential_number, credential_key, idevid_certificate, idevid_key, ldevid_message, ldevid_certificate, certified_key, signer, left_of, right_of, register_of, quoted_value, quote_number};
 ghost use Rattle.rules.specs.Device.{key_has};
 ghost use Rattle.state.specs.View.{view};
-ghost use Rattle.tables.specs.Columns.{field_words};
+ghost use Rattle.tables.specs.Columns.{field_words, tables_in};
+ghost use Rattle.index.specs.Indexed.{passes};
 ghost use Rattle.loaded.specs.Loaded.{file_in, Reads, Holds, Learns, subject_by};
 
 use crate::terms::{Certificate, Credential, IdevidRequest, LdevidRequest, Pair, Quote, Signature};
-use rules::{Attributes, Role, Signers, Subject, TermKind};
+use rules::{Attributes, Role, Signers, Subject, Term, TermKind};
 use tables::Tables;
 
 // The bytes of a file that loads, and the tables by which its terms are read.
@@ -56,7 +57,7 @@ impl<'a> Loaded<'a> {
     }
 
     // A field of a term.
-    fn field(&self, t: usize, i: usize) -> usize
+    pub fn field(&self, t: usize, i: usize) -> usize
         requires { (t < length (file_in self.now.file.now).terms) × (i < field_words) }
         ensures { result ≡ field (file_in self.now.file.now) t i }
     {
@@ -65,7 +66,7 @@ impl<'a> Loaded<'a> {
 
     // The attributes of a key, as a number; 0 of another term.
     #[tactic(auto, using(crate::proofs::Reading::key_bits, crate::proofs::Reading::other_bits))]
-    fn attribute_bits(&self, t: usize) -> u16
+    pub fn attribute_bits(&self, t: usize) -> u16
         requires { t < length (file_in self.now.file.now).terms }
         ensures { result ≡ (attributes (file_in self.now.file.now) t).bits }
     {
@@ -94,20 +95,30 @@ impl<'a> Loaded<'a> {
         self.attribute_bits(t) / flag as u16 % 2 == 1
     }
 
-    // Whether a public and a private key are a pair.
-    #[tactic(auto, using(crate::proofs::Reading::pair_read, crate::proofs::Reading::some_is))]
-    pub fn is_pair(&self, key: usize, half: usize) -> bool
-        requires { (key < length (file_in self.now.file.now).terms) × (half < length (file_in self.now.file.now).terms) }
-        ensures { result ≡ paired (file_in self.now.file.now) key half }
+    // Whether a term is noted as the private half of a key.
+    #[tactic(auto, using(crate::proofs::Reading::some_is))]
+    pub fn is_half(&self, key: usize, half: usize) -> bool
+        requires { key < term_limit }
+        ensures { result ≡ eqb ((tables_in self.now.tables.now).half key) (half + 1) }
     {
         self.tables.half_of(key) == Some(half)
     }
 
-    // Whether a party's TPM holds the private half of a public key.
+    // Whether a public and a private key are a pair.
+    #[tactic(auto, using(crate::proofs::Reading::pair_read, crate::proofs::Reading::few_read))]
+    pub fn is_pair(&self, key: usize, half: usize) -> bool
+        requires { (key < length (file_in self.now.file.now).terms) × (half < length (file_in self.now.file.now).terms) }
+        ensures { result ≡ paired (file_in self.now.file.now) key half }
+    {
+        self.is_half(key, half)
+    }
+
+    // Whether a party's TPM holds the private half of a public key: the one that is noted, which is a declared key's own.
     #[tactic(auto, using(crate::proofs::Reading::halves))]
     pub fn holds_half(&self, state: &[u8], party: usize, key: usize) -> bool
-        requires { (state_bytes ≤ length state.now) × (party < length (file_in self.now.file.now).roles) × (key < length (file_in self.now.file.now).terms) }
-        ensures { result ≡ half_in (file_in self.now.file.now) ((view state.now).table party) key }
+        requires { (state_bytes ≤ length state.now) × (party < party_limit) × (key < term_limit) }
+        ensures noted { result ≡ passes ((view state.now).table party) ((tables_in self.now.tables.now).half key) }
+        ensures half { key < length (file_in self.now.file.now).terms → result ≡ half_in (file_in self.now.file.now) ((view state.now).table party) key }
     {
         match self.tables.half_of(key) {
             Some(half) => state::in_table(state, party, half),
@@ -118,7 +129,7 @@ impl<'a> Loaded<'a> {
     // Whether a key is the signing key of a party.
     #[tactic(auto, using(crate::proofs::Reading::signs_read, crate::proofs::Reading::some_is))]
     pub fn signs(&self, party: usize, key: usize) -> bool
-        requires { (party < party_limit) × (key < length (file_in self.now.file.now).terms) }
+        requires { party < party_limit }
         ensures { result ≡ signs_for (file_in self.now.file.now) party key }
     {
         self.tables.signer_of(party) == Some(key)
@@ -126,7 +137,6 @@ impl<'a> Loaded<'a> {
 
     // Whether a key is the signing key of a party of a role.
     pub fn signs_for_role(&self, role: Role, key: usize) -> bool
-        requires { key < length (file_in self.now.file.now).terms }
         ensures { result ≡ signs_for_role (file_in self.now.file.now) (role_number role) key }
     {
         for p in 0..rules::PARTY_LIMIT {
@@ -140,7 +150,6 @@ impl<'a> Loaded<'a> {
     // Whether a key is the signing key of one who may sign.
     #[tactic(auto, unfolding(rules::specs::File::signs_for_some))]
     pub fn signs_for_some(&self, who: Signers, key: usize) -> bool
-        requires { key < length (file_in self.now.file.now).terms }
         ensures { result ≡ signs_for_some (file_in self.now.file.now) who key }
     {
         who.maker && self.signs_for_role(Role::TpmMaker, key)
@@ -153,7 +162,7 @@ impl<'a> Loaded<'a> {
         requires { t < length (file_in self.now.file.now).terms }
         ensures { result ≡ hashed_term (file_in self.now.file.now) t }
     {
-        self.field(t, 0)
+        self.field(t, 0) // the term
     }
 
     // A signature.
@@ -173,7 +182,7 @@ impl<'a> Loaded<'a> {
         requires { t < length (file_in self.now.file.now).terms }
         ensures { result ≡ attested_key (file_in self.now.file.now) t }
     {
-        self.field(t, 0)
+        self.field(t, 0) // the key
     }
 
     // A credential.
@@ -190,8 +199,19 @@ impl<'a> Loaded<'a> {
         }
     }
 
+    // An IDevID request as a term.
+    pub fn idevid_request_of(&self, t: usize) -> Term
+        requires { kind (file_in self.now.file.now) t ≡ idevid_request_kind }
+        ensures { result ≡ term (file_in self.now.file.now) t }
+    {
+        Term::IdevidRequest(
+            subject_of(self.tables.field_of(t, 0), self.tables.field_of(t, 1)),
+            self.tables.field_of(t, 2),
+            self.tables.field_of(t, 3),
+        )
+    }
+
     // An IDevID request.
-    #[tactic(auto, using(crate::proofs::Reading::requests), unfolding(rules::specs::File::idevid_certificate, rules::specs::File::idevid_key))]
     pub fn idevid_request(&self, t: usize) -> IdevidRequest
         requires { kind (file_in self.now.file.now) t ≡ idevid_request_kind }
         ensures subject { result.subject ≡ subject (file_in self.now.file.now) t }
@@ -199,10 +219,13 @@ impl<'a> Loaded<'a> {
         ensures key { result.key ≡ idevid_key (file_in self.now.file.now) t }
         ensures declared { result.key < length (file_in self.now.file.now).terms }
     {
+        let Term::IdevidRequest(subject, certificate, key) = self.idevid_request_of(t) else {
+            unreachable!()
+        };
         IdevidRequest {
-            subject: subject_of(self.tables.field_of(t, 0), self.tables.field_of(t, 1)),
-            certificate: self.field(t, 2),
-            key: self.field(t, 3),
+            subject,
+            certificate: certificate as usize,
+            key: key as usize,
         }
     }
 
@@ -218,18 +241,32 @@ impl<'a> Loaded<'a> {
         }
     }
 
+    // A certificate as a term.
+    pub fn certificate_of(&self, t: usize) -> Term
+        requires { kind (file_in self.now.file.now) t ≡ certificate_kind }
+        ensures { result ≡ term (file_in self.now.file.now) t }
+    {
+        Term::Certificate(
+            self.tables.field_of(t, 0),
+            subject_of(self.tables.field_of(t, 1), self.tables.field_of(t, 2)),
+            self.tables.field_of(t, 3),
+        )
+    }
+
     // A certificate.
-    #[tactic(auto, using(crate::proofs::Reading::certificates), unfolding(rules::specs::File::certified_key, rules::specs::File::signer))]
     pub fn certificate(&self, t: usize) -> Certificate
         requires { kind (file_in self.now.file.now) t ≡ certificate_kind }
         ensures key { result.key ≡ certified_key (file_in self.now.file.now) t }
         ensures subject { result.subject ≡ subject (file_in self.now.file.now) t }
         ensures signer { result.signer ≡ signer (file_in self.now.file.now) t }
     {
+        let Term::Certificate(certified, subject, signer) = self.certificate_of(t) else {
+            unreachable!()
+        };
         Certificate {
-            key: self.field(t, 0),
-            subject: subject_of(self.tables.field_of(t, 1), self.tables.field_of(t, 2)),
-            signer: self.field(t, 3),
+            key: certified as usize,
+            subject,
+            signer: signer as usize,
         }
     }
 
@@ -250,7 +287,7 @@ impl<'a> Loaded<'a> {
         requires { t < length (file_in self.now.file.now).terms }
         ensures { result ≡ register_of (file_in self.now.file.now) t }
     {
-        self.field(t, 0)
+        self.field(t, 0) // the register
     }
 
     // A quote body.

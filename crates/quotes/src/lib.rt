@@ -16,7 +16,7 @@ use rules::{Attributes, Refusal, Role, ensure};
 
 // 44 Extend: the pair's second term known, its first what the register shows.
 #[tactic(auto, using(crate::proofs::Outcomes::extend_chain, loaded::proofs::Here::here))]
-fn decide_extend(
+pub fn decide_extend(
     loaded: &Loaded,
     state: &[u8],
     registers: &[u8],
@@ -43,7 +43,7 @@ fn decide_extend(
 
 // 45 Quote: the value is what that register of this party shows.
 #[tactic(auto, using(crate::proofs::Outcomes::quote_chain, loaded::proofs::Here::here))]
-fn decide_quote(
+pub fn decide_quote(
     loaded: &Loaded,
     state: &[u8],
     registers: &[u8],

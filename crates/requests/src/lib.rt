@@ -82,7 +82,7 @@ pub fn is_device(named: Subject) -> bool
 // The endorsement of a challenge: a TPM's certificate by a TPM maker, and the attributes of both keys.
 #[tactic(auto, unfolding(crate::specs::Tests::endorsement_tests, theorems::specs::Chain::chain))]
 pub fn endorsement(loaded: &Loaded, certificate: Certificate, iak: usize) -> Result<(), Refusal>
-    requires { (certificate.signer < length (file_in loaded.now.file.now).terms) × (certificate.key < length (file_in loaded.now.file.now).terms) × (iak < length (file_in loaded.now.file.now).terms) }
+    requires { (certificate.key < length (file_in loaded.now.file.now).terms) × (iak < length (file_in loaded.now.file.now).terms) }
     ensures { number_in result ≡ chain (endorsement_tests (file_in loaded.now.file.now) certificate.subject certificate.signer iak certificate.key) }
 {
     ensure(is_tpm(certificate.subject), Refusal::CertificateSigner)?;
@@ -179,7 +179,7 @@ pub fn parentage(
     new: usize,
     certificate: Certificate,
 ) -> Result<(), Refusal>
-    requires { (certificate.signer < length (file_in loaded.now.file.now).terms) × (half < length (file_in loaded.now.file.now).terms) × (new < length (file_in loaded.now.file.now).terms) × (certificate.key < length (file_in loaded.now.file.now).terms) }
+    requires { (half < length (file_in loaded.now.file.now).terms) × (new < length (file_in loaded.now.file.now).terms) × (certificate.key < length (file_in loaded.now.file.now).terms) }
     ensures { number_in result ≡ chain (parentage_tests (file_in loaded.now.file.now) family half new certificate.key certificate.signer) }
 {
     ensure(loaded.is_pair(certificate.key, half), Refusal::NoProof)?;

@@ -1,15 +1,15 @@
-use native.Mathlib.Omega.{arith}
-use Rattle.loaded.proofs.Reading.{certificate_declared}
+use mathlib.Core.Path.{sym, ◌∙◌}
+use Rattle.loaded.proofs.Reading.{certificate_found, certificate_key, certificate_subject, certificate_signer}
 use Rattle.loaded.proofs.file.Loaded.certificate.Goals as goal
 
-pub field-requires : goal.field-requires
-field-requires c = let l = certificate_declared c.args.self.now.reads c.args.t c.requires in (omega arith, omega arith)
+pub unreachable-requires : goal.unreachable-requires
+unreachable-requires c = certificate_found _ _ c.certificate_of.ensures c.requires c.in_default.not-Certificate
 
-pub field_of-requires : goal.field_of-requires
-field_of-requires c = let l = certificate_declared c.args.self.now.reads c.args.t c.requires in (omega arith, omega arith)
+pub returns-clause-key : goal.returns-clause-key
+returns-clause-key c = sym (certificate_key _ _ (sym c.certificate_of.ensures ∙ c.in-Certificate.is))
 
-pub field_of-requires-2 : goal.field_of-requires-2
-field_of-requires-2 c = let l = certificate_declared c.args.self.now.reads c.args.t c.requires in (omega arith, omega arith)
+pub returns-clause-subject : goal.returns-clause-subject
+returns-clause-subject c = sym (certificate_subject _ _ (sym c.certificate_of.ensures ∙ c.in-Certificate.is))
 
-pub field-requires-2 : goal.field-requires-2
-field-requires-2 c = let l = certificate_declared c.args.self.now.reads c.args.t c.requires in (omega arith, omega arith)
+pub returns-clause-signer : goal.returns-clause-signer
+returns-clause-signer c = sym (certificate_signer _ _ (sym c.certificate_of.ensures ∙ c.in-Certificate.is))
