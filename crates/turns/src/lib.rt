@@ -25,7 +25,7 @@ pub struct Progress {
 }
 
 // What a turn answers: the entries that the ledger gains, and how far the run is then.
-#[derive(Drop)]
+#[derive(Clone, Copy)]
 pub struct Turned {
     pub gained: Gained,
     pub progress: Progress,

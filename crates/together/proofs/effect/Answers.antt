@@ -1,5 +1,4 @@
 use mathlib.Core.Path.{refl, sym, ap, ◌∙◌}
-use Rattle.std.proofs.Common.{arith}
 use Rattle.together.specs.Pairs.{pairs_of}
 use Rattle.together.specs.Ready.{returning_at}
 use Rattle.together.proofs.Pairs.{pairs_from, pairs_past}
@@ -17,7 +16,7 @@ effect_issue_iak-e-requires c =
 pub push-requires : goal.push-requires
 push-requires c =
     let v = issuing_as (pairs_from _ _ (record { credential = 0; certificate = 0 }) c.loop-pair-test.true) refl (c.loop-pair.invariant c.requires) in
-    (omega arith, pair_adds v)
+    pair_adds v
 
 pub loop-pair-preserved : goal.loop-pair-preserved
 loop-pair-preserved c w =
