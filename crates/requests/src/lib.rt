@@ -51,16 +51,13 @@ pub fn form(loaded: &Loaded, q: usize, expected: TermKind) -> Result<Request, Re
 }
 
 // The proof of a key: the signature is over the body's hash, by the key's private half.
-#[tactic(auto, using(loaded::proofs::Reading::pair_read, loaded::proofs::Reading::some_is), unfolding(theorems::specs::Chain::chain, rules::specs::Desk::proof_tests, rules::specs::Desk::request_body, rules::specs::Desk::request_signature))]
+#[tactic(auto, using(loaded::proofs::Reading::pair_read), unfolding(theorems::specs::Chain::chain, rules::specs::Desk::proof_tests, rules::specs::Desk::request_body, rules::specs::Desk::request_signature))]
 pub fn proof_of_key(loaded: &Loaded, request: Request, key: usize) -> Result<(), Refusal>
     requires { (key < term_limit) × (request.signer < term_limit) }
     ensures { (q : ℕ) → key < length (file_in loaded.now.file.now).terms → Names (file_in loaded.now.file.now) q request.body request.content request.signer → number_in result ≡ chain (proof_tests (file_in loaded.now.file.now) q key) }
 {
     ensure(request.content == request.body, Refusal::NoProof)?;
-    ensure(
-        loaded.tables.half_of(key) == Some(request.signer),
-        Refusal::NoProof,
-    )
+    ensure(loaded.is_half(key, request.signer), Refusal::NoProof)
 }
 
 // Whether a Subject is a TPM.
