@@ -16,9 +16,14 @@ fn list_whole<W: Write>(to: &mut W, name: &str, file: &[u8]) -> io::Result<()> {
     lines::list(file, to)
 }
 
-// Lists the first bytes of a file: a line with its name and how many they are, then their listing.
+// Lists the first bytes of a file: a line with its name and how many they are, then their listing. How many is printed
+// by `decimal`, since the library's own printing divides.
 fn list_part<W: Write>(to: &mut W, name: &str, part: &[u8]) -> io::Result<()> {
-    writeln!(to, "# {name} {}", part.len())?;
+    let mut digits = [0u8; decimal::DIGITS];
+    let n = decimal::decimal_into(&mut digits, 0, part.len() as u64);
+    write!(to, "# {name} ")?;
+    to.write_all(&digits[..n])?;
+    writeln!(to)?;
     lines::list(part, to)
 }
 
