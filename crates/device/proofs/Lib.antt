@@ -1,3 +1,4 @@
 pub mod Outcomes
 pub mod Read
 pub mod Effects
+pub mod Terms

@@ -1,2 +1,3 @@
 pub mod Outcomes
 pub mod Effects
+pub mod Terms
