@@ -1,11 +1,11 @@
 // The way from an issued certificate to its endorsement certificate, by the tables and the ledger that a run left.
 #![tactic(auto)]
 
-ghost use Rattle.std.specs.Prelude.{◌≡◌, [], ◌<◌, ◌≤◌, length, OnOk, OnErr};
-ghost use Rattle.rules.specs.Limits.{path_places};
+ghost use Rattle.std.specs.Prelude.{◌≡◌, [], ◌<◌, ◌≤◌, length, IfSome, OnOk, OnErr};
+ghost use Rattle.rules.specs.Limits.{term_limit, path_places};
 ghost use Rattle.rules.specs.Lent.{refusal, in_numbers, path_in_numbers};
-ghost use Rattle.tables.specs.Columns.{tables_in, one_more};
-ghost use Rattle.path.specs.Climbing.{EntriesDeclared, EntriesInside, steps_in, parent_in, climbed};
+ghost use Rattle.tables.specs.Columns.{one_more};
+ghost use Rattle.path.specs.Climbing.{entry_in, EntriesInside, steps_in, parent_in, climbed};
 
 use rules::{Entry, Refusal, Refused};
 use tables::Tables;
@@ -26,10 +26,11 @@ pub fn check_room(list: &[u16]) -> Result<(), Refused>
     Ok(())
 }
 
-// The place of a certificate's entry.
+// The place of a certificate's entry; none of what is no term.
+#[tactic(auto, unfolding(crate::specs::Climbing::entry_in))]
 fn entry_of(tables: &Tables, t: u16) -> Option<usize>
-    requires { EntriesDeclared tables.now }
-    ensures { one_more result ≡ (tables_in tables.now).entry t }
+    ensures place { one_more result ≡ entry_in tables.now t }
+    ensures few { IfSome result (λ _. t < term_limit) }
 {
     let term = t as usize;
     if term < rules::TERM_LIMIT {
@@ -42,7 +43,6 @@ fn entry_of(tables: &Tables, t: u16) -> Option<usize>
 // The steps of a certificate's path; 30 where it has no entry.
 #[tactic(auto, unfolding(rules::specs::Lent::in_numbers))]
 pub fn steps_of(tables: &Tables, t: u16) -> Result<u32, Refused>
-    requires { EntriesDeclared tables.now }
     ensures { path_in_numbers result ≡ steps_in tables.now t }
 {
     match entry_of(tables, t) {
@@ -56,7 +56,7 @@ pub fn steps_of(tables: &Tables, t: u16) -> Result<u32, Refused>
 
 // The parent by a certificate's entry; 0 where it has none.
 fn parent_of(tables: &Tables, ledger: &[Entry], t: u16) -> u16
-    requires { EntriesDeclared tables.now × EntriesInside tables.now ledger.now }
+    requires { EntriesInside tables.now ledger.now }
     ensures { result ≡ parent_in tables.now ledger.now t }
 {
     match entry_of(tables, t) {
@@ -68,7 +68,7 @@ fn parent_of(tables: &Tables, ledger: &[Entry], t: u16) -> u16
 // A certificate goes to the first place of the list, and to each place after it the parent of the one before.
 #[tactic(auto, using(crate::proofs::Climbing::climb_end))]
 pub fn climb(tables: &Tables, ledger: &[Entry], list: &mut [u16], start: u16)
-    requires { EntriesDeclared tables.now × EntriesInside tables.now ledger.now }
+    requires { EntriesInside tables.now ledger.now }
     ensures { list.new ≡ climbed tables.now ledger.now (length list.old) start }
 {
     let mut certificate = start;

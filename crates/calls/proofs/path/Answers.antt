@@ -1,6 +1,6 @@
 use Rattle.std.proofs.Common.{◌≡◌, ◌+◌, arith, sym, Err, length-take-le}
 use Rattle.std.proofs.lemmas.Grind.{common_steps}
-use Rattle.calls.proofs.Paths.{entries_declared, entries_inside, few_steps, path_short, path_refused, path_none, path_some}
+use Rattle.calls.proofs.Paths.{entries_inside, few_steps, path_short, path_refused, path_none, path_some}
 use Rattle.calls.proofs.path.Goals as goal
 
 pub returns-in_err-check_room : goal.returns-in_err-check_room
@@ -14,9 +14,6 @@ returns-in_err-run c =
     let e = c.in_err-run in
     let is : c.from_residual-in_err-run.result ≡ Err e.field-0.0 = grind (arith, common_steps) in
     path_refused _ _ _ _ _ c.in_ok-check_room.ensures.room e.field-0.0 e.ensures.rules c.from_residual-in_err-run.result is
-
-pub steps_of-requires : goal.steps_of-requires
-steps_of-requires c = entries_declared c.in_ok-run.ensures.stands
 
 pub returns-in_err-steps : goal.returns-in_err-steps
 returns-in_err-steps c =
@@ -34,7 +31,7 @@ slice_bounds-climb-end-2 c =
     sym (length-take-le (c.in_ok-steps.steps + 1) c.args.list.now (omega (arith, few, c.in_ok-check_room.ensures.room)))
 
 pub climb-requires : goal.climb-requires
-climb-requires c = (entries_declared c.in_ok-run.ensures.stands, entries_inside c.in_ok-run.ensures.stands c.run.auto.ledger)
+climb-requires c = entries_inside c.in_ok-run.ensures.stands c.run.auto.ledger
 
 pub returns : goal.returns
 returns c = let r = c.in_ok-run.ensures in path_some r.stands _ _ c.in_ok-check_room.ensures.room r.rules _ c.in_ok-steps.ensures c.climb.new.list c.climb.ensures
