@@ -3,11 +3,15 @@
 --     cleared_first                       the rules' first part, of entries on cleared places
 --     length_puts, puts_none, puts_more   entries written from a place on
 --     puts_onto                           after others
+--     least_all, puts_next, puts_past     as a walk over more places writes them
 -- Assumes nothing.
+use mathlib.Core.Bool.{Bool, true, false, cond}
 use mathlib.Core.Path.{◌≡◌, refl, sym, ◌∙◌, ap}
 use mathlib.Core.List.{List, [], ◌∷◌, ◌++◌}
 use Prim.Native.Nat.{ℕ, zero, suc, ◌+◌, ◌-◌, ◌<◌, ◌≤◌}
 use native.Mathlib.Omega.{arith}
+use lib.Dec.{ltb}
+use borrow.Author.Tests.{ltb-true, ltb-false}
 use lib.ListN.{length, get_or, set, take, drop, replicate, length-set, length-append}
 use Rattle.rules.specs.declared.Entry.{Entry}
 use Rattle.rules.specs.Lent.{no_entry, first_part}
@@ -76,6 +80,26 @@ puts_none l from xs = refl
 
 pub puts_more : (l : List Entry) (from : ℕ) (xs : List Entry) (i : ℕ) → puts l from xs (i + 1) ≡ set (puts l from xs i) (from + i) (get_or xs i no_entry)
 puts_more l from xs i = let e : i + 1 ≡ suc i = omega arith in ap (puts l from xs) e ∙ puts_suc l from xs i
+
+-- ---- the same, by a walk over places that may be more than the entries
+abbrev pub least : ℕ → ℕ → ℕ
+least i n = cond (ltb i n) i n
+
+least_go : (i n : ℕ) (b : Bool) → ltb i n ≡ b → (i ≤ n → least i n ≡ i) × (n ≤ i → least i n ≡ n)
+least_go i n true e = (λ _. rw e refl, λ h. absurd (omega (arith, h, ltb-true i n e)))
+least_go i n false e = (λ h. rw e (let q : n ≡ i = omega (arith, h, ltb-false i n e) in q), λ _. rw e refl)
+
+pub least_none : (l : List Entry) (from : ℕ) (xs : List Entry) → puts l from xs (least 0 (length xs)) ≡ l
+least_none l from xs = rw ((least_go 0 (length xs) (ltb 0 (length xs)) refl).0 (omega arith)) (puts_none l from xs)
+
+pub least_all : (i n : ℕ) → n ≤ i → least i n ≡ n
+least_all i n h = (least_go i n (ltb i n) refl).1 h
+
+pub puts_next : (l : List Entry) (from : ℕ) (xs : List Entry) (i n : ℕ) → i < n → set (puts l from xs (least i n)) (from + i) (get_or xs i no_entry) ≡ puts l from xs (least (i + 1) n)
+puts_next l from xs i n h = rw ((least_go i n (ltb i n) refl).0 (omega (arith, h)), (least_go (i + 1) n (ltb (i + 1) n) refl).0 (omega (arith, h))) (sym (puts_more l from xs i))
+
+pub puts_past : (l : List Entry) (from : ℕ) (xs : List Entry) (i n : ℕ) → n ≤ i → puts l from xs (least i n) ≡ puts l from xs (least (i + 1) n)
+puts_past l from xs i n h = rw (least_all i n h, least_all (i + 1) n (omega (arith, h))) refl
 
 -- ---- places cleared
 pub length_cleared : (l : List Entry) (k : ℕ) → length (cleared l k) ≡ length l

@@ -98,13 +98,16 @@ pub fn clear(ledger: &mut [Entry], places: usize)
     }
 }
 
-// The entries that a command gains are written from a place on.
-#[tactic(auto, using(crate::proofs::Placed::puts_none, crate::proofs::Placed::puts_more))]
+// The entries that a command gains are written from a place on. The loop goes over all places that they may take: one of
+// just their number would become a call of memcpy, which the archive for C would need from outside.
 pub fn append_gained(ledger: &mut [Entry], from: usize, gained: &Gained)
     requires { from + length gained.now.items ≤ length ledger.old }
     ensures { ledger.new ≡ puts ledger.old from gained.now.items (length gained.now.items) }
 {
-    for (i, e) in gained.as_slice().iter().enumerate() {
-        append(ledger, from + i, *e);
+    let count = gained.len();
+    for i in 0..rules::PAIR_COUNT {
+        if i < count {
+            append(ledger, from + i, gained.as_slice()[i]);
+        }
     }
 }
