@@ -351,73 +351,83 @@ pub fn effect_activate(loaded: &Loaded, state: &mut [u8], party: usize, r: usize
     loaded.learn(state, party, loaded.credential(r).number);
 }
 
-// What the device command at a place decides, by its kind, a byte of the file.
+// 38 to 3B, by the record: a party and what it checks. Checks leave nothing.
 #[tactic(auto, using(crate::proofs::Read::read))]
-fn decide(loaded: &Loaded, state: &[u8], at: usize) -> Result<(), Refusal>
-    requires { Holds loaded.now.file.now state.now × CommandAt (Wellformed (file_in loaded.now.file.now)) loaded.now.file.now at × (kind_there loaded.now.file.now at < 0x3E) }
+fn decide_checked(loaded: &Loaded, state: &[u8], at: usize, kind: u8) -> Result<(), Refusal>
+    requires { Holds loaded.now.file.now state.now × CommandAt (Wellformed (file_in loaded.now.file.now)) loaded.now.file.now at × (kind_there loaded.now.file.now at ≡ kind) × (0x38 ≤ kind) × (kind ≤ 0x3B) }
     ensures { Decides loaded.now.file.now state.now (command_there loaded.now.file.now at) result }
 {
     let file = loaded.file;
-    let kind = file[at];
     let party = file[at + 1] as usize;
     let t = records::word_at(file, at + 2) as usize;
+    if kind == 0x3B {
+        return decide_check_attributes(loaded, state, party, t, file[at + 4]);
+    }
+    let u = records::word_at(file, at + 4) as usize;
     match kind {
-        0x30 => decide_hash(loaded, state, party, t),
-        0x31 => decide_sign(loaded, state, party, t),
-        0x32 => decide_certify(loaded, state, party, t),
-        0x33 => decide_make_credential(loaded, state, party, t),
-        0x34 => decide_activate(loaded, state, party, t),
-        0x35 => decide_idevid_request(loaded, state, party, t),
-        0x36 => decide_ldevid_request(loaded, state, party, t),
-        0x37 => decide_pair(loaded, state, party, t),
-        0x38..=0x3A => {
-            let u = records::word_at(file, at + 4) as usize;
-            match kind {
-                0x38 => decide_check_hash(loaded, state, party, t, u),
-                0x39 => decide_check_signature(loaded, state, party, t, u),
-                _ => decide_check_certificate(loaded, state, party, t, u),
-            }
-        }
-        0x3B => decide_check_attributes(loaded, state, party, t, file[at + 4]),
-        0x3C => {
-            let other = file[at + 2] as usize;
-            let sent = records::word_at(file, at + 3) as usize;
-            decide_send(loaded, state, party, other, sent)
-        }
-        _ => decide_self_issue(loaded, state, party, t),
+        0x38 => decide_check_hash(loaded, state, party, t, u),
+        0x39 => decide_check_signature(loaded, state, party, t, u),
+        _ => decide_check_certificate(loaded, state, party, t, u),
     }
 }
 
-// What the device command at a place leaves where it is accepted: checks leave the state as it is.
+// Executes the device command at a place by its kind, a byte of the file: what it decides, and what it leaves where it
+// is accepted.
 #[tactic(auto, using(crate::proofs::Read::read))]
-fn effect(loaded: &Loaded, state: &mut [u8], at: usize)
-    requires { Holds loaded.now.file.now state.old × CommandAt (Wellformed (file_in loaded.now.file.now)) loaded.now.file.now at × (kind_there loaded.now.file.now at < 0x3E) }
-    ensures { Leaves loaded.now.file.now state.old state.new (command_there loaded.now.file.now at) }
-{
-    let file = loaded.file;
-    let party = file[at + 1] as usize;
-    let t = records::word_at(file, at + 2) as usize;
-    match file[at] {
-        0x30 => effect_hash(loaded, state, party, t),
-        0x34 => effect_activate(loaded, state, party, t),
-        0x38..=0x3B => {}
-        0x3C => {
-            let other = file[at + 2] as usize;
-            let sent = records::word_at(file, at + 3) as usize;
-            loaded.learn(state, other, sent);
-        }
-        _ => loaded.learn(state, party, t),
-    }
-}
-
-// Executes the device command at a place: what it decides, and what it leaves where it is accepted.
 pub fn execute(loaded: &Loaded, state: &mut [u8], at: usize) -> Result<(), Refusal>
     requires { Holds loaded.now.file.now state.old × CommandAt (Wellformed (file_in loaded.now.file.now)) loaded.now.file.now at × (kind_there loaded.now.file.now at < 0x3E) }
     ensures decided { Decides loaded.now.file.now state.old (command_there loaded.now.file.now at) result }
     ensures left { OnOk result (Leaves loaded.now.file.now state.old state.new (command_there loaded.now.file.now at)) }
     ensures kept { OnErr result (state.new ≡ state.old) }
 {
-    decide(loaded, state, at)?;
-    effect(loaded, state, at);
+    let file = loaded.file;
+    let kind = file[at];
+    let party = file[at + 1] as usize;
+    let t = records::word_at(file, at + 2) as usize;
+    match kind {
+        0x30 => {
+            decide_hash(loaded, state, party, t)?;
+            effect_hash(loaded, state, party, t);
+        }
+        0x31 => {
+            decide_sign(loaded, state, party, t)?;
+            loaded.learn(state, party, t);
+        }
+        0x32 => {
+            decide_certify(loaded, state, party, t)?;
+            loaded.learn(state, party, t);
+        }
+        0x33 => {
+            decide_make_credential(loaded, state, party, t)?;
+            loaded.learn(state, party, t);
+        }
+        0x34 => {
+            decide_activate(loaded, state, party, t)?;
+            effect_activate(loaded, state, party, t);
+        }
+        0x35 => {
+            decide_idevid_request(loaded, state, party, t)?;
+            loaded.learn(state, party, t);
+        }
+        0x36 => {
+            decide_ldevid_request(loaded, state, party, t)?;
+            loaded.learn(state, party, t);
+        }
+        0x37 => {
+            decide_pair(loaded, state, party, t)?;
+            loaded.learn(state, party, t);
+        }
+        0x38..=0x3B => decide_checked(loaded, state, at, kind)?,
+        0x3C => {
+            let other = file[at + 2] as usize;
+            let sent = records::word_at(file, at + 3) as usize;
+            decide_send(loaded, state, party, other, sent)?;
+            loaded.learn(state, other, sent);
+        }
+        _ => {
+            decide_self_issue(loaded, state, party, t)?;
+            loaded.learn(state, party, t);
+        }
+    }
     Ok(())
 }
