@@ -26,6 +26,25 @@ fn check_range(n: usize, limit: usize) -> Result<(), Refusal>
     }
 }
 
+// What a command from 30 to 37 makes: the last of its two fields. A row of constants is read by the kind, and no table
+// of all kinds' fields.
+fn made_field(kind: u8) -> Field
+    requires { (0x30 ≤ kind) × (kind ≤ 0x37) }
+    ensures { fields_of kind ≡ PartyField ∷ result ∷ [] }
+{
+    let made: &'static [Field] = &[
+        Field::TermOf(0x12),
+        Field::TermOf(0x13),
+        Field::SignedAttest,
+        Field::TermOf(0x15),
+        Field::TermOf(0x15),
+        Field::TermOf(0x17),
+        Field::TermOf(0x18),
+        Field::TermOf(0x1A),
+    ];
+    made[(kind - 0x30) as usize]
+}
+
 // How many parties are declared, and how many terms, which the tables have.
 #[derive(Clone, Copy)]
 pub struct Declared<'a> {
@@ -253,7 +272,7 @@ impl<'a> Declared<'a> {
         ensures { result ≡ true → (section_of kind ≡ command_section) × (fields_fault_noted (tables_in self.now.tables.now).terms self.now.parties self.now.terms (fields_of kind) 0 body.now ≡ 0) }
     {
         match kind {
-            0x30..=0x37 => self.check_made(records::fields_of(kind)[1], body).is_ok(),
+            0x30..=0x37 => self.check_made(made_field(kind), body).is_ok(),
             0x3C => self.check_sent(body).is_ok(),
             0x40..=0x42 => self.check_issue(body).is_ok(),
             0x43 => self.check_pairs(body).is_ok(),
