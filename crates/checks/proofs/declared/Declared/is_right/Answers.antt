@@ -7,5 +7,5 @@ check_made-requires c =
     let e = made_body c.args.kind c.made_field.result c.made_field.ensures in
     omega (arith, e, c.requires)
 
-pub check_issue-requires : goal.check_issue-requires
-check_issue-requires c = omega (arith, issue_body c.args.kind (omega arith) (omega arith), c.requires)
+pub check_issue-requires-in-64-to-66 : goal.check_issue-requires-in-64-to-66
+check_issue-requires-in-64-to-66 c = omega (arith, issue_body c.args.kind (omega arith) (omega arith), c.requires)
