@@ -1,25 +1,28 @@
 -- The fields and the bodies of the frequent commands that share a test. Assumes nothing.
-use mathlib.Core.Path.{◌≡◌, refl, sym, ap, ◌∙◌}
+use mathlib.Core.Path.{◌≡◌, refl, ap}
 use mathlib.Core.List.{List, [], ◌∷◌}
-use Prim.Native.Nat.{ℕ, ◌+◌, ◌<◌, ◌≤◌}
+use Prim.Native.Nat.{ℕ, ◌+◌, ◌-◌, ◌≤◌}
 use native.Mathlib.Omega.{arith}
-use lib.ListN.{length, get_or}
-use Rattle.rules.specs.declared.Field.TheVariants.{RoleField, PartyField}
+use lib.ListN.{get_or}
+use Rattle.rules.specs.declared.Field.{Field}
+use Rattle.rules.specs.declared.Field.TheVariants.{RoleField, PartyField, TermOf, SignedAttest}
+use Rattle.rules.specs.Term.{hash_kind, signature_kind, credential_kind, idevid_request_kind, ldevid_request_kind, pair_kind}
 use Rattle.rules.specs.Record.{section_of, body_length, fields_of, width, widths}
 use Rattle.records.proofs.EachKind.{agree}
 
+-- what 30 to 37 make
+abbrev made : List Field
+made =
+    TermOf hash_kind ∷ TermOf signature_kind ∷ SignedAttest ∷ TermOf credential_kind ∷ TermOf credential_kind ∷ TermOf idevid_request_kind ∷ TermOf ldevid_request_kind ∷ TermOf pair_kind ∷ []
+
 -- the second field of 30 to 37 is the last
-module _ (k : ℕ) (l : 0x30 ≤ k) (h : k ≤ 0x37) where
-  made_fields : fields_of k ≡ PartyField ∷ get_or (fields_of k) 1 RoleField ∷ []
-  unfolding fields_of section_of
-  made_fields = agree fields_of (λ k. PartyField ∷ get_or (fields_of k) 1 RoleField ∷ []) 0x30 8 refl k l (omega arith)
+pub made_row : (k : ℕ) → 0x30 ≤ k → k ≤ 0x37 → fields_of k ≡ PartyField ∷ get_or made (k - 0x30) RoleField ∷ []
+unfolding fields_of section_of
+made_row k l h = agree fields_of (λ k. PartyField ∷ get_or made (k - 0x30) RoleField ∷ []) 0x30 8 refl k l (omega arith)
 
-  pub made_two : 1 < length (fields_of k)
-  made_two = let o = ap length made_fields in omega (arith, o)
-
-  pub made_body : body_length k ≡ 1 + width (get_or (fields_of k) 1 RoleField)
-  unfolding body_length widths width
-  made_body = let o = ap widths made_fields in omega (arith, o)
+pub made_body : (k : ℕ) (f : Field) → fields_of k ≡ PartyField ∷ f ∷ [] → body_length k ≡ 1 + width f
+unfolding body_length widths width
+made_body k f e = let o = ap widths e in omega (arith, o)
 
 pub issue_body : (k : ℕ) → 0x40 ≤ k → k ≤ 0x42 → body_length k ≡ 5
 unfolding body_length widths width fields_of section_of

@@ -1,9 +1,9 @@
 // Records checked by the parties and the terms declared so far: refusals 3 to 8.
 
 ghost use Rattle.std.specs.Prelude.{◌≡◌, ◌⊎◌, true, [], ◌∷◌, ℕ, ◌+◌, ◌<◌, ◌≤◌, ltb, length, get_or};
-ghost use Rattle.rules.specs.declared.Field.TheVariants.{IdentifierField, AttributesField, SubjectField, PartyField, AnyTerm, TermOf, IakPairField};
+ghost use Rattle.rules.specs.declared.Field.TheVariants.{IdentifierField, AttributesField, SubjectField, PartyField, AnyTerm, TermOf, IakPairField, RegisterField, HashedPair, SignedQuote};
 ghost use Rattle.rules.specs.Codes.{number_in, kind_number};
-ghost use Rattle.rules.specs.Term.{public_key_kind, private_key_kind, hash_kind, signature_kind, certificate_kind};
+ghost use Rattle.rules.specs.Term.{public_key_kind, private_key_kind, hash_kind, signature_kind, credential_kind, certificate_kind};
 ghost use Rattle.rules.specs.Record.{section_of, fields_of, body_length, width as width_of, word, command_section};
 ghost use Rattle.rules.specs.Load.{refuse_unless};
 ghost use Rattle.tables.specs.Columns.{tables_in};
@@ -24,6 +24,25 @@ fn check_range(n: usize, limit: usize) -> Result<(), Refusal>
     } else {
         Err(Refusal::FieldRange)
     }
+}
+
+// What a command from 30 to 37 makes: the last of its two fields. A row of constants is read by the kind, and no table
+// of all kinds' fields.
+fn made_field(kind: u8) -> Field
+    requires { (0x30 ≤ kind) × (kind ≤ 0x37) }
+    ensures { fields_of kind ≡ PartyField ∷ result ∷ [] }
+{
+    let made: &'static [Field] = &[
+        Field::TermOf(0x12),
+        Field::TermOf(0x13),
+        Field::SignedAttest,
+        Field::TermOf(0x15),
+        Field::TermOf(0x15),
+        Field::TermOf(0x17),
+        Field::TermOf(0x18),
+        Field::TermOf(0x1A),
+    ];
+    made[(kind - 0x30) as usize]
 }
 
 // How many parties are declared, and how many terms, which the tables have.
@@ -203,15 +222,48 @@ impl<'a> Declared<'a> {
         self.check_term(body, 2)
     }
 
-    // Of a command from 40 to 42.
+    // Of a 3F.
     #[tactic(auto, using(crate::proofs::Fields::refused_some), unfolding(crate::specs::There::field_fault_noted, crate::specs::Fields::fields_fault_noted, rules::specs::Load::first, rules::specs::Record::width))]
-    fn check_issue(&self, body: &[u8]) -> Result<(), Refusal>
+    fn check_return(&self, body: &[u8]) -> Result<(), Refusal>
+        requires { 6 ≤ length body.now }
+        ensures { number_in result ≡ fields_fault_noted (tables_in self.now.tables.now).terms self.now.parties self.now.terms (PartyField ∷ PartyField ∷ TermOf credential_kind ∷ TermOf certificate_kind ∷ []) 0 body.now }
+    {
+        check_range(body[0] as usize, self.parties)?;
+        check_range(body[1] as usize, self.parties)?;
+        self.check_kind(body, 2, TermKind::Credential.number())?;
+        self.check_kind(body, 4, TermKind::Certificate.number())
+    }
+
+    // Of a 44.
+    #[tactic(auto, using(crate::proofs::Fields::refused_some), unfolding(crate::specs::There::field_fault_noted, crate::specs::Fields::fields_fault_noted, rules::specs::Load::first, rules::specs::Record::width))]
+    fn check_extended(&self, body: &[u8]) -> Result<(), Refusal>
+        requires { 4 ≤ length body.now }
+        ensures { number_in result ≡ fields_fault_noted (tables_in self.now.tables.now).terms self.now.parties self.now.terms (PartyField ∷ RegisterField ∷ HashedPair ∷ []) 0 body.now }
+    {
+        check_range(body[0] as usize, self.parties)?;
+        check_range(body[1] as usize, rules::REGISTER_COUNT)?;
+        self.check_inner(body, 2, TermKind::Hash, TermKind::Pair)
+    }
+
+    // Of a 45.
+    #[tactic(auto, using(crate::proofs::Fields::refused_some), unfolding(crate::specs::There::field_fault_noted, crate::specs::Fields::fields_fault_noted, rules::specs::Load::first, rules::specs::Record::width))]
+    fn check_quoted(&self, body: &[u8]) -> Result<(), Refusal>
+        requires { 3 ≤ length body.now }
+        ensures { number_in result ≡ fields_fault_noted (tables_in self.now.tables.now).terms self.now.parties self.now.terms (PartyField ∷ SignedQuote ∷ []) 0 body.now }
+    {
+        check_range(body[0] as usize, self.parties)?;
+        self.check_inner(body, 1, TermKind::Signature, TermKind::Quote)
+    }
+
+    // Of a 3E, which makes a 15, and of a command from 40 to 42, which makes a 19.
+    #[tactic(auto, using(crate::proofs::Fields::refused_some), unfolding(crate::specs::There::field_fault_noted, crate::specs::Fields::fields_fault_noted, rules::specs::Load::first, rules::specs::Record::width))]
+    fn check_issue(&self, body: &[u8], made: TermKind) -> Result<(), Refusal>
         requires { 5 ≤ length body.now }
-        ensures { number_in result ≡ fields_fault_noted (tables_in self.now.tables.now).terms self.now.parties self.now.terms (PartyField ∷ AnyTerm ∷ TermOf certificate_kind ∷ []) 0 body.now }
+        ensures { number_in result ≡ fields_fault_noted (tables_in self.now.tables.now).terms self.now.parties self.now.terms (PartyField ∷ AnyTerm ∷ TermOf (kind_number made) ∷ []) 0 body.now }
     {
         check_range(body[0] as usize, self.parties)?;
         self.check_term(body, 1)?;
-        self.check_kind(body, 3, TermKind::Certificate.number())
+        self.check_kind(body, 3, made.number())
     }
 
     // Of a 43: a line a pair, since the places are known.
@@ -253,10 +305,14 @@ impl<'a> Declared<'a> {
         ensures { result ≡ true → (section_of kind ≡ command_section) × (fields_fault_noted (tables_in self.now.tables.now).terms self.now.parties self.now.terms (fields_of kind) 0 body.now ≡ 0) }
     {
         match kind {
-            0x30..=0x37 => self.check_made(records::fields_of(kind)[1], body).is_ok(),
+            0x30..=0x37 => self.check_made(made_field(kind), body).is_ok(),
             0x3C => self.check_sent(body).is_ok(),
-            0x40..=0x42 => self.check_issue(body).is_ok(),
+            0x3E => self.check_issue(body, TermKind::Credential).is_ok(),
+            0x3F => self.check_return(body).is_ok(),
+            0x40..=0x42 => self.check_issue(body, TermKind::Certificate).is_ok(),
             0x43 => self.check_pairs(body).is_ok(),
+            0x44 => self.check_extended(body).is_ok(),
+            0x45 => self.check_quoted(body).is_ok(),
             _ => false,
         }
     }

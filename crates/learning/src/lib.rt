@@ -57,7 +57,7 @@ pub fn learn_term(tables: &Tables, state: &mut [u8], party: usize, t: usize)
     }
 }
 
-// The party learns each part of term t.
+// The party learns each part of term t that it does not know.
 #[cycle(learn_parts_learn_term)]
 pub fn learn_parts(tables: &Tables, state: &mut [u8], party: usize, t: usize)
     requires { Ready (tables_in tables.now).terms state.old party t }
@@ -65,10 +65,18 @@ pub fn learn_parts(tables: &Tables, state: &mut [u8], party: usize, t: usize)
 {
     match parts_of(tables, t) {
         Parts::Nothing => {}
-        Parts::One(part) => learn_term(tables, state, party, part as usize),
+        Parts::One(part) => {
+            if !state::knows(state, party, part as usize) {
+                learn_term(tables, state, party, part as usize);
+            }
+        }
         Parts::Two(first, second) => {
-            learn_term(tables, state, party, first as usize);
-            learn_term(tables, state, party, second as usize);
+            if !state::knows(state, party, first as usize) {
+                learn_term(tables, state, party, first as usize);
+            }
+            if !state::knows(state, party, second as usize) {
+                learn_term(tables, state, party, second as usize);
+            }
         }
     }
 }

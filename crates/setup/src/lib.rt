@@ -45,7 +45,9 @@ pub fn enter_setup(
             if !before.may_learn(t) {
                 return Err(Refusal::NotTaught);
             }
-            learn_term(tables, state, party, t);
+            if !state::knows(state, party, t) {
+                learn_term(tables, state, party, t);
+            }
         }
         0x21 => {
             if !before.may_hold(party, t) {
