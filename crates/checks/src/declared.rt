@@ -198,6 +198,26 @@ impl<'a> Declared<'a> {
         self.check_term(body, 2)
     }
 
+    // Of a 20.
+    #[tactic(auto, using(crate::proofs::Fields::refused_some), unfolding(crate::specs::There::field_fault_noted, crate::specs::Fields::fields_fault_noted, rules::specs::Load::first, rules::specs::Record::width))]
+    fn check_taught(&self, body: &[u8]) -> Result<(), Refusal>
+        requires { 3 ≤ length body.now }
+        ensures { number_in result ≡ fields_fault_noted (tables_in self.now.tables.now).terms self.now.parties self.now.terms (PartyField ∷ AnyTerm ∷ []) 0 body.now }
+    {
+        check_range(body[0] as usize, self.parties)?;
+        self.check_term(body, 1)
+    }
+
+    // Of a 21 or a 22.
+    #[tactic(auto, using(crate::proofs::Fields::refused_some), unfolding(crate::specs::There::field_fault_noted, crate::specs::Fields::fields_fault_noted, rules::specs::Load::first, rules::specs::Record::width))]
+    fn check_given(&self, body: &[u8]) -> Result<(), Refusal>
+        requires { 3 ≤ length body.now }
+        ensures { number_in result ≡ fields_fault_noted (tables_in self.now.tables.now).terms self.now.parties self.now.terms (PartyField ∷ TermOf private_key_kind ∷ []) 0 body.now }
+    {
+        check_range(body[0] as usize, self.parties)?;
+        self.check_kind(body, 1, TermKind::PrivateKey.number())
+    }
+
     // Of a command from 30 to 37, whose second field is the last.
     #[tactic(auto, using(crate::proofs::Fields::refused_some), unfolding(crate::specs::There::field_fault_noted, crate::specs::Fields::fields_fault_noted, rules::specs::Load::first, rules::specs::Record::width))]
     fn check_made(&self, field: Field, body: &[u8]) -> Result<(), Refusal>
@@ -294,6 +314,19 @@ impl<'a> Declared<'a> {
             0x16 => true,
             0x19 => self.check_certificate(body).is_ok(),
             0x1A => self.check_terms(body).is_ok(),
+            _ => false,
+        }
+    }
+
+    // The same of the set-up records 20 to 22, by the parties declared so far.
+    #[tactic(auto, unfolding(rules::specs::Record::section_of, rules::specs::Record::fields_of, rules::specs::Record::body_length, rules::specs::Record::widths, rules::specs::Record::width))]
+    pub fn is_setup_right(&self, kind: u8, body: &[u8]) -> bool
+        requires { body_length kind ≤ length body.now }
+        ensures { result ≡ true → fields_fault_noted (tables_in self.now.tables.now).terms self.now.parties self.now.terms (fields_of kind) 0 body.now ≡ 0 }
+    {
+        match kind {
+            0x20 => self.check_taught(body).is_ok(),
+            0x21 | 0x22 => self.check_given(body).is_ok(),
             _ => false,
         }
     }
