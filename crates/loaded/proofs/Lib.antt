@@ -9,5 +9,6 @@ pub mod Boards
 pub mod Room
 pub mod Noted
 pub mod Reading
+pub mod Signers
 pub mod Here
 pub mod Filled

@@ -1,13 +1,14 @@
 -- A loaded file in bytes: what the file's bytes, the state's bytes and the tables hold, and what a command decides and leaves there.
 use Rattle.tables.specs.declared.columns.Tables.{Tables}
-use Rattle.std.specs.Prelude.{◌≡◌, Bool, cond, List, ℕ, ◌+◌, ◌*◌, ◌<◌, ◌≤◌, eqb, length, Result}
+use Rattle.std.specs.Prelude.{◌≡◌, Bool, ◌&&◌, ◌||◌, cond, List, ℕ, ◌+◌, ◌*◌, ◌<◌, ◌≤◌, eqb, length, Result}
 use Rattle.rules.specs.declared.Entry.{Entry}
 use Rattle.rules.specs.declared.Refusal.{Refusal}
+use Rattle.rules.specs.declared.Signers.{Signers}
 use Rattle.rules.specs.declared.Subject.{Subject}
 use Rattle.rules.specs.declared.Subject.TheVariants.{Tpm, Device}
 use Rattle.rules.specs.Codes.{number_in}
-use Rattle.rules.specs.Limits.{row_width, party_limit, term_limit, state_bytes}
-use Rattle.rules.specs.File.{File, Command, term, kind, field, role_of, half_in, signs_for}
+use Rattle.rules.specs.Limits.{row_width, party_limit, term_limit, state_bytes, tpm_maker, oem_desk, owner_desk}
+use Rattle.rules.specs.File.{File, Command, term, kind, field, role_of, is_role, half_in, signs_for}
 use Rattle.rules.specs.Load.{Load, loaded, refused, load, empty_file}
 use Rattle.rules.specs.State.{learnt}
 use Rattle.rules.specs.Run.{outcome, effect_of}
@@ -63,6 +64,10 @@ pub record TermHere (bs s : List ℕ) (t : ℕ) : Type 0 where
 -- a Subject by its two fields
 unfoldable pub subject_by : ℕ → ℕ → Subject
 subject_by tag number = cond (eqb tag 0) (Tpm number) (Device number)
+
+-- a party is one who may sign
+abbrev pub has_some : File → Signers → ℕ → Bool
+has_some f who p = (who.maker && is_role f tpm_maker p) || ((who.oem && is_role f oem_desk p) || (who.owner && is_role f owner_desk p))
 
 -- a party has learnt a term: the columns of the rules' state, the places as they were
 pub record Learns (bs s s' : List ℕ) (p t : ℕ) : Type 0 where

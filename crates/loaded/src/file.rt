@@ -11,7 +11,7 @@ ghost use Rattle.rules.specs.Device.{key_has};
 ghost use Rattle.state.specs.View.{view};
 ghost use Rattle.tables.specs.Columns.{field_words, tables_in};
 ghost use Rattle.index.specs.Indexed.{passes};
-ghost use Rattle.loaded.specs.Loaded.{file_in, Reads, Holds, Learns, subject_by};
+ghost use Rattle.loaded.specs.Loaded.{file_in, Reads, Holds, Learns, subject_by, has_some};
 
 use crate::terms::{Certificate, Credential, IdevidRequest, LdevidRequest, Pair, Quote, Signature};
 use rules::{Attributes, Role, Signers, Subject, Term, TermKind};
@@ -147,14 +147,28 @@ impl<'a> Loaded<'a> {
         false
     }
 
-    // Whether a key is the signing key of one who may sign.
-    #[tactic(auto, unfolding(rules::specs::File::signs_for_some))]
+    // Whether a party is one who may sign.
+    #[tactic(auto, using(crate::proofs::Reading::role_read, crate::proofs::Reading::role_room), unfolding(rules::specs::File::is_role))]
+    fn has_some(&self, party: usize, who: Signers) -> bool
+        requires { party < length (file_in self.now.file.now).roles }
+        ensures { result ≡ has_some (file_in self.now.file.now) who party }
+    {
+        let role = checks::role_of(self.file, party);
+        who.maker && role == Role::TpmMaker.number()
+            || who.oem && role == Role::OemDesk.number()
+            || who.owner && role == Role::OwnerDesk.number()
+    }
+
+    // Whether a key is the signing key of one who may sign, in one walk.
     pub fn signs_for_some(&self, who: Signers, key: usize) -> bool
         ensures { result ≡ signs_for_some (file_in self.now.file.now) who key }
     {
-        who.maker && self.signs_for_role(Role::TpmMaker, key)
-            || who.oem && self.signs_for_role(Role::OemDesk, key)
-            || who.owner && self.signs_for_role(Role::OwnerDesk, key)
+        for party in 0..rules::PARTY_LIMIT {
+            if self.signs(party, key) && self.has_some(party, who) {
+                return true;
+            }
+        }
+        false
     }
 
     // What a hash is of.
