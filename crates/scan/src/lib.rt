@@ -111,7 +111,7 @@ fn scan_records(file: &[u8], state: &mut [u8], tables: &mut Tables) -> Result<Sc
             break 'records Err(Refused { refusal, place });
         }
         let body = &file[at + 1..end];
-        if !declared.seen_right(kind, body) {
+        if !declared.seen_right(kind, body) && !declared.is_setup_right(kind, body) {
             let mut offset = 0;
             for field in records::fields_of(kind) {
                 if let Err(refusal) = declared.check_field(*field, body, offset) {

@@ -16,16 +16,21 @@ use Rattle.scan.proofs.Scanning.{number_some, at_start, counts_small, body_same}
 use Rattle.scan.proofs.Checking.{head_refused, whole, body_whole, body_short, fields_left}
 use Rattle.scan.proofs.Records.{record_refused, asks, entering_refused, entering_taken, at_the_end, passed}
 use Rattle.scan.proofs.scan_records.Goals as goal
-use Rattle.scan.proofs.scan_records.Goals.{then-not-seen_right+else-loop-field-test, else-not-seen_right, After-enter}
+use Rattle.scan.proofs.scan_records.Goals.{then-not-seen_right+then-not-is_setup_right+else-loop-field-test, else-not-seen_right, else-not-seen_right-via-then-not-seen_right+else-not-is_setup_right, else-not-seen_right-via-else-not-seen_right, After-enter}
 
 -- a record whose fields were walked over, or seen to be right at once
 right : (c : After-enter) → checked_fault c.args.file.now (tables_in c.records.tables).terms c.records.n.section c.records.n.parties c.records.n.terms c.records.at ≡ 0
 right c =
     elim c.if-not-seen_right.branch [
-      | then-not-seen_right+else-loop-field-test w ↦
+      | then-not-seen_right+then-not-is_setup_right+else-loop-field-test w ↦
           sym (fields_left _ _ _ _ _ _ c.section_of-section.ensures c.next_place-end.ensures c.in_default.ensures (sym (walk_done _ _ w.loop-field.invariant.walk w.loop-field-test.false)))
       | else-not-seen_right w ↦
-          sym (fields_left _ _ _ _ _ _ c.section_of-section.ensures c.next_place-end.ensures c.in_default.ensures (sym (c.seen_right.ensures w.if-not-seen_right.false _)))
+          sym (fields_left _ _ _ _ _ _ c.section_of-section.ensures c.next_place-end.ensures c.in_default.ensures
+          (sym
+          elim w.else-not-seen_right.branch [
+            | else-not-seen_right-via-then-not-seen_right+else-not-is_setup_right s ↦ s.is_setup_right.ensures s.if-not-is_setup_right.false
+            | else-not-seen_right-via-else-not-seen_right s ↦ c.seen_right.ensures s.if-not-seen_right.false _
+          ]))
     ]
 
 pub records-init : goal.records-init
@@ -45,6 +50,9 @@ slice_bounds-body-end c = whole _ (tables_in c.records.tables).terms _ _ _ _ c.s
 
 pub seen_right-requires : goal.seen_right-requires
 seen_right-requires c = body_whole _ (tables_in c.records.tables).terms _ _ _ _ c.section_of-section.ensures c.next_place-end.ensures c.in_default.ensures
+
+pub is_setup_right-requires : goal.is_setup_right-requires
+is_setup_right-requires c = body_whole _ (tables_in c.records.tables).terms _ _ _ _ c.section_of-section.ensures c.next_place-end.ensures c.in_default.ensures
 
 pub loop-field-init : goal.loop-field-init
 loop-field-init c = record {
@@ -73,10 +81,15 @@ enter-requires c =
     let w = c.records.invariant.stands in
     let z : checked_fault c.args.file.now (tables_in c.records.tables).terms c.records.n.section c.records.n.parties c.records.n.terms c.records.at ≡ 0 =
     elim c.if-not-seen_right.branch [
-      | then-not-seen_right+else-loop-field-test w ↦
+      | then-not-seen_right+then-not-is_setup_right+else-loop-field-test w ↦
           sym (fields_left _ _ _ _ _ _ c.section_of-section.ensures c.next_place-end.ensures c.in_default.ensures (sym (walk_done _ _ w.loop-field.invariant.walk w.loop-field-test.false)))
       | else-not-seen_right w ↦
-          sym (fields_left _ _ _ _ _ _ c.section_of-section.ensures c.next_place-end.ensures c.in_default.ensures (sym (c.seen_right.ensures w.if-not-seen_right.false _)))
+          sym (fields_left _ _ _ _ _ _ c.section_of-section.ensures c.next_place-end.ensures c.in_default.ensures
+          (sym
+          elim w.else-not-seen_right.branch [
+            | else-not-seen_right-via-then-not-seen_right+else-not-is_setup_right s ↦ s.is_setup_right.ensures s.if-not-is_setup_right.false
+            | else-not-seen_right-via-else-not-seen_right s ↦ c.seen_right.ensures s.if-not-seen_right.false _
+          ]))
     ] in
     let a = asks w (omega arith) z (body_same _ _ _ c.next_place-end.ensures) in
     (c.section_of-section.ensures, a.0, w.indexed, refl, a.1)
