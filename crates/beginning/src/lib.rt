@@ -43,8 +43,13 @@ pub fn begin(
     ledger::clear(ledger, rules::TERM_LIMIT);
     outcomes[..rules::COMMAND_LIMIT].fill(0);
     let shown = &mut registers[..rules::REGISTER_BYTES];
-    shown.fill(0);
-    let found = loader::fill(file, &mut state[..rules::STATE_BYTES], tables)?;
+    let found = match loader::fill(file, &mut state[..rules::STATE_BYTES], tables) {
+        Ok(found) => found,
+        Err(refused) => {
+            shown.fill(0);
+            return Err(refused);
+        }
+    };
     let n = found.tally;
     registers::fill(&Loaded { file, tables }, shown, n.parties, n.terms);
     Ok(Begun {
