@@ -2,7 +2,8 @@
 --     role_read, role_room       the role of a party
 --     kind_read, field_read      the kind and the fields of a term
 --     key_bits, other_bits       its attributes
---     request_term, certificate_term     an IDevID request and a certificate, by their four fields
+--     noted_request, noted_certificate   an IDevID request and a certificate, where their four fields are noted
+--     request_term, certificate_term     the same of a loaded file
 --     idevid_found, certificate_found    a term of the kind has its constructor
 --     idevid_subject to certificate_signer     the fields of a request and of a certificate, by its constructor
 --     half_read, half_declared, pair_read      the private half of a key
@@ -29,7 +30,7 @@ use Rattle.rules.specs.declared.Term.TheVariants.{PublicKey, PrivateKey, Hash, S
 use Rattle.rules.specs.Limits.{party_limit, term_limit}
 use Rattle.rules.specs.Term.{idevid_request_kind, certificate_kind, kind_of, fields_in, subject_fields, attributes_of, subject_of}
 use Rattle.rules.specs.File.{File, is_role, role_of, is_kind, kind, term, field, subject, attributes, paired, half_in, signs_for, signs_for_role, is_signing_key, is_signing_key_for, idevid_certificate, idevid_key, certified_key, signer}
-use Rattle.tables.specs.Columns.{field_words, one_more, tables_in, field_of}
+use Rattle.tables.specs.Columns.{Terms, field_words, one_more, tables_in, field_of}
 use Rattle.checks.specs.There.{role_there}
 use Rattle.index.specs.Indexed.{passes}
 use Rattle.theorems.proofs.Terms.{setup_finds, signs_given, signs_role_given}
@@ -164,6 +165,16 @@ certificate_fields (Pair t u) e = absurd (omega arith)
 certificate_fields (Register i) e = absurd (omega arith)
 certificate_fields (Quote i t n) e = absurd (omega arith)
 
+-- of a file, where the four fields of this one term are noted
+module _ (f : File) (t : ℕ) (v : Terms) (noted : (i : ℕ) → i < field_words → field_of v t i ≡ field f t i) {a b c d : ℕ} {s : Subject} where
+  pub noted_request : kind f t ≡ idevid_request_kind → a ≡ field_of v t 0 → b ≡ field_of v t 1 → s ≡ subject_by a b → c ≡ field_of v t 2 → d ≡ field_of v t 3 → IdevidRequest s c d ≡ term f t
+  unfolding kind field
+  noted_request k p q e u w = rw (e, p, q, u, w, noted 0 (omega arith), noted 1 (omega arith), noted 2 (omega arith), noted 3 (omega arith)) (request_fields (term f t) k)
+
+  pub noted_certificate : kind f t ≡ certificate_kind → a ≡ field_of v t 0 → b ≡ field_of v t 1 → c ≡ field_of v t 2 → s ≡ subject_by b c → d ≡ field_of v t 3 → Certificate a s d ≡ term f t
+  unfolding kind field
+  noted_certificate k p q u e w = rw (e, p, q, u, w, noted 0 (omega arith), noted 1 (omega arith), noted 2 (omega arith), noted 3 (omega arith)) (certificate_fields (term f t) k)
+
 -- a term of one of these kinds has no other constructor
 one_certificate : (x : Term) → kind_of x ≡ certificate_kind → ((k : ℕ) (s : Subject) (p : ℕ) → x ≡ Certificate k s p → ⊥) → ⊥
 unfolding kind_of
@@ -255,16 +266,10 @@ module _ {bs : List ℕ} {tables : Tables} (r : Reads bs tables) (t : ℕ) where
   certificate_declared e = kind_declared bs e (λ z. omega arith)
 
   pub request_term : {a b c d : ℕ} {s : Subject} → kind (file_in bs) t ≡ idevid_request_kind → a ≡ field_of (tables_in tables).terms t 0 → b ≡ field_of (tables_in tables).terms t 1 → s ≡ subject_by a b → c ≡ field_of (tables_in tables).terms t 2 → d ≡ field_of (tables_in tables).terms t 3 → IdevidRequest s c d ≡ term (file_in bs) t
-  unfolding kind field
-  request_term k p q e u v =
-      let l = request_declared k in
-      rw (e, p, q, u, v, r.finds.field_is t 0 l (omega arith), r.finds.field_is t 1 l (omega arith), r.finds.field_is t 2 l (omega arith), r.finds.field_is t 3 l (omega arith)) (request_fields (term (file_in bs) t) k)
+  request_term k = noted_request (file_in bs) t (tables_in tables).terms (λ i m. r.finds.field_is t i (request_declared k) m) k
 
   pub certificate_term : {a b c d : ℕ} {s : Subject} → kind (file_in bs) t ≡ certificate_kind → a ≡ field_of (tables_in tables).terms t 0 → b ≡ field_of (tables_in tables).terms t 1 → c ≡ field_of (tables_in tables).terms t 2 → s ≡ subject_by b c → d ≡ field_of (tables_in tables).terms t 3 → Certificate a s d ≡ term (file_in bs) t
-  unfolding kind field
-  certificate_term k p q u e v =
-      let l = certificate_declared k in
-      rw (e, p, q, u, v, r.finds.field_is t 0 l (omega arith), r.finds.field_is t 1 l (omega arith), r.finds.field_is t 2 l (omega arith), r.finds.field_is t 3 l (omega arith)) (certificate_fields (term (file_in bs) t) k)
+  certificate_term k = noted_certificate (file_in bs) t (tables_in tables).terms (λ i m. r.finds.field_is t i (certificate_declared k) m) k
 
 -- whether the term of an entry passes
 pub passes_none : (test : ℕ → Bool) → passes test 0 ≡ false

@@ -1,7 +1,7 @@
 // What the code keeps of a loaded file, and what it reads of it.
 #![tactic(auto, using(crate::proofs::Reading::field_read), unfolding(rules::specs::File::hashed_term, rules::specs::File::message, rules::specs::File::signing_key, rules::specs::File::attested_key, rules::specs::File::credential_term, rules::specs::File::credential_number, rules::specs::File::credential_key, rules::specs::File::idevid_certificate, rules::specs::File::idevid_key, rules::specs::File::ldevid_message, rules::specs::File::ldevid_certificate, rules::specs::File::certified_key, rules::specs::File::signer, rules::specs::File::left_of, rules::specs::File::right_of, rules::specs::File::register_of, rules::specs::File::quoted_value, rules::specs::File::quote_number))]
 
-ghost use Rattle.std.specs.Prelude.{◌≡◌, ◌+◌, ◌<◌, ◌≤◌, eqb, length};
+ghost use Rattle.std.specs.Prelude.{◌≡◌, ◌+◌, ◌*◌, ◌<◌, ◌≤◌, eqb, length};
 ghost use Rattle.rules.specs.Limits.{party_limit, term_limit, state_bytes};
 ghost use Rattle.rules.specs.Codes.{role_number, kind_number};
 ghost use Rattle.rules.specs.Attributes.{same_attributes};
@@ -10,11 +10,13 @@ ghost use Rattle.rules.specs.File.{is_role, is_kind, term, kind, field, subject,
 ghost use Rattle.rules.specs.Device.{key_has};
 ghost use Rattle.state.specs.View.{view};
 ghost use Rattle.tables.specs.Columns.{field_words, tables_in};
+ghost use Rattle.checks.specs.There.{role_there};
 ghost use Rattle.index.specs.Indexed.{passes};
-ghost use Rattle.loaded.specs.Loaded.{file_in, Reads, Holds, Learns, subject_by, has_some};
+ghost use Rattle.loaded.specs.Loaded.{file_in, Reads, Holds, Learns, has_some};
 
+use crate::as_noted::{certificate_noted, idevid_request_noted};
 use crate::terms::{Certificate, Credential, IdevidRequest, LdevidRequest, Pair, Quote, Signature};
-use rules::{Attributes, Role, Signers, Subject, Term, TermKind};
+use rules::{Attributes, Role, Signers, Term, TermKind};
 use tables::Tables;
 
 // The bytes of a file that loads, and the tables by which its terms are read.
@@ -25,16 +27,12 @@ pub struct Loaded<'a> {
     pub ghost reads: { Reads file.now tables.now },
 }
 
-// A Subject by its two fields.
-#[tactic(auto, unfolding(crate::specs::Loaded::subject_by))]
-fn subject_of(tag: u16, number: u16) -> Subject
-    ensures { result ≡ subject_by tag number }
+// Whether the role byte that stands where a party's record does is a role's, declared or not.
+pub fn role_stands(file: &[u8], party: usize, role: Role) -> bool
+    requires { 2 * party + 1 < length file.now }
+    ensures { result ≡ eqb (role_there file.now party) (role_number role) }
 {
-    if tag == 0 {
-        Subject::Tpm(number)
-    } else {
-        Subject::Device(number)
-    }
+    checks::role_of(file, party) == role.number()
 }
 
 impl<'a> Loaded<'a> {
@@ -44,7 +42,7 @@ impl<'a> Loaded<'a> {
         requires { party < length (file_in self.now.file.now).roles }
         ensures { result ≡ is_role (file_in self.now.file.now) (role_number role) party }
     {
-        checks::role_of(self.file, party) == role.number()
+        role_stands(self.file, party, role)
     }
 
     // Whether a term is of a kind.
@@ -218,11 +216,7 @@ impl<'a> Loaded<'a> {
         requires { kind (file_in self.now.file.now) t ≡ idevid_request_kind }
         ensures { result ≡ term (file_in self.now.file.now) t }
     {
-        Term::IdevidRequest(
-            subject_of(self.tables.field_of(t, 0), self.tables.field_of(t, 1)),
-            self.tables.field_of(t, 2),
-            self.tables.field_of(t, 3),
-        )
+        idevid_request_noted(self.tables, t)
     }
 
     // An IDevID request.
@@ -260,11 +254,7 @@ impl<'a> Loaded<'a> {
         requires { kind (file_in self.now.file.now) t ≡ certificate_kind }
         ensures { result ≡ term (file_in self.now.file.now) t }
     {
-        Term::Certificate(
-            self.tables.field_of(t, 0),
-            subject_of(self.tables.field_of(t, 1), self.tables.field_of(t, 2)),
-            self.tables.field_of(t, 3),
-        )
+        certificate_noted(self.tables, t)
     }
 
     // A certificate.
