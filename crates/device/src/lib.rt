@@ -1,9 +1,10 @@
 // Device commands: what each decides and what it leaves.
 #![tactic(auto)]
 
-ghost use Rattle.std.specs.Prelude.{◌≡◌, ◌||◌, List, ◌<◌, ◌≤◌, length, OnOk, OnErr};
+ghost use Rattle.std.specs.Prelude.{◌≡◌, ◌||◌, List, ◌<◌, ◌≤◌, length, get_or, ◌+◌, OnOk, OnErr};
 ghost use Rattle.rules.specs.Codes.{number_in};
 ghost use Rattle.rules.specs.declared.Entry.{Entry};
+ghost use Rattle.rules.specs.Record.{word};
 ghost use Rattle.rules.specs.Limits.{oem_desk, owner_desk};
 ghost use Rattle.rules.specs.File.{hash, sign, certify, make_credential, activate_credential, make_idevid_request, make_ldevid_request, make_pair, is_role, check_hash, check_signature, check_certificate, check_attributes, send, self_issue};
 ghost use Rattle.rules.specs.Device.{both_known_tests, check_tests, may_send, may_be_sent_by_desk, no_ticket};
@@ -355,7 +356,8 @@ pub fn effect_activate(loaded: &Loaded, state: &mut [u8], party: usize, r: usize
 #[tactic(auto, using(crate::proofs::Read::read))]
 fn decide_checked(loaded: &Loaded, state: &[u8], at: usize, kind: u8) -> Result<(), Refusal>
     requires { Holds loaded.now.file.now state.now × CommandAt (Wellformed (file_in loaded.now.file.now)) loaded.now.file.now at × (kind_there loaded.now.file.now at ≡ kind) × (0x38 ≤ kind) × (kind ≤ 0x3B) }
-    ensures { Decides loaded.now.file.now state.now (command_there loaded.now.file.now at) result }
+    ensures decided { Decides loaded.now.file.now state.now (command_there loaded.now.file.now at) result }
+    ensures left { Leaves loaded.now.file.now state.now state.now (command_there loaded.now.file.now at) }
 {
     let file = loaded.file;
     let party = file[at + 1] as usize;
@@ -369,6 +371,24 @@ fn decide_checked(loaded: &Loaded, state: &[u8], at: usize, kind: u8) -> Result<
         0x39 => decide_check_signature(loaded, state, party, t, u),
         _ => decide_check_certificate(loaded, state, party, t, u),
     }
+}
+
+// What 31 to 33, 35 to 37 and 3D leave, by the record: the party learns what it made.
+#[tactic(auto, using(crate::proofs::Read::read))]
+fn effect_made(loaded: &Loaded, state: &mut [u8], at: usize, party: usize, t: usize)
+    requires { Holds loaded.now.file.now state.old × CommandAt (Wellformed (file_in loaded.now.file.now)) loaded.now.file.now at × (kind_there loaded.now.file.now at < 0x3E) × ((kind_there loaded.now.file.now at ≡ 0x30 → ⊥) × (kind_there loaded.now.file.now at ≡ 0x34 → ⊥) × (0x38 ≤ kind_there loaded.now.file.now at → kind_there loaded.now.file.now at < 0x3D → ⊥)) × (party ≡ get_or loaded.now.file.now (at + 1) 0) × (t ≡ word loaded.now.file.now (at + 2)) }
+    ensures { Leaves loaded.now.file.now state.old state.new (command_there loaded.now.file.now at) }
+{
+    loaded.learn(state, party, t);
+}
+
+// What 3C leaves, by the record: the other party learns the term.
+#[tactic(auto, using(crate::proofs::Read::read))]
+fn effect_send(loaded: &Loaded, state: &mut [u8], at: usize, other: usize, t: usize)
+    requires { Holds loaded.now.file.now state.old × CommandAt (Wellformed (file_in loaded.now.file.now)) loaded.now.file.now at × (kind_there loaded.now.file.now at ≡ 0x3C) × (other ≡ get_or loaded.now.file.now (at + 2) 0) × (t ≡ word loaded.now.file.now (at + 3)) }
+    ensures { Leaves loaded.now.file.now state.old state.new (command_there loaded.now.file.now at) }
+{
+    loaded.learn(state, other, t);
 }
 
 // Executes the device command at a place by its kind, a byte of the file: what it decides, and what it leaves where it
@@ -391,15 +411,15 @@ pub fn execute(loaded: &Loaded, state: &mut [u8], at: usize) -> Result<(), Refus
         }
         0x31 => {
             decide_sign(loaded, state, party, t)?;
-            loaded.learn(state, party, t);
+            effect_made(loaded, state, at, party, t);
         }
         0x32 => {
             decide_certify(loaded, state, party, t)?;
-            loaded.learn(state, party, t);
+            effect_made(loaded, state, at, party, t);
         }
         0x33 => {
             decide_make_credential(loaded, state, party, t)?;
-            loaded.learn(state, party, t);
+            effect_made(loaded, state, at, party, t);
         }
         0x34 => {
             decide_activate(loaded, state, party, t)?;
@@ -407,26 +427,26 @@ pub fn execute(loaded: &Loaded, state: &mut [u8], at: usize) -> Result<(), Refus
         }
         0x35 => {
             decide_idevid_request(loaded, state, party, t)?;
-            loaded.learn(state, party, t);
+            effect_made(loaded, state, at, party, t);
         }
         0x36 => {
             decide_ldevid_request(loaded, state, party, t)?;
-            loaded.learn(state, party, t);
+            effect_made(loaded, state, at, party, t);
         }
         0x37 => {
             decide_pair(loaded, state, party, t)?;
-            loaded.learn(state, party, t);
+            effect_made(loaded, state, at, party, t);
         }
         0x38..=0x3B => decide_checked(loaded, state, at, kind)?,
         0x3C => {
             let other = file[at + 2] as usize;
             let sent = records::word_at(file, at + 3) as usize;
             decide_send(loaded, state, party, other, sent)?;
-            loaded.learn(state, other, sent);
+            effect_send(loaded, state, at, other, sent);
         }
         _ => {
             decide_self_issue(loaded, state, party, t)?;
-            loaded.learn(state, party, t);
+            effect_made(loaded, state, at, party, t);
         }
     }
     Ok(())
