@@ -16,9 +16,9 @@ made =
     TermOf hash_kind ∷ TermOf signature_kind ∷ SignedAttest ∷ TermOf credential_kind ∷ TermOf credential_kind ∷ TermOf idevid_request_kind ∷ TermOf ldevid_request_kind ∷ TermOf pair_kind ∷ []
 
 -- the second field of 30 to 37 is the last
-pub made_row : (k : ℕ) → 0x30 ≤ k → k ≤ 0x37 → fields_of k ≡ PartyField ∷ get_or made (k - 0x30) RoleField ∷ []
+pub made_fields : (k : ℕ) → 0x30 ≤ k → k ≤ 0x37 → fields_of k ≡ PartyField ∷ get_or made (k - 0x30) RoleField ∷ []
 unfolding fields_of section_of
-made_row k l h = agree fields_of (λ k. PartyField ∷ get_or made (k - 0x30) RoleField ∷ []) 0x30 8 refl k l (omega arith)
+made_fields k l h = agree fields_of (λ k. PartyField ∷ get_or made (k - 0x30) RoleField ∷ []) 0x30 8 refl k l (omega arith)
 
 pub made_body : (k : ℕ) (f : Field) → fields_of k ≡ PartyField ∷ f ∷ [] → body_length k ≡ 1 + width f
 unfolding body_length widths width

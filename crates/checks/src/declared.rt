@@ -26,8 +26,8 @@ fn check_range(n: usize, limit: usize) -> Result<(), Refusal>
     }
 }
 
-// What a command from 30 to 37 makes: the last of its two fields. A row of constants is read by the kind, and no table
-// of all kinds' fields.
+// What a command from 30 to 37 makes: the last of its two fields, read by the kind from a row of constants, which costs
+// less than `records::fields_of`.
 fn made_field(kind: u8) -> Field
     requires { (0x30 ≤ kind) × (kind ≤ 0x37) }
     ensures { fields_of kind ≡ PartyField ∷ result ∷ [] }
