@@ -331,18 +331,36 @@ impl<'a> Declared<'a> {
         }
     }
 
-    // The same of the most frequent commands.
+    // The same of a command from 30 to 37.
+    #[tactic(auto, unfolding(rules::specs::Record::section_of, rules::specs::Record::fields_of, rules::specs::Record::body_length, rules::specs::Record::widths, rules::specs::Record::width))]
+    fn is_made_right(&self, kind: u8, body: &[u8]) -> bool
+        requires { (0x30 ≤ kind) × (kind ≤ 0x37) × (body_length kind ≤ length body.now) }
+        ensures { result ≡ true → (section_of kind ≡ command_section) × (fields_fault_noted (tables_in self.now.tables.now).terms self.now.parties self.now.terms (fields_of kind) 0 body.now ≡ 0) }
+    {
+        self.check_made(made_field(kind), body).is_ok()
+    }
+
+    // The same of a command from 40 to 42.
+    #[tactic(auto, unfolding(rules::specs::Record::section_of, rules::specs::Record::fields_of, rules::specs::Record::body_length, rules::specs::Record::widths, rules::specs::Record::width))]
+    fn is_issue_right(&self, kind: u8, body: &[u8]) -> bool
+        requires { (0x40 ≤ kind) × (kind ≤ 0x42) × (body_length kind ≤ length body.now) }
+        ensures { result ≡ true → (section_of kind ≡ command_section) × (fields_fault_noted (tables_in self.now.tables.now).terms self.now.parties self.now.terms (fields_of kind) 0 body.now ≡ 0) }
+    {
+        self.check_issue(body, TermKind::Certificate).is_ok()
+    }
+
+    // The same of other commands.
     #[tactic(auto, unfolding(rules::specs::Record::section_of, rules::specs::Record::fields_of, rules::specs::Record::body_length, rules::specs::Record::widths, rules::specs::Record::width))]
     fn is_right(&self, kind: u8, body: &[u8]) -> bool
         requires { body_length kind ≤ length body.now }
         ensures { result ≡ true → (section_of kind ≡ command_section) × (fields_fault_noted (tables_in self.now.tables.now).terms self.now.parties self.now.terms (fields_of kind) 0 body.now ≡ 0) }
     {
+        if kind == 0x3C {
+            return self.check_sent(body).is_ok();
+        }
         match kind {
-            0x30..=0x37 => self.check_made(made_field(kind), body).is_ok(),
-            0x3C => self.check_sent(body).is_ok(),
             0x3E => self.check_issue(body, TermKind::Credential).is_ok(),
             0x3F => self.check_return(body).is_ok(),
-            0x40..=0x42 => self.check_issue(body, TermKind::Certificate).is_ok(),
             0x43 => self.check_pairs(body).is_ok(),
             0x44 => self.check_extended(body).is_ok(),
             0x45 => self.check_quoted(body).is_ok(),
@@ -350,11 +368,19 @@ impl<'a> Declared<'a> {
         }
     }
 
-    // The same of the record that stands from a place to another.
+    // The same of the record that stands from a place to another. The kinds of which a file may have thousands come first,
+    // by a branch each, as where the end was found: a jump by the kind would have to be waited for.
     pub fn is_plain(&self, file: &[u8], at: usize, end: usize) -> bool
         requires { (at < length file.now) × (end ≡ at + 1 + body_length (get_or file.now at 0)) }
         ensures { result ≡ true → Plain file.now (tables_in self.now.tables.now).terms self.now.parties self.now.terms at end }
     {
-        end <= file.len() && self.is_right(file[at], &file[at + 1..end])
+        let kind = file[at];
+        if kind >= 0x30 && kind <= 0x37 {
+            return end <= file.len() && self.is_made_right(kind, &file[at + 1..end]);
+        }
+        if kind >= 0x40 && kind <= 0x42 {
+            return end <= file.len() && self.is_issue_right(kind, &file[at + 1..end]);
+        }
+        end <= file.len() && self.is_right(kind, &file[at + 1..end])
     }
 }
