@@ -228,6 +228,9 @@ impl<'a> Declared<'a> {
         if let Field::TermOf(kind) = field {
             return self.check_kind(body, 1, kind);
         }
+        if let Field::SignedAttest = field {
+            return self.check_inner(body, 1, TermKind::Signature, TermKind::Attest);
+        }
         self.check_field(field, body, 1)
     }
 
@@ -375,11 +378,13 @@ impl<'a> Declared<'a> {
         ensures { result ≡ true → Plain file.now (tables_in self.now.tables.now).terms self.now.parties self.now.terms at end }
     {
         let kind = file[at];
-        if kind >= 0x30 && kind <= 0x37 {
-            return end <= file.len() && self.is_made_right(kind, &file[at + 1..end]);
-        }
-        if kind >= 0x40 && kind <= 0x42 {
-            return end <= file.len() && self.is_issue_right(kind, &file[at + 1..end]);
+        if kind >= 0x30 {
+            if kind <= 0x37 {
+                return end <= file.len() && self.is_made_right(kind, &file[at + 1..end]);
+            }
+            if kind >= 0x40 && kind <= 0x42 {
+                return end <= file.len() && self.is_issue_right(kind, &file[at + 1..end]);
+            }
         }
         end <= file.len() && self.is_right(kind, &file[at + 1..end])
     }
