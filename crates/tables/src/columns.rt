@@ -18,12 +18,13 @@ pub const BUCKETS: usize = 1024;
 // entries are one more than their number, 0 where there is none.
 #[derive(Drop)]
 pub struct Tables {
+    // First, so that learning, which goes deep, needs no register for where they begin.
+    fields: [u16; FIELDS * rules::TERM_LIMIT],
     signers: [u16; rules::PARTY_LIMIT],
     halves: [u16; rules::TERM_LIMIT],
     entries: [u16; rules::TERM_LIMIT],
     depths: [u16; rules::TERM_LIMIT],
     kinds: [u16; rules::TERM_LIMIT],
-    fields: [u16; FIELDS * rules::TERM_LIMIT],
     newest: [u16; BUCKETS],
     serials: [u16; rules::TERM_LIMIT],
     earlier: [u16; rules::TERM_LIMIT],
@@ -47,12 +48,12 @@ impl Tables {
         ensures { EmptyTables result }
     {
         Tables {
+            fields: [0; FIELDS * rules::TERM_LIMIT],
             signers: [0; rules::PARTY_LIMIT],
             halves: [0; rules::TERM_LIMIT],
             entries: [0; rules::TERM_LIMIT],
             depths: [0; rules::TERM_LIMIT],
             kinds: [0; rules::TERM_LIMIT],
-            fields: [0; FIELDS * rules::TERM_LIMIT],
             newest: [0; BUCKETS],
             serials: [0; rules::TERM_LIMIT],
             earlier: [0; rules::TERM_LIMIT],
