@@ -16,13 +16,17 @@ fn list_whole<W: Write>(to: &mut W, name: &str, file: &[u8]) -> io::Result<()> {
     lines::list(file, to)
 }
 
-// Lists the first bytes of a file: a line with its name and how many they are, then their listing. How many is printed
-// by `decimal`, since the library's own printing divides.
-fn list_part<W: Write>(to: &mut W, name: &str, part: &[u8]) -> io::Result<()> {
+// Prints a number by `decimal`, since the library's own printing divides.
+fn print_number<W: Write>(to: &mut W, x: u64) -> io::Result<()> {
     let mut digits = [0u8; decimal::DIGITS];
-    let n = decimal::decimal_into(&mut digits, 0, part.len() as u64);
+    let n = decimal::decimal_into(&mut digits, 0, x);
+    to.write_all(&digits[..n])
+}
+
+// Lists the first bytes of a file: a line with its name and how many they are, then their listing.
+fn list_part<W: Write>(to: &mut W, name: &str, part: &[u8]) -> io::Result<()> {
     write!(to, "# {name} ")?;
-    to.write_all(&digits[..n])?;
+    print_number(to, part.len() as u64)?;
     writeln!(to)?;
     lines::list(part, to)
 }
