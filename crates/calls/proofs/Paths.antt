@@ -1,17 +1,17 @@
 -- Path by what Run gives: its answer, the buffers and the list.
---     entries_inside, few_steps     what a run leaves is what Path needs
+--     entries_declared, entries_inside, few_steps     what a run leaves is what Path needs
 --     path_short, path_refused, path_none, path_some     what Path answers and leaves is what the rules say
+--     term_entries_inside, term_few_steps, term_path_none, term_path_some     the same of what the code reads
 -- Assumes nothing.
 use Rattle.std.proofs.Common.{◌≡◌, refl, sym, ap, ◌∙◌, Bool, true, false, cond, ◌&&◌, List, [], ◌∷◌, ◌++◌, ℕ, suc, ◌+◌, ◌<◌, ◌≤◌, arith, leb, length, length-take-le, get_or, take, drop, Result, Ok, Err}
 use mathlib.Core.Bool.{false≢true}
-use lib.Dec.{eqb}
 use native.Mathlib.Decide.{dec_lt}
 use borrow.Author.Tests.{eq-eqb, ne_eqb, le-leb, lt-leb}
 use Rattle.tables.specs.declared.columns.Tables.{Tables}
 use Rattle.rules.specs.declared.Entry.{Entry}
 use Rattle.rules.specs.declared.Refused.{Refused}
 use Rattle.rules.specs.Codes.{number_of}
-use Rattle.rules.specs.Limits.{term_limit, depth_limit, path_places}
+use Rattle.rules.specs.Limits.{depth_limit, path_places}
 use Rattle.rules.specs.Load.{Load, loaded, refused, load}
 use Rattle.rules.specs.File.{File}
 use Rattle.rules.specs.State.{State, listed, depth_of}
@@ -24,8 +24,8 @@ use Rattle.commands.specs.Standing.{Blank}
 use Rattle.loaded.proofs.Ledger.{entry_inside, column_none, column_listed}
 use Rattle.engine.specs.declared.Finished.{Finished}
 use Rattle.engine.specs.Raw.{Ran, Stood}
-use Rattle.path.specs.Climbing.{entry_in, EntriesInside, steps_in, climbed}
-use Rattle.path.proofs.Climbing.{entry_is, climbed_steps}
+use Rattle.path.specs.Climbing.{EntriesDeclared, EntriesInside, steps_in, climbed, entry_in, TermEntriesInside, term_steps_in, term_climbed}
+use Rattle.path.proofs.Climbing.{entry_is, terms_inside, steps_as, climbed_as, climbed_steps}
 
 -- a test that fails, behind another
 second_fails : (a b : Bool) → b ≡ false → a && b ≡ false
@@ -125,18 +125,17 @@ module _ {bs : List ℕ} {n : ℕ} {lent after : Lent} {tables : Tables} {r : Fi
   abbrev ledger : List Entry
   ledger = (reached (file_in bs) n).ledger
 
-  entries_declared : (c : ℕ) → 0 < (tables_in tables).entry c → c < term_limit
-  entries_declared c more =
-      let m = listed_found ledger c (column_listed c w.stands.enters more) in
-      let g = w.stands.kept.sound.entries m.place m.entry m.here in
-      let k = known_declared (file_in bs) _ w.stands.kept.blank _ m.entry.certificate g.known in
-      omega (arith, k, m.same, w.stands.holds.there.few)
-
-  places : (c : ℕ) → entry_in tables c ≡ (tables_in tables).entry c
-  places = entry_is tables entries_declared
+  pub entries_declared : EntriesDeclared tables
+  entries_declared = record {
+    declared = λ c more.
+        let m = listed_found ledger c (column_listed c w.stands.enters more) in
+        let g = w.stands.kept.sound.entries m.place m.entry m.here in
+        let k = known_declared (file_in bs) _ w.stands.kept.blank _ m.entry.certificate g.known in
+        omega (arith, k, m.same, w.stands.holds.there.few);
+  }
 
   pub entries_inside : length after.ledger ≡ length lent.ledger → EntriesInside tables after.ledger
-  entries_inside same = record { inside = λ c. rw (places c) (omega (arith, entry_inside c w.stands.enters, w.stands.enters.few, same, w.long)) }
+  entries_inside same = record { inside = λ c. omega (arith, entry_inside c w.stands.enters, w.stands.enters.few, same, w.long) }
 
   module _ (t : ℕ) where
     deep : (tables_in tables).depth t ≡ depth_of ledger t
@@ -145,9 +144,6 @@ module _ {bs : List ℕ} {n : ℕ} {lent after : Lent} {tables : Tables} {r : Fi
     shallow : listed ledger t ≡ true → depth_of ledger t ≤ depth_limit
     shallow g = let m = listed_found ledger t g in omega (arith, m.depth, (w.stands.kept.sound.entries m.place m.entry m.here).most)
 
-    steps_here : steps_in tables t ≡ cond (eqb ((tables_in tables).entry t) 0) (refusal 30 t) (success ((tables_in tables).depth t ∷ []))
-    steps_here = rw (places t) refl
-
     -- the steps that are answered
     some_steps : {d : ℕ} → path_in_numbers (Ok d) ≡ steps_in tables t → (listed ledger t ≡ true) × (d ≡ depth_of ledger t)
     unfolding in_numbers
@@ -155,10 +151,10 @@ module _ {bs : List ℕ} {n : ℕ} {lent after : Lent} {tables : Tables} {r : Fi
       where
         go : Dec (0 < (tables_in tables).entry t) → (listed ledger t ≡ true) × (d ≡ depth_of ledger t)
         go (yes h) =
-            let e : success (d ∷ []) ≡ success ((tables_in tables).depth t ∷ []) = q ∙ steps_here ∙ rw (ne_eqb ((tables_in tables).entry t) 0 (λ z. omega (arith, h, z))) refl in
+            let e : success (d ∷ []) ≡ success ((tables_in tables).depth t ∷ []) = q ∙ rw (ne_eqb ((tables_in tables).entry t) 0 (λ z. omega (arith, h, z))) refl in
             (column_listed t w.stands.enters h, ap (λ (a : Answer). get_or a.values 0 0) e ∙ deep)
         go (no h) =
-            let e : success (d ∷ []) ≡ refusal 30 t = q ∙ steps_here ∙ rw (eq-eqb ((tables_in tables).entry t) 0 (omega (arith, h))) refl in
+            let e : success (d ∷ []) ≡ refusal 30 t = q ∙ rw (eq-eqb ((tables_in tables).entry t) 0 (omega (arith, h))) refl in
             absurd (let z : ◌≡◌ {A = ℕ} 1 0 = ap (λ (a : Answer). length a.values) e in omega arith)
 
     no_steps : (e : Refused) → path_in_numbers (Err e) ≡ steps_in tables t → (listed ledger t ≡ false) × (path_in_numbers (Err e) ≡ refusal 30 t)
@@ -167,11 +163,11 @@ module _ {bs : List ℕ} {n : ℕ} {lent after : Lent} {tables : Tables} {r : Fi
       where
         go : Dec (0 < (tables_in tables).entry t) → (listed ledger t ≡ false) × (path_in_numbers (Err e) ≡ refusal 30 t)
         go (yes h) =
-            let u : refusal (number_of e.refusal) e.place ≡ success ((tables_in tables).depth t ∷ []) = q ∙ steps_here ∙ rw (ne_eqb ((tables_in tables).entry t) 0 (λ z. omega (arith, h, z))) refl in
+            let u : refusal (number_of e.refusal) e.place ≡ success ((tables_in tables).depth t ∷ []) = q ∙ rw (ne_eqb ((tables_in tables).entry t) 0 (λ z. omega (arith, h, z))) refl in
             absurd (let z : ◌≡◌ {A = ℕ} 0 1 = ap (λ (a : Answer). length a.values) u in omega arith)
         go (no h) =
             let z : (tables_in tables).entry t ≡ 0 = omega (arith, h) in
-            (column_none t w.stands.enters z, q ∙ steps_here ∙ rw (eq-eqb ((tables_in tables).entry t) 0 z) refl)
+            (column_none t w.stands.enters z, q ∙ rw (eq-eqb ((tables_in tables).entry t) 0 z) refl)
 
     pub few_steps : {d : ℕ} → path_in_numbers (Ok d) ≡ steps_in tables t → d ≤ depth_limit
     few_steps q = let k = some_steps q in omega (arith, k.1, shallow k.0)
@@ -200,7 +196,25 @@ module _ {bs : List ℕ} {n : ℕ} {lent after : Lent} {tables : Tables} {r : Fi
               ap (λ (m : ℕ). success (m ∷ [])) k.1 ∙ sym (p.0 ∙ ap (λ (b : Bool). cond b (success (depth_of ledger t ∷ [])) (refusal 30 t)) k.0),
               run.buffers ∙ buffers bs n lent t list long,
             ),
-            ap (λ (xs : List ℕ). xs ++ drop (d + 1) list) (written ∙ ap (λ (m : ℕ). climbed tables after.ledger m t) s ∙ climbed_steps lent.ledger places w.stands.enters w.ledger d t)
+            ap (λ (xs : List ℕ). xs ++ drop (d + 1) list) (written ∙ ap (λ (m : ℕ). climbed tables after.ledger m t) s ∙ climbed_steps lent.ledger w.stands.enters w.ledger d t)
                 ∙ ap (λ (m : ℕ). steps ledger m t ++ drop (m + 1) list) k.1
                 ∙ sym (p.1 ∙ ap (λ (b : Bool). cond b (steps ledger (depth_of ledger t) t ++ drop (depth_of ledger t + 1) list) list) k.0),
           )
+
+  -- the same of what the code reads, which is of terms alone: those are all that the tables place
+  places : (c : ℕ) → entry_in tables c ≡ (tables_in tables).entry c
+  places = entry_is tables entries_declared.declared
+
+  pub term_entries_inside : length after.ledger ≡ length lent.ledger → TermEntriesInside tables after.ledger
+  term_entries_inside same = terms_inside (entries_inside same)
+
+  module _ (t : ℕ) where
+    pub term_few_steps : {d : ℕ} → path_in_numbers (Ok d) ≡ term_steps_in tables t → d ≤ depth_limit
+    term_few_steps q = few_steps t (q ∙ steps_as tables places t)
+
+    module _ (list : List ℕ) (long : path_places ≤ length list) (run : Ran bs n lent after (Ok r)) where
+      pub term_path_none : (e : Refused) → path_in_numbers (Err e) ≡ term_steps_in tables t → (x : Result ℕ Refused) → x ≡ Err e → PathRan bs n lent t list after list x
+      term_path_none e q = path_none t list long run e (q ∙ steps_as tables places t)
+
+      pub term_path_some : (d : ℕ) → path_in_numbers (Ok d) ≡ term_steps_in tables t → (ys : List ℕ) → ys ≡ term_climbed tables after.ledger (length (take (d + 1) list)) t → PathRan bs n lent t list after (ys ++ drop (d + 1) list) (Ok d)
+      term_path_some d q ys written = path_some t list long run d (q ∙ steps_as tables places t) ys (written ∙ climbed_as tables places after.ledger (length (take (d + 1) list)) t)

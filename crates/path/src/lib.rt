@@ -5,7 +5,7 @@ ghost use Rattle.std.specs.Prelude.{◌≡◌, [], ◌<◌, ◌≤◌, length, I
 ghost use Rattle.rules.specs.Limits.{term_limit, path_places};
 ghost use Rattle.rules.specs.Lent.{refusal, in_numbers, path_in_numbers};
 ghost use Rattle.tables.specs.Columns.{one_more};
-ghost use Rattle.path.specs.Climbing.{entry_in, EntriesInside, steps_in, parent_in, climbed};
+ghost use Rattle.path.specs.Climbing.{entry_in, TermEntriesInside, term_steps_in, term_parent_in, term_climbed};
 
 use rules::{Entry, Refusal, Refused};
 use tables::Tables;
@@ -43,7 +43,7 @@ fn entry_of(tables: &Tables, t: u16) -> Option<usize>
 // The steps of a certificate's path; 30 where it has no entry.
 #[tactic(auto, unfolding(rules::specs::Lent::in_numbers))]
 pub fn steps_of(tables: &Tables, t: u16) -> Result<u32, Refused>
-    ensures { path_in_numbers result ≡ steps_in tables.now t }
+    ensures { path_in_numbers result ≡ term_steps_in tables.now t }
 {
     match entry_of(tables, t) {
         Some(_) => Ok(tables.depth_of(t as usize) as u32),
@@ -56,8 +56,8 @@ pub fn steps_of(tables: &Tables, t: u16) -> Result<u32, Refused>
 
 // The parent by a certificate's entry; 0 where it has none.
 fn parent_of(tables: &Tables, ledger: &[Entry], t: u16) -> u16
-    requires { EntriesInside tables.now ledger.now }
-    ensures { result ≡ parent_in tables.now ledger.now t }
+    requires { TermEntriesInside tables.now ledger.now }
+    ensures { result ≡ term_parent_in tables.now ledger.now t }
 {
     match entry_of(tables, t) {
         Some(place) => ledger::read_one(ledger, place).parent,
@@ -66,10 +66,10 @@ fn parent_of(tables: &Tables, ledger: &[Entry], t: u16) -> u16
 }
 
 // A certificate goes to the first place of the list, and to each place after it the parent of the one before.
-#[tactic(auto, using(crate::proofs::Climbing::climb_end))]
+#[tactic(auto, using(crate::proofs::Climbing::term_climb_end))]
 pub fn climb(tables: &Tables, ledger: &[Entry], list: &mut [u16], start: u16)
-    requires { EntriesInside tables.now ledger.now }
-    ensures { list.new ≡ climbed tables.now ledger.now (length list.old) start }
+    requires { TermEntriesInside tables.now ledger.now }
+    ensures { list.new ≡ term_climbed tables.now ledger.now (length list.old) start }
 {
     let mut certificate = start;
     for place in list {

@@ -1,6 +1,6 @@
 use Rattle.std.proofs.Common.{◌≡◌, ◌+◌, arith, sym, Err, length-take-le}
 use Rattle.std.proofs.lemmas.Grind.{common_steps}
-use Rattle.calls.proofs.Paths.{entries_inside, few_steps, path_short, path_refused, path_none, path_some}
+use Rattle.calls.proofs.Paths.{term_entries_inside, term_few_steps, path_short, path_refused, term_path_none, term_path_some}
 use Rattle.calls.proofs.path.Goals as goal
 
 pub returns-in_err-check_room : goal.returns-in_err-check_room
@@ -20,18 +20,18 @@ returns-in_err-steps c =
     let e = c.in_err-steps in
     let r = c.in_ok-run.ensures in
     let is : c.from_residual-in_err-steps.result ≡ Err e.field-0.0 = grind (arith, common_steps) in
-    path_none r.stands _ _ c.in_ok-check_room.ensures.room r.rules e.field-0.0 e.ensures c.from_residual-in_err-steps.result is
+    term_path_none r.stands _ _ c.in_ok-check_room.ensures.room r.rules e.field-0.0 e.ensures c.from_residual-in_err-steps.result is
 
 pub slice_bounds-climb-end : goal.slice_bounds-climb-end
-slice_bounds-climb-end c = let few = few_steps c.in_ok-run.ensures.stands _ c.in_ok-steps.ensures in omega (arith, few, c.in_ok-check_room.ensures.room)
+slice_bounds-climb-end c = let few = term_few_steps c.in_ok-run.ensures.stands _ c.in_ok-steps.ensures in omega (arith, few, c.in_ok-check_room.ensures.room)
 
 pub slice_bounds-climb-end-2 : goal.slice_bounds-climb-end-2
 slice_bounds-climb-end-2 c =
-    let few = few_steps c.in_ok-run.ensures.stands _ c.in_ok-steps.ensures in
+    let few = term_few_steps c.in_ok-run.ensures.stands _ c.in_ok-steps.ensures in
     sym (length-take-le (c.in_ok-steps.steps + 1) c.args.list.now (omega (arith, few, c.in_ok-check_room.ensures.room)))
 
 pub climb-requires : goal.climb-requires
-climb-requires c = entries_inside c.in_ok-run.ensures.stands c.run.auto.ledger
+climb-requires c = term_entries_inside c.in_ok-run.ensures.stands c.run.auto.ledger
 
 pub returns : goal.returns
-returns c = let r = c.in_ok-run.ensures in path_some r.stands _ _ c.in_ok-check_room.ensures.room r.rules _ c.in_ok-steps.ensures c.climb.new.list c.climb.ensures
+returns c = let r = c.in_ok-run.ensures in term_path_some r.stands _ _ c.in_ok-check_room.ensures.room r.rules _ c.in_ok-steps.ensures c.climb.new.list c.climb.ensures
