@@ -4,8 +4,8 @@
 --     climb_next, climb_end             a place more, and the last, by the columns
 --     term_climb_next, term_climb_end   the same by the terms
 --     climbed_steps                     what is written is the rules' path
---     steps_as, climbed_as              by the terms it is what it is by the columns, where they place terms alone
---     term_climbed_steps                and so it is the rules' path
+--     steps_as, climbed_as              the two forms are equal, where the tables place terms alone
+--     term_climbed_steps                and so what is written by the terms is the rules' path
 -- Assumes nothing.
 use Rattle.std.proofs.Common.{◌≡◌, refl, sym, ap, ◌∙◌, Bool, true, false, cond, eqb, List, [], ◌∷◌, ◌++◌, ℕ, zero, suc, ◌+◌, ◌-◌, ◌<◌, ◌≤◌, length, get_or, take, arith, append_assoc}
 use Rattle.std.proofs.Math.ListN.{set, length-set, get_or-append}
@@ -116,6 +116,7 @@ module _ (tables : Tables) (places : (c : ℕ) → entry_in tables c ≡ (tables
   climbed_as l zero c = refl
   climbed_as l (suc n) c = ap (λ (xs : List ℕ). c ∷ xs) (climbed_as l n (term_parent_in tables l c) ∙ ap (climbed tables l n) (parent_as l c))
 
+-- by such tables, and a ledger that they hold, whose entries stand in front
 module _ {tables : Tables} {n : ℕ} {ledger l : List Entry} (old : List Entry) (places : (c : ℕ) → entry_in tables c ≡ (tables_in tables).entry c) (e : Enters tables n ledger) (front : l ≡ first_part term_limit no_entry ledger old) where
   pub term_climbed_steps : (d c : ℕ) → term_climbed tables l (suc d) c ≡ steps ledger d c
   term_climbed_steps d c = climbed_as tables places l (suc d) c ∙ climbed_steps old e front d c
